@@ -200,7 +200,8 @@ fn told(alloc: Global, row: &Row) -> Option<Result<(u32, Reply), Why>> {
     late(alloc, &mut site, row)
 }
 
-/// Returns the place of the first case whose result isn't the expected one.
+/// Returns the place, counted from 0, of the first case whose result isn't the expected one, or `None` if there is
+/// none.
 fn first_unlike(alloc: Global) -> Option<usize> {
     for (place, row) in ROWS.iter().enumerate() {
         if told(alloc, row) != Some(row.told) {

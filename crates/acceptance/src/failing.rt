@@ -92,7 +92,9 @@ fn seen_at<L: SiteLedger, R: Wait>(
     }
 }
 
-/// Runs a session with these devices at the desk of a new forecourt, and returns its outcome.
+/// Runs a session with these devices at the desk of a new forecourt, and returns its outcome. `blank` and `config` must
+/// be those of the ledger `L`, which must be new, and `blank` must have one part. Returns `None` if the forecourt can't
+/// be started.
 fn sat<L: SiteLedger, R: Wait>(
     rt: &R,
     alloc: Global,
@@ -112,7 +114,7 @@ fn sat<L: SiteLedger, R: Wait>(
     Some(seen_at(rt, alloc, &forecourt, pass, input, output))
 }
 
-/// Makes an input that gives the lines of the delivery. Its first `good` reads succeed; `None` means all.
+/// Makes an input that gives the lines of `DELIVERY`. Its first `good` reads succeed; `None` means all.
 fn delivery(alloc: Global, good: Option<u64>) -> Result<MemoryIn, Fail> {
     let bytes = Vec::from_slice(alloc, DELIVERY.as_bytes())?;
     Ok(MemoryIn::new(bytes, Vec::new(alloc), good))
@@ -178,7 +180,7 @@ fn lines_before(place: usize) -> usize {
 }
 
 /// Runs sessions whose first 0, 1, 2 and so on reads succeed. Returns the first of these numbers at which the outcome
-/// of the session is wrong. In the last session no read fails.
+/// of the session is wrong, or `None` if none is wrong. In the last session no read fails.
 fn unlike_after_reads<R: Wait>(rt: &R, alloc: Global) -> Result<Option<u64>, Fail> {
     for good in 0..DELIVERY.len().wrapping_add(2) {
         let lines = lines_before(good);
@@ -200,8 +202,8 @@ fn seen_after_writes<R: Wait>(rt: &R, alloc: Global, good: u64) -> Result<Seen, 
 }
 
 /// Runs sessions whose first 0, 1, 2 and so on writes succeed. Returns the first of these numbers at which the outcome
-/// of the session is wrong. If the write of an answer fails, the event that it answers must stay entered. A session
-/// makes more than 14 writes.
+/// of the session is wrong, or `None` if none is wrong. If the write of an answer fails, the event that it answers must
+/// stay entered. A session makes more than 14 writes. If 99 successful writes are too few, returns 100.
 fn unlike_after_writes<R: Wait>(rt: &R, alloc: Global) -> Result<Option<u64>, Fail> {
     for good in 0..100u64 {
         let seen = seen_after_writes(rt, alloc, good)?;
@@ -263,8 +265,9 @@ fn whole_read(reads: u64) -> Read {
     }
 }
 
-/// Reads the journal with 0, 1, 2 and so on successful reads, and returns the first of these numbers at which the
-/// result is wrong. The whole journal takes more than 10 reads.
+/// Reads the journal with 0, 1, 2 and so on successful reads. Returns the first of these numbers at which the result is
+/// wrong, or `None` if none is wrong. The whole journal takes more than 10 reads. If 99 successful reads are too few,
+/// returns 100.
 fn unlike_after_journal_reads(alloc: Global) -> Result<Option<u64>, Fail> {
     for good in 0..100u64 {
         let read = read_after(alloc, good)?;
@@ -314,8 +317,9 @@ const FRONT_OF_A_JOURNAL: Written = Written {
     is_all: false,
 };
 
-/// Writes the journal with 0, 1, 2 and so on successful writes, and returns the first of these numbers at which the
-/// result is wrong. The whole journal takes more than 14 writes.
+/// Writes the journal with 0, 1, 2 and so on successful writes. Returns the first of these numbers at which the result
+/// is wrong, or `None` if none is wrong. The whole journal takes more than 14 writes. If 199 successful writes are too
+/// few, returns 200.
 fn unlike_after_journal_writes(alloc: Global) -> Result<Option<u64>, Fail> {
     let mut input = cut_journal(alloc, 1000)?;
     let entries = read_entries(alloc, &mut input).ok().ok_or("entries")?;

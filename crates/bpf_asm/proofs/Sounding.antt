@@ -162,7 +162,7 @@ register_store_opcode Double = refl
 
 -- ---- tokens
 
--- the offsets that an operator takes
+-- whether the operator can be followed by a register or a number alone, with this offset in the instruction
 abbrev takes : Operator → ℕ → Bool
 takes operator.Add n = n == 0
 takes operator.Sub n = n == 0

@@ -16,7 +16,7 @@ front_line (Second v ∷ units) = None
 abbrev pub line_of_unit : List ProgramUnit → ℕ → Option (List ℕ)
 line_of_unit units number = front_line (drop number units)
 
--- the lines of a program, each with the number of its first unit before it; the units count from `number`
+-- the lines of a program, each with the number of its instruction's first unit before it; the units count from `number`
 abbrev pub numbered_from : ℕ → List ProgramUnit → List ℕ
 numbered_from number [] = []
 numbered_from number (First i ∷ units) =

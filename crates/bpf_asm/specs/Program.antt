@@ -252,7 +252,7 @@ defining line.Label name at more = definition name at ∷ more
 defining line.Empty name at more = more
 defining (line.Statement s) name at more = more
 
--- the labels that the rows define, in their order, each with the unit that it names
+-- the labels that the rows define, in their order, each with the unit that it names; the units count from `at`
 abbrev pub labels_from : ℕ → List Row → List Definition
 labels_from at [] = []
 labels_from at (r ∷ rows) = defining r.says r.label at (labels_from (at + line_len_of r.says) rows)
@@ -275,7 +275,7 @@ goes_to_label (Jump f p (Distance v)) = false
 goes_to_label (Plain f p) = false
 goes_to_label (Wide dst n) = false
 
--- whether a row defines a label that is among `before`, or jumps to one that no row defines
+-- whether a row defines a label that is among `before`, or jumps to a label that isn't in `all`
 abbrev pub is_wrong : List Definition → List Text → Line → Text → Bool
 is_wrong all before line.Empty name = false
 is_wrong all before line.Label name = is_among before name
@@ -286,7 +286,8 @@ with_name line.Label name names = names ++ name ∷ []
 with_name line.Empty name names = names
 with_name (line.Statement s) name names = names
 
--- the fault of the first line that defines a label again, or jumps to one that no line defines
+-- the fault of the first row that defines a label among `before` or of an earlier row, or jumps to a label that isn't
+-- in `all`; the rows count from `number`
 abbrev pub label_fault : List Definition → ℕ → List Text → List Row → Option AsmFault
 label_fault all number before [] = None
 label_fault all number before (r ∷ rows) =
@@ -361,6 +362,6 @@ abbrev pub AreRight : List Row → Type 0
 AreRight [] = ⊤
 AreRight (r ∷ rows) = (line_fits r.says ≡ true) × AreRight rows
 
--- each label names a unit of at most n
+-- each label names a unit from 0 to n
 abbrev pub AreWithin : ℕ → List Definition → Type 0
 AreWithin n labels = (name : Text) → place_of labels name ≤ n

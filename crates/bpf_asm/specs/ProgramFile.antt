@@ -14,12 +14,12 @@ abbrev pub bytes_or_fault : Result (List ℕ) FromHexError → Result (List ℕ)
 bytes_or_fault (Ok bytes) = Ok bytes
 bytes_or_fault (Err e) = Err BadDigits
 
--- the bytes that the hexadecimal digits of a program file spell, with blanks skipped; or the fault of the file
+-- the bytes that the hexadecimal digits of a program file spell, with blanks skipped; or why the file can't be read
 unfoldable pub program_in : List ℕ → Result (List ℕ) ProgramFileFault
 program_in text =
     if nat_le (length text) 65536 then bytes_or_fault (decode_of (filter (λ b. not (is_blank b)) text)) else Err TooLong
 
--- a function that returns this fault is right if the definition says `Err` with the same fault, or if memory ran out
+-- a function may return this fault: it is that memory ran out, or `said`, the defined result, is the same fault
 abbrev pub Fails : {B : Type 0} → ProgramFileFault → Result B ProgramFileFault → Type 0
 Fails OutOfMemory said = ⊤
 Fails fault said = said ≡ Err fault

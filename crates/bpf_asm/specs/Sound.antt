@@ -8,7 +8,7 @@ use Rattle.bpf_asm.specs.declared.grammar.Line.{Line}
 use Rattle.bpf_asm.specs.declared.grammar.Line.TheVariants as line
 use Rattle.bpf_asm.specs.Program.{Row, opcode_of, inst_of, int_of, jump_inst}
 
--- the form is that of an opcode, and not a wide load; d and s are numbers of registers, 0 to 10
+-- the opcode of the form f is read as f again, and f isn't a wide load; d and s are numbers of registers, 0 to 10
 pub record IsOf (f : Form) (d s : ℕ) : Type 0 where
   pub form_is : form_of (opcode_of f) ≡ Some f
   pub narrow : is_wide (Some f) ≡ false

@@ -101,7 +101,8 @@ fn write_byte<W: fmt::Write>(f: &mut fmt::Formatter<W>, byte: u8) -> fmt::Result
     }
 }
 
-/// Returns the line of this number, counted from 1, without its LF, or an empty one if the text has fewer lines.
+/// Returns the line of this number, counted from 1, without its LF, or an empty one if the text has fewer lines. The
+/// error is that memory ran out.
 fn line_of(alloc: Global, text: &[u8], number: u64) -> Result<&[u8], AllocError>
     ensures { IfOk result (λ line. line.now ≡ line_at text.now number) }
 {
@@ -124,9 +125,9 @@ fn has_return(line: &[u8]) -> bool
     line.ends_with(b"\r")
 }
 
-/// Returns the flaw of line `number`, which can't be parsed (A1): `ByteOrderMark` for line 1 of a text that begins with
-/// a byte order mark, else `CarriageReturn` if the line ends with a CR, else `NoForm`. The error is that memory ran
-/// out. A byte order mark takes no memory.
+/// Returns the flaw of line `number` for the fault that it can't be parsed (A1): `ByteOrderMark` for line 1 of a text
+/// that begins with a byte order mark, else `CarriageReturn` if the line ends with a CR, else `NoForm`. The error is
+/// that memory ran out. For a byte order mark no memory is taken.
 fn formless<'a>(alloc: Global, text: &'a [u8], number: u64) -> Result<AsmFlaw<'a>, AllocError>
     ensures flaw { IfOk result (Explains text.now (AsmFault.BadLine number)) }
     ensures mark { is_marked text.now number ≡ true → IsOk result }
@@ -142,9 +143,9 @@ fn formless<'a>(alloc: Global, text: &'a [u8], number: u64) -> Result<AsmFlaw<'a
     }
 }
 
-/// Returns the flaw of line `number`, which has a wrong label (A2): `LabelAgain` if the line defines a label,
-/// `LabelMissing` if it is an instruction, each with the label that `line::row_of` returns. A line that is empty or
-/// can't be parsed has no label, and its flaw is `NoForm`. The error is that memory ran out.
+/// Returns the flaw of line `number` for the fault that its label is wrong (A2): `LabelAgain` if the line defines a
+/// label, `LabelMissing` if it is an instruction, each with the label that `line::row_of` returns. A line that is empty
+/// or can't be parsed has no label, and its flaw is `NoForm`. The error is that memory ran out.
 fn label_of<'a>(alloc: Global, text: &'a [u8], number: u64) -> Result<AsmFlaw<'a>, AllocError>
     ensures { IfOk result (Explains text.now (AsmFault.BadLabel number)) }
 {
@@ -164,8 +165,8 @@ fn out_of_range<'a>(alloc: Global, text: &'a [u8], number: u64) -> Result<AsmFla
 }
 
 /// Returns the flaw for a fault that `assemble` returned for this text, with the line or the label that its message
-/// shows. The error is that memory ran out in this call, or that the fault is `OutOfMemory`. A wrong length and a byte
-/// order mark take no memory.
+/// shows. The error is that memory ran out in this call, or that the fault is `OutOfMemory`. For a wrong length and for
+/// a byte order mark no memory is taken.
 pub fn explain<'a>(
     alloc: Global,
     text: &'a [u8],

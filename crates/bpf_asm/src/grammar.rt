@@ -116,7 +116,7 @@ fn is_word(token: Token) -> bool
 
 // Parses the tokens after `dst OPERATOR=`, or after `dst =` for MOV: a register of the same width, or a number, which
 // can have a `-` before it, and nothing more. Returns the instruction; `None` if the tokens aren't this. `offset` is
-// its offset field, as in `Token::Assign`.
+// the instruction's offset field, as in `Token::Assign`.
 fn operand(
     operator: Operator,
     offset: u64,
@@ -560,8 +560,8 @@ pub fn statement_of(tokens: &[Token]) -> Option<Statement>
     }
 }
 
-/// Returns the parsed line that the tokens of a line mean; `None` if they are neither empty nor a label's definition
-/// nor an instruction.
+/// Returns what the tokens of a line mean: an empty line if there are none, the definition of a label, or an
+/// instruction; `None` if they can't be parsed as one of these.
 pub fn line_of(tokens: &[Token]) -> Option<Line>
     ensures { result ≡ spec.line_of tokens.now }
 {

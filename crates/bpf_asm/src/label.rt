@@ -35,7 +35,8 @@ pub fn units_in(rows: &[(Line, &[u8])]) -> u64
     units
 }
 
-// If a row defines a label, adds to `labels` this label and `at`, the unit that it names.
+// If a row defines a label, adds to `labels` this label and `at`, the unit that it names. `says` is the row's parsed
+// line, and `name` is its label.
 fn define<'a>(
     labels: &mut Vec<(&'a [u8], u64)>,
     says: Line,
@@ -105,7 +106,8 @@ fn goes_to_label(statement: Statement) -> bool
     matches!(statement, Statement::Jump(_, _, Target::Label))
 }
 
-// Returns whether a row defines a label that is in `seen`, or jumps to a label that isn't in `labels`.
+// Returns whether a row defines a label that is in `seen`, or jumps to a label that isn't in `labels`. `says` is the
+// row's parsed line, and `name` is its label.
 fn is_wrong(labels: &[(&[u8], u64)], seen: &[&[u8]], says: Line, name: &[u8]) -> bool
     ensures { result ≡ spec.is_wrong (map (λ d. spec.definition d.0.now d.1) labels.now)
         (map (λ t. t.now) seen.now) says name.now }
@@ -129,8 +131,9 @@ fn note<'a>(seen: &mut Vec<&'a [u8]>, says: Line, name: &'a [u8]) -> Result<(), 
     }
 }
 
-/// Returns the fault of the first row that defines a label again, or jumps to a label that no row defines; `None` if
-/// there is no such row.
+/// Returns the fault of the first row that defines a label that an earlier row defines too, or that jumps to a label
+/// that isn't in `labels`; `None` if there is no such row. Callers pass as `labels` what `labels_of` returns for these
+/// rows. The fault has the number of the row, counted from 1. The error is that memory ran out.
 pub fn label_fault(
     alloc: Global,
     labels: &[(&[u8], u64)],

@@ -136,7 +136,8 @@ fn lookup(mut table: &[(&[u8], Token)], text: &[u8], other: Token) -> Token
     other
 }
 
-// Returns the register of this width whose number, 0 to 10, follows the first byte of `text`; `Name` if none does.
+// Returns the register of this width whose number, 0 to 10 without leading zeros, is all that follows the first byte of
+// `text`; `Name` if anything else follows it, or nothing.
 fn numbered(width: Width, text: &[u8]) -> Token
     ensures { result ≡ spec.numbered width text.now }
 {

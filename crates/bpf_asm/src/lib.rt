@@ -17,15 +17,15 @@ use grammar::Line;
 use std::alloc::{AllocError, Global};
 use std::fmt::Write;
 
-/// Why a text can't be assembled. The number is that of the wrong line, counted from 1. `flaw::explain` returns the
-/// `AsmFlaw` that writes the message about a fault.
+/// Why a text can't be assembled. The number in a variant is that of the line with the fault, counted from 1.
+/// `flaw::explain` returns the `AsmFlaw` that writes the message about a fault.
 #[derive(Clone, Copy)]
 pub enum AsmFault {
     /// A1: the line can't be parsed.
     BadLine(u64),
-    /// A2: the line defines a label again, or jumps to one that no line defines.
+    /// A2: the line defines a label that an earlier line defines too, or jumps to a label that no line defines.
     BadLabel(u64),
-    /// A3: a number of the line is out of range.
+    /// A3: a number in the line is out of range.
     OutOfRange(u64),
     /// A4: the program doesn't have 1 to 512 units.
     Length,
@@ -45,7 +45,8 @@ mod units;
 pub use flaw::AsmFlaw;
 pub use program_file::{MOST_BYTES, ProgramFileFault};
 
-/// Returns the upper 32 bits of a wide load's number, given the units after its first unit; 0 for other instructions.
+/// Returns the number in the first of `units` if that is the second unit of a wide load: the upper 32 bits of the
+/// load's number. Otherwise returns 0. `units` are the units of a program after the first unit of an instruction.
 fn high(units: &[Unit]) -> i32
     ensures { result ≡ high_of units.now }
 {
@@ -72,7 +73,7 @@ pub fn disassemble(alloc: Global, code: &Code) -> Result<String, AllocError>
 }
 
 /// Returns the line of the instruction that begins at unit `unit`, as `disassemble` writes it, with its LF. Units count
-/// from 0. Returns `None`, and takes no memory, if no instruction begins there.
+/// from 0. Returns `None`, and takes no memory, if no instruction begins there. The error is that memory ran out.
 pub fn instruction_line(alloc: Global, code: &Code, unit: u32) -> Result<Option<String>, AllocError>
     ensures line { IfOk result (λ found. option_map string_bytes found ≡ line_of_unit code.now unit) }
     ensures none { line_of_unit code.now unit ≡ None → IsOk result }
@@ -84,7 +85,7 @@ pub fn instruction_line(alloc: Global, code: &Code, unit: u32) -> Result<Option<
 }
 
 /// Returns the line, with its LF, of the instruction that begins at the first of these units; `None` if no instruction
-/// begins there, or if there are no units.
+/// begins there, or if there are no units. The error is that memory ran out. For `None` no memory is taken.
 fn front_line(alloc: Global, units: &[Unit]) -> Result<Option<String>, AllocError>
     ensures line { IfOk result (λ found. option_map string_bytes found ≡ front_of units.now) }
     ensures none { front_of units.now ≡ None → IsOk result }
@@ -101,7 +102,7 @@ fn front_line(alloc: Global, units: &[Unit]) -> Result<Option<String>, AllocErro
 }
 
 /// Returns the text of a program, like `disassemble`, but each line begins with the number of the instruction's first
-/// unit, counted from 0, and `: `.
+/// unit, counted from 0, and `: `. The error is that memory ran out.
 pub fn disassemble_numbered(alloc: Global, code: &Code) -> Result<String, AllocError>
     ensures { IfOk result (λ text. string_bytes text ≡ numbered_from 0 code.now) }
 {
@@ -118,8 +119,8 @@ pub fn disassemble_numbered(alloc: Global, code: &Code) -> Result<String, AllocE
     Ok(out)
 }
 
-/// Appends `number`, which is that of a unit, `: `, and the line of the instruction `inst` that begins there, with its
-/// LF. `high` is the upper 32 bits of a wide load's number, and isn't used for other instructions.
+/// Appends `number`, `: `, and the line of the instruction `inst` with its LF. `number` is that of the instruction's
+/// first unit. `high` is the upper 32 bits of a wide load's number, and isn't used for other instructions.
 fn write_numbered(out: &mut String, number: u64, inst: Inst, high: i32) -> Result<(), AllocError>
     ensures { OnOk result (string_bytes out.new ≡ string_bytes out.old ++ decimal number ++ codes ": "
         ++ instruction_text (form_of inst.opcode) inst high) }

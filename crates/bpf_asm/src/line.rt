@@ -70,7 +70,7 @@ fn row_with<'a>(tokens: &[Token], words: &[&'a [u8]]) -> Option<(Line, &'a [u8])
 }
 
 // Parses a line, given the texts of its tokens, and returns the parsed line with its label; `None` if it can't be
-// parsed.
+// parsed. The error is that memory ran out.
 fn row_by<'a>(alloc: Global, words: &[&'a [u8]]) -> Result<Option<(Line, &'a [u8])>, AllocError>
     ensures { IfOk result (λ found. option_map (λ p. spec.row p.0 p.1.now) found
         ≡ spec.row_by (Some (map (λ t. t.now) words.now))) }
@@ -148,7 +148,8 @@ fn line_len(text: &[u8]) -> usize
     at
 }
 
-// Returns the text after its first `n` bytes and the LF that follows them, or an empty text if nothing follows them.
+// Leaves out the first `n` bytes of a text and the byte after them, which is the LF of a line, and returns the rest.
+// The rest is empty if the text has only `n` bytes. The text must have at least `n` bytes.
 fn past(text: &[u8], n: usize) -> &[u8]
     requires { n ≤ length text.now }
     ensures value { result.now ≡ drop (n + 1) text.now }

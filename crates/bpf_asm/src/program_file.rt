@@ -1,4 +1,4 @@
-//! Program files: the bytes of a program as hexadecimal digits, with blanks between them.
+//! Program files. A program file has the bytes of a program as hexadecimal digits. Blanks in it are skipped.
 ghost use Rattle.std.specs.Prelude.{◌≡◌, ◌*◌, ◌+◌, ◌%◌, ◌≤◌, ◌<◌, length, filter, not, IfOk, OnOk, Err, ◌++◌, string_bytes};
 ghost use Rattle.bpf_asm.specs.ProgramFile.{Gives, bytes_or_fault, program_in, is_blank, line_at, unit_lines};
 ghost use Rattle.hex.specs.Hex.{decode_of};
@@ -13,7 +13,7 @@ pub const MOST_BYTES: usize = 65_536;
 /// Why a program file can't be read.
 #[derive(Clone, Copy)]
 pub enum ProgramFileFault {
-    /// L1: the file is too long.
+    /// L1: the file has more than `MOST_BYTES` bytes.
     TooLong,
     /// H1: a byte is neither a hexadecimal digit nor a blank, or the number of digits is odd.
     BadDigits,
@@ -54,7 +54,7 @@ fn is_a_blank(byte: u8) -> bool
     byte == b' ' || byte == b'\t' || byte == b'\r' || byte == b'\n'
 }
 
-/// Returns the bytes of a text that aren't blanks.
+/// Returns a text without its blanks. The error is that memory ran out.
 fn without_blanks(alloc: Global, text: &[u8]) -> Result<Vec<u8>, AllocError>
     ensures { IfOk result (λ kept. kept.items ≡ filter (λ b. not (is_blank b)) text.now) }
 {
@@ -65,7 +65,7 @@ fn without_blanks(alloc: Global, text: &[u8]) -> Result<Vec<u8>, AllocError>
 }
 
 /// Returns the bytes that hexadecimal digits spell. The error is that a byte isn't a hexadecimal digit, that the number
-/// of digits is odd, or that memory ran out. An odd number of digits takes no memory.
+/// of digits is odd, or that memory ran out. For an odd number of digits no memory is taken.
 fn bytes_of(alloc: Global, digits: &[u8]) -> Result<Vec<u8>, ProgramFileFault>
     ensures given { Gives (λ bytes. bytes.items) result (bytes_or_fault (decode_of digits.now)) }
     ensures odd { length digits.now % 2 ≡ 1 → result ≡ Err ProgramFileFault.BadDigits }
@@ -79,9 +79,9 @@ fn bytes_of(alloc: Global, digits: &[u8]) -> Result<Vec<u8>, ProgramFileFault>
     }
 }
 
-/// Reads a program file, and returns the program's bytes. The file has at most 65,536 bytes: an even number of
-/// hexadecimal digits in either case, and spaces, tabs, CR and LF, which are skipped. The error is `TooLong`, else
-/// `BadDigits`, or that memory ran out.
+/// Reads a program file, whose bytes are `text`, and returns the program's bytes. Spaces, tabs, CR and LF are skipped.
+/// The error is `TooLong` if the file has more than 65,536 bytes. Otherwise it is `BadDigits` if another byte isn't a
+/// hexadecimal digit, in either case, or if the number of digits is odd; or it is that memory ran out.
 #[tactic(auto, unfolding(crate::specs::ProgramFile::program_in))]
 pub fn read_program(alloc: Global, text: &[u8]) -> Result<Vec<u8>, ProgramFileFault>
     ensures given { Gives (λ bytes. bytes.items) result (program_in text.now) }
@@ -95,7 +95,7 @@ pub fn read_program(alloc: Global, text: &[u8]) -> Result<Vec<u8>, ProgramFileFa
 }
 
 /// Appends the line of unit `unit`, counted from 0, of the program in `bytes`: 16 lower case hexadecimal digits and an
-/// LF.
+/// LF. All 8 bytes of this unit must be in `bytes`. The error is that memory ran out.
 fn push_line(alloc: Global, text: &mut String, bytes: &[u8], unit: usize) -> Result<(), AllocError>
     requires { 8 * unit + 8 ≤ length bytes.now }
     ensures { OnOk result (string_bytes text.new ≡ string_bytes text.old ++ line_at bytes.now unit) }
@@ -106,6 +106,7 @@ fn push_line(alloc: Global, text: &mut String, bytes: &[u8], unit: usize) -> Res
 }
 
 /// Returns the units of a program as lines: for each whole unit of 8 bytes, 16 lower case hexadecimal digits and an LF.
+/// The error is that memory ran out.
 pub fn unit_lines(alloc: Global, bytes: &[u8]) -> Result<String, AllocError>
     ensures { IfOk result (λ text. string_bytes text ≡ unit_lines bytes.now) }
 {

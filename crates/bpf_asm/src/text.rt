@@ -45,7 +45,7 @@ fn write_register(
     }
 }
 
-// Appends a space, a number, and the end of the line.
+// Appends a space, a number in decimal digits with `-` before a negative one, and the end of the line, an LF.
 fn end_with_number(out: &mut String, n: i32) -> Result<(), AllocError>
     ensures { OnOk result (string_bytes out.new ≡ string_bytes out.old ++ line_text (number n [])) }
 {
@@ -53,7 +53,7 @@ fn end_with_number(out: &mut String, n: i32) -> Result<(), AllocError>
     out.push_str("\n")
 }
 
-// Appends a space, the name of a register, and the end of the line.
+// Appends a space, the name of a register, and the end of the line, an LF.
 fn end_with_register(out: &mut String, width: Width, register: u8) -> Result<(), AllocError>
     ensures { OnOk result (string_bytes out.new ≡ string_bytes out.old
         ++ line_text (After (register_text width register) ∷ [])) }

@@ -171,7 +171,8 @@ fn place_or_zero(labels: &[(&[u8], u64)], name: &[u8]) -> u64
     }
 }
 
-// Returns the distance of a jump at unit `at` to unit `place`, in units from the unit after the jump.
+// Returns the distance of a jump at unit `at` to unit `place`, in units from the unit after the jump. `at` and `place`
+// must be at most 512.
 fn apart(place: u64, at: u64) -> i16
     requires place { place ≤ UNITS }
     requires at { at ≤ UNITS }
@@ -183,7 +184,7 @@ fn apart(place: u64, at: u64) -> i16
 }
 
 // Returns the distance of a jump at unit `at` to a label, in units from the unit after the jump. A label that isn't in
-// `labels` counts as one that names unit 0.
+// `labels` counts as one that names unit 0. `at` and the units in `labels` must be at most 512.
 fn distance_to(labels: &[(&[u8], u64)], at: u64, name: &[u8]) -> i16
     requires at { at ≤ UNITS }
     requires places { spec.AreWithin UNITS (map (λ d. spec.definition d.0.now d.1) labels.now) }
@@ -260,7 +261,8 @@ fn push_wide(units: &mut Vec<Unit>, dst: u8, n: u64) -> Result<(), AllocError>
 }
 
 // Appends the units of a parsed line. The first of them is unit `at` of the program. `name` is the line's label, which
-// is used only for a jump to a label.
+// is used only for a jump to a label. The line's numbers must be in range, as `line_fits` says, and `at` and the units
+// in `labels` must be at most 512.
 fn push_units(
     units: &mut Vec<Unit>,
     labels: &[(&[u8], u64)],

@@ -161,7 +161,7 @@ is_set id rows = option_map_or (λ (t : Text). bytes_eq t (codes "true")) (first
 abbrev pub dis_in : List Row → Option Asked
 dis_in rows = file_in (codes "file") (if is_set (codes "units") rows then dis_units else dis) rows
 
--- the number that --counters gives
+-- the number that --counters gives; it means nothing unless the option's value is the text of a number
 abbrev pub mask_in : List Row → Option ℕ
 mask_in rows = option_map (λ (t : Text). digits_value 10 (without_leading_plus t)) (one_of (codes "counters") rows)
 
@@ -258,14 +258,14 @@ asked_of (Some p) = asked_by p.0 p.1
 abbrev pub named : Option (String Global) → Option Text
 named file = option_map string_bytes file
 
--- What a job of serving is a request for.
+-- The request that a job of serving carries out.
 abbrev pub asked_served : ServeJob → Asked
 asked_served (served.Printed opening config) = serve (named opening) (string_bytes config)
 asked_served (served.Kept opening config journal) = serve_kept (named opening) (string_bytes config) (string_bytes journal)
 asked_served (served.Synced opening config journal) = serve_synced (named opening) (string_bytes config) (string_bytes journal)
 asked_served (served.Days folder config is_synced is_new_day) = serve_days is_synced is_new_day (string_bytes folder) (string_bytes config)
 
--- What a job is a request for. The help or the version is a text to show, and counts as no request.
+-- The request that a job carries out. It is None for the help and the version, which are texts to show.
 abbrev pub asked : Job → Option Asked
 asked job.NoWords = Some nothing
 asked (job.Asm file) = Some (asm (string_bytes file))
@@ -283,7 +283,7 @@ asked (job.Show text) = None
 
 -- ---- refusals
 
--- an error of `clap` that prints the help or the version
+-- the text of a `clap` error of this kind is the help or the version
 abbrev pub IsShown : ErrorKind → Type 0
 IsShown k = (k ≡ kind.DisplayHelp) ⊎ (k ≡ kind.DisplayVersion)
 

@@ -15,13 +15,15 @@ abbrev pub ReadsMask : List Row → Option ℕ → Type 0
 ReadsMask rows (Some n) = mask_in rows ≡ Some n
 ReadsMask rows None = (mask_in rows ≡ None) ⊎ HasNoMask rows
 
--- the result is the two files that were found; whatever job they are for, the rows ask for it with these files
+-- The result is the two files that the arguments named `first` and `second` give, or None if one of them isn't given.
+-- For each `ask`, which makes a request of two files, `files_in` returns the request of the result's files, or None if
+-- the result is None.
 abbrev pub FindsFiles : Text → Text → List Row → Option (String Global × String Global) → Type 0
 FindsFiles first second rows (Some p) =
     (ask : Text → Text → Asked) → files_in first second ask rows ≡ Some (ask (string_bytes p.0) (string_bytes p.1))
 FindsFiles first second rows None = (ask : Text → Text → Asked) → files_in first second ask rows ≡ None
 
--- the result is the job that is asked for; None only if none is
+-- the result is the job that is asked for; None only if no job is asked for
 abbrev pub Asks : Option Asked → Option Job → Type 0
 Asks wanted (Some job) = (wanted ≡ asked job) × IsSome (asked job)
 Asks wanted None = wanted ≡ None

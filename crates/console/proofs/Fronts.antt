@@ -66,7 +66,7 @@ stopped_from (Err e) a b m left i j o p same h =
     let P : SiteValue → Type 0 = λ s. Stops Plays drops_none TakesMemory e (0, s) (m, left) i j o p in
     λ other. record { moment = m; left = left; stops = subst P same (h other) }
 
--- no line is dropped since the journal failed, so no play fails with that
+-- no play ends with the fault `Journal`, since no line of a play is dropped because of a failed journal
 pub no_journal : {T : Type 0} (r : Result T SessionFault) (a : SiteValue) (m : ℕ) (left : SiteValue) (i j o p : Option (List ℕ))
     → IfErr r (λ e. ¬ (e ≡ session.Write) → Stops Plays drops_none TakesMemory e (0, a) (m, left) i j o p) → ¬ (r ≡ Err session.Journal)
 no_journal (Ok x) a m left i j o p h is = absurd (cc)

@@ -107,8 +107,8 @@ IsOwn (Ok lines.Journal) = ⊤
 IsOwn (Ok (lines.Act act)) = ⊥
 IsOwn (Err fault) = ⊥
 
--- The lines that need memory before anything changes: a load for its bytes, and `moment`, `counter` and `journal` for
--- their answers.
+-- The line needs memory before anything changes: it is a load, which needs memory for its bytes, or `moment`, `counter`
+-- or `journal`, which need memory for their answers.
 abbrev pub TakesMemory : List ℕ → Type 0
 TakesMemory line = IsLoad All (words line) ⊎ IsOwn (line_of line)
 
@@ -118,8 +118,8 @@ pub record PlaysOut (site : SiteValue) (in_old in_new out_old out_new : Option (
   pub left : SiteValue
   pub ends : Ends Plays (0, site) (moment, left) in_old in_new out_old out_new count cut
 
--- The play failed. Of the answers to the lines so far a beginning was written. Whatever changed was changed by a line
--- that has an answer.
+-- The play failed. A beginning of the answers to the lines so far was written. Each change of the site was made by a
+-- line that has an answer.
 pub record PlayBreaks (site : SiteValue) (in_old in_new out_old out_new : Option (List ℕ)) : Type 0 where
   pub moment : ℕ
   pub left : SiteValue

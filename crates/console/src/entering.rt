@@ -69,8 +69,8 @@ fn refuse_load(refusal: Refusal) -> Entered
     }
 }
 
-/// Verifies the bytes of a load, and enters the load if they are accepted. Otherwise the site is unchanged, and the
-/// result is that of `refuse_load`.
+/// Verifies the bytes of a load, and enters the load if they are accepted. If they are refused, returns what
+/// `refuse_load` returns. The site is unchanged if they are refused, if the journal is full, or if memory ran out.
 fn enter_load(
     alloc: Global,
     site: &mut Site,

@@ -14,7 +14,8 @@ pub trait PlayNotices {
     /// Reports that the play begins to answer the next line of the script.
     fn line_begins(&self);
 
-    /// Reports that the verifier refuses the program of this load.
+    /// Reports that the verifier refuses the program of a load. `load` must be a load, and `refusal` must be the
+    /// verifier's refusal of its program.
     fn refused_load(&self, load: &Act, refusal: Refusal)
         requires { IsRefusedAct load.now refusal }
         ensures { reported self.now load.now refusal };

@@ -13,8 +13,8 @@ use site_core::{Config, Site};
 use std::alloc::Global;
 use till_request::{LineIn, LineOut};
 
-/// Answers a script line by line, like `play`, but with at most `left` reads of one byte each. Sets `left` to the
-/// number of reads that remain. Reports each line and each refused load to `notices`.
+/// Answers a script line by line, like `play`, but with at most `left` reads of one byte each. `left` must be at most
+/// `READS`, and is set to the number of reads that remain. Reports each line and each refused load to `notices`.
 pub fn play_within<I: LineIn, O: LineOut, N: PlayNotices>(
     alloc: Global,
     config: Config,

@@ -5,7 +5,7 @@ use Rattle.std.specs.Io.KnownBytes.{Appends, Keeps, append_known}
 use Rattle.std.proofs.KnownBytes.{Appends-kept, Appends-trans}
 use Rattle.std.proofs.lemmas.List.{append-nil}
 
--- Bytes that are appended to a writer that buffers nothing are appended to what it has written.
+-- If a writer buffers nothing at first, then bytes that are appended to the writer are appended to what it has written.
 pub from-empty : (a b : Option (List ℕ)) (held bs : List ℕ) → held ≡ [] → Appends (append_known a held) b bs → Appends a b bs
 from-empty None b held bs e p = tt
 from-empty (Some xs) None held bs e p = p

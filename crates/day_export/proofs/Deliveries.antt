@@ -65,7 +65,7 @@ both-true : (a b : Bool) → (a && b) ≡ true → (a ≡ true) × (b ≡ true)
 both-true true b h = (refl, h)
 both-true false b h = absurd (let e : ◌≡◌ {A = Bool} false true = h in cc)
 
--- A delivery that became one transaction didn't become a second one.
+-- A delivery that became one transaction didn't become another one.
 not-both : (u : Delivery) (m y n x : ℕ) → ((m == n) && (y == x)) ≡ false → became m y u ≡ true → became n x u ≡ false
 not-both u m y n x other is =
     let two = both-true (u.point == m) (u.transaction == y) is in
@@ -87,12 +87,13 @@ there-without (u ∷ us) m y n x other h =
 abbrev IsOfDay : List PointState → ℕ → ℕ → Type 0
 IsOfDay first n x = is_some (unpaid_at first n x) ≡ false
 
--- for each unpaid transaction of a point that wasn't unpaid when the day began, the delivery that became it is in the list
+-- the list has, for each transaction that is unpaid now and wasn't unpaid when the day began, the delivery that became
+-- it
 abbrev Kept : List PointState → List PointState → List Delivery → Type 0
 Kept first points unpaid =
     (n x : ℕ) (p : PointState) → at_number points n ≡ Some p → IsSome (find_number x p.unpaid) → IsOfDay first n x → IsThere unpaid n x
 
--- the transaction that an entry clears is no longer among the unpaid ones of its point
+-- if an entry makes a sale, then after the entry the sale's transaction is no longer among its point's unpaid ones
 abbrev Takes : Stand → Entry → Type 0
 Takes s e =
     (sale : Sale) (q : PointState) → sale_of s.points e ≡ Some sale → at_number (with_act s.points e.act e.reply) sale.point ≡ Some q
@@ -117,8 +118,8 @@ ended-there points prices e p q x at later grew is =
     subst (λ a. IsThere (option_to_list (ended_between prices e.number m a (at_number (with_act points e.act e.reply) m))) m x) (sym at)
     (subst (λ b. IsThere (option_to_list (ended_between prices e.number m (Some p) b)) m x) (sym later) (ended-core prices e.number m x p q grew is))
 
--- If the point that an entry changed has an unpaid transaction, then the delivery that became it was in the list
--- before, or the entry ended it.
+-- Take a transaction that is unpaid after an entry, at the point that the entry names, and wasn't unpaid when the day
+-- began. The delivery that became it was in the list before the entry, or the entry ended it.
 grown-there : (first : List PointState) (s : Stand) (e : Entry) (x : ℕ) (p q : PointState) (o : Option Transaction) → Kept first s.points s.unpaid
     → IsOfDay first (point_named e.act) x
     → at_number s.points (point_named e.act) ≡ Some p → at_number (with_act s.points e.act e.reply) (point_named e.act) ≡ Some q → Grows p q
@@ -155,7 +156,7 @@ old-or-new first s e n x q kept new (inr b) at found =
           inl (kept n x q before found new)
     ]
 
--- If a transaction is still unpaid after an entry, then the delivery that became it is still in the list.
+-- If a transaction is unpaid after an entry, then the entry leaves in the list the delivery that became it.
 survives : (s : Stand) (e : Entry) (n x : ℕ) (q : PointState) (o : Option Sale) → Takes s e → sale_of s.points e ≡ o
     → at_number (with_act s.points e.act e.reply) n ≡ Some q → IsSome (find_number x q.unpaid) → IsThere s.unpaid n x
     → IsThere (uncleared s.unpaid o e.act) n x

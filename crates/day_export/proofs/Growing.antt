@@ -66,7 +66,8 @@ gone y (t ∷ ts) = gone-first (t.number == y) t y (without y ts) refl (gone y t
 
 -- ---- the transactions that a point adds
 
--- the point gave out no transaction number, and each unpaid transaction of q was one of p before
+-- as the point changed from p to q it gave out no transaction number, and each unpaid transaction of q has the number
+-- of an unpaid one of p
 abbrev pub Stays : PointState → PointState → Type 0
 Stays p q = (q.last ≡ p.last) × ((x : ℕ) → find_number x p.unpaid ≡ None → find_number x q.unpaid ≡ None)
 

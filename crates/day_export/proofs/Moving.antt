@@ -1,5 +1,5 @@
 -- If points, prices and deliveries are each changed as an entry changes them, then together they are the state after
--- it.
+-- the entry.
 use Rattle.std.proofs.Common.{◌≡◌, ℕ, List, ◌++◌, length, take, drop, arith, Option, ap, ◌∙◌}
 use Rattle.std.proofs.lemmas.Grind.{common_steps}
 use Rattle.std.specs.Prelude.{option_to_list}

@@ -49,7 +49,7 @@ commanded-same : (s : SiteState) (till n : ℕ) (c : Command) (o : Option PointS
 commanded-same s till n c None at = subst (Same s) (sym (commanded-none s till n c at)) refl
 commanded-same s till n c (Some p) at = subst (Same s) (sym (commanded-some s till n c p at)) (command-same s n (command_step p till c))
 
--- a request leads to a question about a point that exists, or to a refusal
+-- the result for a request is a question about a point that exists, or a reply at once
 abbrev AsksThere : SiteState → Result Question Reply → Type 0
 AsksThere s (Ok q) = (p : PointState) × (at_number s.points q.point ≡ Some p)
 AsksThere s (Err r) = Unit {0}
@@ -128,7 +128,7 @@ with-is prices product price one =
     with-by prices product price (nat_le product (length prices)) refl one
     ∙ sym (ap (λ b. if b && nat_le product (length prices) then slice_set prices (product - 1) price else prices) least)
 
--- a request leads to a question about the price of this product, or to a refusal
+-- the result for a request is a question about the price of this product, or a refusal
 abbrev AsksPrice : ℕ → Result Question Reply → Type 0
 AsksPrice product (Ok q) = (q.point ≡ 0) × (q.product ≡ product) × (1 ≤ product)
 AsksPrice product (Err r) = (m : ℕ) × (v : Option ℕ) × (r ≡ reply.Refused m v)

@@ -129,12 +129,14 @@ abbrev pub run_cells : Option Run → RunCells
 run_cells None = record { slot = cell.Nothing; version = cell.Nothing; r0 = cell.Nothing }
 run_cells (Some run) = record { slot = cell.Number run.slot; version = cell.Number run.version; r0 = cell.Number run.r0 }
 
--- The number in `size` bytes at an offset, the least significant byte first. The cell is empty if the bytes end before.
+-- The cell of the number in `size` bytes at an offset, the least significant byte first. It is empty if there are too
+-- few bytes.
 abbrev pub number_at : List ℕ → ℕ → ℕ → Cell
 number_at bytes offset size =
     if nat_le (offset + size) (length bytes) then cell.Number (little_number size (drop offset bytes)) else cell.Nothing
 
--- the field of `size` bytes at an offset of a run's context; the cell is empty if no rule ran
+-- The cell of the field of `size` bytes at an offset of a run's context. It is empty if no rule ran, or if the context
+-- ends before the field does.
 abbrev pub field_cell : Option Run → ℕ → ℕ → Cell
 field_cell None offset size = cell.Nothing
 field_cell (Some run) offset size = number_at (bytes_of run.context) offset size

@@ -39,9 +39,9 @@ sale_told sale =
     cell.Number sale.number ∷ cell.Number sale.point ∷ cell.Number sale.volume ∷ cell.Number sale.amount ∷ cell.Number sale.till
     ∷ moment_cell sale.moment ∷ []
 
--- What is true of the rows of a day. The rows of sales are the report's sales, each once and in order. There is a row
--- for each decision and for each entry. Each row has a cell for each column. A reader of CSV reads from the CSV the
--- names of the columns, and then the texts of the rows.
+-- What is true of the rows of a day. The rows of sales are the sales that `day_report` finds, each once and in order.
+-- There is a row for each decision and for each entry. Each row has a cell for each column. A reader of CSV reads from
+-- the CSV the names of the columns, and then the texts of the rows.
 pub record RowsTellTheDay (config : ConfigValue) (history : List Entry) : Type 0 where
   pub sales : map sale_in (rows_of rows.Sales config history) ≡ map sale_told (sales_of config history)
   pub decisions : rows_of rows.Decisions config history ≡ filter_map decision_row history
@@ -72,7 +72,8 @@ HasDelivery row = IsNumber (cell_at row 0) × IsNumber (cell_at row 4) × IsNumb
 abbrev pub HasNoDelivery : List Cell → Type 0
 HasNoDelivery row = (cell_at row 0 ≡ cell.Nothing) × (cell_at row 4 ≡ cell.Nothing) × (cell_at row 5 ≡ cell.Nothing)
 
--- Whether point n had an unpaid transaction of this number among these points, n and the number being those of the cells.
+-- Whether one of these points has a certain unpaid transaction. The first cell has the number of the point, and the
+-- second cell that of the transaction. False if a cell has no number, or if there is no such point.
 abbrev pub was_unpaid : List PointState → Cell → Cell → Bool
 was_unpaid points (cell.Number n) (cell.Number transaction) = is_some (unpaid_at points n transaction)
 was_unpaid points _ _ = false

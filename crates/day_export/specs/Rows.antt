@@ -18,7 +18,7 @@ use Rattle.day_export.specs.Standing.{Stand, ended_as, number_cleared, stand_aft
 
 -- ---- sales
 
--- the cell of a number that a delivery has; it is empty if the delivery isn't known
+-- the cell of the number that `field` takes from a delivery; it is empty if the delivery isn't known
 abbrev pub ended_cell : Option Delivery → (Delivery → ℕ) → Cell
 ended_cell None field = cell.Nothing
 ended_cell (Some e) field = cell.Number (field e)

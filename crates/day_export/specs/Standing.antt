@@ -19,8 +19,8 @@ use Rattle.day_report.specs.declared.sales.Sale.{Sale}
 use Rattle.day_export.specs.declared.standing.Delivery.{Delivery}
 use Rattle.day_export.specs.declared.standing.Standing.{Standing}
 
--- The state of a day: the points, and the prices of the products in thousandths. `unpaid` are the deliveries of the day
--- that ended and weren't cleared yet, oldest first.
+-- The state of a day: the points, and the prices of the products in thousandths of the currency per litre. `unpaid` are
+-- the deliveries of the day that ended and weren't cleared yet, oldest first.
 pub record Stand : Type 0 where
   pub points : List PointState
   pub prices : List ℕ
@@ -61,8 +61,8 @@ point_named (act.Dispenser n event) = n
 point_named (act.Load slot mask layout bytes) = 0
 
 -- The delivery at point n that ended with the entry of this number; None if none ended. A delivery ended if the point
--- gave out one more transaction number. Its product is the nozzle that was lifted before the entry, at the price before
--- it.
+-- gave out one more transaction number. The delivery's product has the number of the nozzle that was lifted before the
+-- entry, and its price is the price of this product before the entry.
 abbrev pub ended_at : List ℕ → ℕ → ℕ → PointState → PointState → Option Delivery
 ended_at prices number n before after =
     if after.last == before.last + 1 then Some (record {
@@ -127,7 +127,8 @@ stand_at config history = fold stand_after (stand_before config) history
 abbrev pub stand_of : Standing → Stand
 stand_of s = record { points = s.points.items; prices = s.prices.items; unpaid = s.unpaid.items }
 
--- The state was changed as the entry changes it, and each point gave out at most one more transaction number.
+-- If `old` is the state before the entry, then `new` is the state after it. Each point gave out at most one more
+-- transaction number.
 pub record Moves (old : Standing) (entry : Entry) (new : Standing) : Type 0 where
   pub is : stand_of new ≡ stand_after (stand_of old) entry
   pub bounded : (k : ℕ) → AreWithin k old.points.items → AreWithin (k + 1) new.points.items

@@ -24,7 +24,8 @@ pub(crate) struct CsvRows<W: Write + Drop> {
     row: ByteRecord,
 }
 
-/// Adds a cell to a record as its last field, which is empty for `Nothing`. The error is that memory ran out.
+/// Adds a cell to a record as its last field, which is empty for `Nothing`. The record must not have a field that was
+/// begun and not ended. The error is that memory ran out.
 #[tactic(auto, unfolding(crate::specs::Cells::cell_text))]
 fn push_cell(row: &mut ByteRecord, cell: Cell) -> Result<(), AllocError>
     requires { partial_of row.old ≡ [] }
@@ -63,7 +64,8 @@ fn fill_header(row: &mut ByteRecord, rows: Rows) -> Result<(), AllocError>
     Ok(())
 }
 
-/// Writes a record to `writer`. The error is that of the underlying writer, or that memory ran out.
+/// Writes the record `row` to `writer`. The writer must have the settings that `CsvRows::start` gives it, and be
+/// between two records. The error is that of the underlying writer, or that memory ran out.
 fn write_record<W: Write + Drop>(writer: &mut Writer<W>, row: &ByteRecord) -> Result<(), RowsFault>
     requires { IsBetween writer.old }
     ensures text { OnOk result (Appends (text_written W.contents writer.old) (text_written W.contents writer.new)
@@ -74,8 +76,8 @@ fn write_record<W: Write + Drop>(writer: &mut Writer<W>, row: &ByteRecord) -> Re
 }
 
 impl<W: Write + Drop> CsvRows<W> {
-    /// Makes a writer on top of `out`, and writes the names of the columns to it as the first record. Bytes can stay in
-    /// its buffer until `finish`. The error is that of `out`, or that memory ran out.
+    /// Makes a writer of rows on top of `out`, and writes the names of the columns as the first record. Bytes can stay
+    /// in the new writer's buffer until `finish`. The error is that of `out`, or that memory ran out.
     pub(crate) fn start(alloc: Global, rows: Rows, out: W) -> Result<CsvRows<W>, RowsFault>
         ensures text { IfOk result (λ it. Appends (W.contents out) (text_written W.contents it.writer) (header_bytes rows format.Csv)) }
         ensures ready { IfOk result (λ it. IsBetween it.writer) }

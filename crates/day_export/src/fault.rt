@@ -7,7 +7,7 @@ use std::io;
 #[derive(Clone, Copy)]
 pub enum RowsFault {
     OutOfMemory,
-    /// The writer failed.
+    /// The writer to which the rows were written failed with this error.
     Io(io::Error),
 }
 

@@ -19,8 +19,8 @@ pub fn law_of_contexts()
 
 /// Does nothing. Its contract is a law: after a legal history, the points and the prices from which rows are made are
 /// those of the site. Each row of a sale has a number under `ended`, `product` and `price`, unless its transaction was
-/// unpaid when the day began: then these cells are empty, if the points of the day's opening have values that points
-/// can have.
+/// unpaid when the day began. In that case these cells are empty, if the points of the day's opening have values that
+/// points can have.
 pub fn law_of_sites()
     ensures { RowsTellEachSite }
 {}

@@ -64,7 +64,8 @@ fn answer_cell(is_granted: bool) -> Cell
     }
 }
 
-/// Returns the row of a decision. The fields of the context are read at the offsets and with the sizes that rules use.
+/// Returns the row of a decision, which is a grant if `is_granted` is true, or a denial if it is false. The fields of
+/// the context are read at the offsets and with the sizes that rules use.
 fn decision_cells(entry: &Entry, is_granted: bool) -> [Cell; 26]
     ensures { result ≡ decision_cells entry.now is_granted }
 {

@@ -34,7 +34,7 @@ pub(crate) fn run_cells(run: &Option<Run>) -> RunCells
 }
 
 /// Returns the cell of the number in `size` bytes at an offset, the least significant byte first. Returns `Nothing` if
-/// there are too few bytes.
+/// there are too few bytes. `size` must be 1 to 8, and `offset` at most 80.
 fn number_at(bytes: &[u8], offset: usize, size: usize) -> Cell
     requires some { 1 ≤ size }
     requires few { size ≤ 8 }
@@ -49,7 +49,7 @@ fn number_at(bytes: &[u8], offset: usize, size: usize) -> Cell
 }
 
 /// Returns the cell of the field of `size` bytes at an offset of a run's context. Returns `Nothing` if no rule ran, or
-/// if the context ends before the field does.
+/// if the context ends before the field does. `size` must be 1 to 8, and `offset` at most 80.
 pub(crate) fn field_cell(run: &Option<Run>, offset: usize, size: usize) -> Cell
     requires some { 1 ≤ size }
     requires few { size ≤ 8 }

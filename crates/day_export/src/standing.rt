@@ -20,8 +20,9 @@ use site_core::Config;
 use std::alloc::{AllocError, Global};
 use till_request::{Act, Reply, Request};
 
-/// A delivery that ended. It has its point, the number of the transaction that it became, the number of the entry that
-/// ended it, its product (1 to 8), and the product's price then, in thousandths of the currency per litre.
+/// A delivery of fuel that ended. It has its point, the number of the transaction that it became, the number of the
+/// entry that ended it, its product (1 to 8), and the product's price before this entry, in thousandths of the currency
+/// per litre.
 #[derive(Clone, Copy)]
 pub(crate) struct Delivery {
     pub(crate) point: u32,
@@ -111,7 +112,8 @@ fn point_at(points: &[Point], n: u32) -> Option<Point>
 }
 
 /// Returns the delivery that ended at point `n` with entry `number`, or `None` if none ended. `before` and `after` are
-/// the point before and after the entry, and `prices` are those before the entry.
+/// the point before and after the entry, and `prices` are those before the entry. The last transaction number of
+/// `before` must be below 2^32 - 1.
 fn ended_at(prices: &[u64], number: u32, n: u32, before: &Point, after: &Point) -> Option<Delivery>
     requires { before.now.last < u32.MAX }
     ensures { result ≡ ended_at prices.now number n before.now after.now }
@@ -129,7 +131,7 @@ fn ended_at(prices: &[u64], number: u32, n: u32, before: &Point, after: &Point) 
 }
 
 /// Changes the points in the way that an entry changed them. Returns the delivery that the entry ended, or `None` if it
-/// ended none. `prices` are those before the entry.
+/// ended none. `prices` are those before the entry. The last transaction number of each point must be below 2^32 - 1.
 #[tactic(auto, unfolding(crate::specs::Standing::ended_by))]
 fn follow_points(points: &mut [Point], prices: &[u64], entry: &Entry) -> Option<Delivery>
     requires { All (λ (p : PointState). p.last < u32.MAX) points.old }
@@ -221,7 +223,7 @@ fn add_ended(unpaid: &mut Vec<Delivery>, ended: Option<Delivery>) -> Result<(), 
 }
 
 impl Standing {
-    /// Returns the state at the start of a day. The error is that memory ran out.
+    /// Returns the state at the start of a day of a site of this configuration. The error is that memory ran out.
     pub(crate) fn start(alloc: Global, config: &Config) -> Result<Standing, AllocError>
         ensures stand { IfOk result (λ standing. stand_of standing ≡ stand_before config.now) }
         ensures within { IfOk result (λ standing. AreWithin 4290000000 standing.points.items) }
@@ -238,8 +240,9 @@ impl Standing {
         })
     }
 
-    /// Changes the state in the way that an entry changed it. The error is that memory ran out, which can't happen if
-    /// the entry makes no sale and ends no delivery. After an error only a part of the state is changed.
+    /// Changes the state in the way that an entry changed it. The last transaction number of each point must be below
+    /// 2^32 - 1. The error is that memory ran out, which can't happen if the entry makes no sale and ends no delivery.
+    /// After an error only a part of the state is changed.
     #[tactic(auto, unfolding(crate::specs::Standing::stand_after))]
     pub(crate) fn follow(&mut self, alloc: Global, entry: &Entry) -> Result<(), AllocError>
         requires { All (λ (p : PointState). p.last < u32.MAX) self.old.points.items }

@@ -19,11 +19,12 @@ pub(crate) trait RowTaker {
     /// if the contract of the underlying writer doesn't say which bytes it has.
     ghost taken: { Self → Option (List ℕ) };
 
-    /// For proofs: a row can be taken. After an error this is perhaps false.
+    /// For proofs: the writer can take a row. This can be false after an error.
     ghost is_ready: { Self → Type 0 };
 
-    /// Writes a row of the kind `rows` with these cells. The error is that of the underlying writer, or that memory ran
-    /// out. After an error, a part of the row was perhaps written.
+    /// Writes a row of the kind `rows` with these cells. `is_ready` must hold, and still holds if there is no error.
+    /// The error is that of the underlying writer, or that memory ran out. After an error, a part of the row was
+    /// perhaps written.
     fn take_row(&mut self, rows: Rows, cells: &[Cell]) -> Result<(), RowsFault>
         requires { is_ready self.old }
         ensures text { OnOk result (Appends (taken self.old) (taken self.new) (row_bytes rows format cells.now)) }

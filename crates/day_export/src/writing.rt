@@ -58,8 +58,9 @@ fn put_row<T: RowTaker>(
     }
 }
 
-/// Writes the rows that the history of a site of this configuration has, one after another. The error is that memory
-/// ran out, or the writer's own error. After an error, some of the rows were perhaps written.
+/// Writes to `to` the rows of the kind `rows` for the history of a site of this configuration, one after another.
+/// `is_ready` must hold for `to`, and still holds if there is no error. The error is that memory ran out, or the
+/// writer's own error. After an error, some of the rows were perhaps written.
 fn put_rows<T: RowTaker>(
     alloc: Global,
     to: &mut T,
@@ -113,8 +114,9 @@ fn write_json<W: Write + Drop>(
     Ok(to.out)
 }
 
-/// Writes the rows of a site's history, one after another, and returns the writer. The rows are made one at a time. The
-/// error is that memory ran out, or the writer's own error. After an error, some of the rows were perhaps written.
+/// Writes the rows of a site's history to `out`, one after another, and returns `out`. In CSV the names of the columns
+/// come first. The rows are made one at a time. The error is that memory ran out, or the error of `out`. After an
+/// error, some of the rows were perhaps written.
 pub fn write_rows<W: Write + Drop>(
     alloc: Global,
     site: &Site,

@@ -160,8 +160,8 @@ pub(crate) fn add_versions(sheet: &mut Sheet, totals: &Totals) {
         sheet,
         226,
         "Decisions by version",
-        "A column for each version in the order of their loads: below what it granted, above what \
-            it denied. The table below has the figures.",
+        "A column for each version, those of earlier days first and then in the order of their \
+            loads: below what it granted, above what it denied. The table below has the figures.",
     );
     add_columns(
         sheet,
@@ -172,7 +172,7 @@ pub(crate) fn add_versions(sheet: &mut Sheet, totals: &Totals) {
 }
 
 /// Adds the columns of the picture of decisions by version, one for every `together` neighbouring versions. The last
-/// column can be for fewer.
+/// column can be for fewer. `together` must not be 0.
 fn add_columns(sheet: &mut Sheet, totals: &Totals, together: usize)
     requires { 0 < together }
 {
@@ -190,7 +190,7 @@ fn add_columns(sheet: &mut Sheet, totals: &Totals, together: usize)
 }
 
 /// Returns how many decisions the column with the most decisions has, or 0 if there are no columns. Each column is for
-/// `together` neighbouring versions.
+/// `together` neighbouring versions; `together` must not be 0.
 fn most_decided(totals: &Totals, together: usize) -> u128
     requires { 0 < together }
 {

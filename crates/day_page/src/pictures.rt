@@ -2,7 +2,7 @@
 use crate::sheet::Sheet;
 use crate::texts::{Text, number};
 
-/// Adds the start of a picture: its height, and the title and description that screen readers read.
+/// Adds the start of a picture: its height, and the title and the description (`text`) that screen readers read.
 pub(crate) fn add_head(sheet: &mut Sheet, height: usize, title: &'static str, text: &'static str) {
     sheet.fill(
         "<div class=\"wide\"><svg viewBox=\"0 0 1000 {}\" role=\"img\"><title>{}</title><desc>{}</desc>\n",

@@ -3,8 +3,8 @@ use Rattle.std.proofs.Common.{◌≡◌, ℕ, List, drop}
 use Rattle.decision_journal.specs.declared.entries.Entry.{Entry}
 use Rattle.day_report.specs.Picture.{moments_in, never_fall, first_in, last_in, first_or}
 
--- What the moments of all entries are is told by those of the entries from place i on, and by the first and the last of
--- the moments before them.
+-- Whether the moments of all entries never fall, and what their first and last are, follows from the moments from place
+-- i on, and from `first` and `last`, the first and the last of the moments before place i.
 pub record Remains (entries : List Entry) (i first last : ℕ) : Type 0 where
   pub steady : never_fall 0 (moments_in entries) ≡ never_fall last (moments_in (drop i entries))
   pub first_is : first_in (moments_in entries) ≡ first_or first (first_in (moments_in (drop i entries)))

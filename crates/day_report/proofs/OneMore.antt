@@ -131,7 +131,7 @@ same-points : (points : List (ℕ × ℕ)) → replicate (length points) fresh_p
 same-points [] = refl
 same-points (p ∷ points) = ap (λ xs. fresh_point ∷ xs) (same-points points)
 
--- As many closed points as there are pairs are those that a site with these pairs starts with.
+-- A site whose configuration has a pair for each point starts with as many closed points as there are pairs.
 pub closed-is : (pairs want : List (ℕ × ℕ)) → pairs ≡ want → replicate (length pairs) fresh_point ≡ map (λ (_ : ℕ × ℕ). fresh_point) want
 closed-is pairs want same = same-points pairs ∙ ap (map (λ (_ : ℕ × ℕ). fresh_point)) same
 
@@ -156,7 +156,7 @@ sales-append points (e ∷ entries) more =
     ap (cons_option (sale_of points e)) (sales-append (with_entry points e) entries more)
     ∙ cons-append (sale_of points e) (sales (with_entry points e) entries) (sales (stand (with_entry points e) entries) more)
 
--- Where entries make no sale, none of them makes one.
+-- If the sales of the entries are an empty list, then the entry at place i makes no sale.
 pub sales-none : (points : List PointState) (entries : List Entry) (i : ℕ) (entry : Entry) → i < length entries → entry ≡ get_or entries i entry
     → sales points entries ≡ []
     → sale_of (stand points (take i entries)) entry ≡ None
@@ -174,7 +174,7 @@ loads-append moment (e ∷ entries) more =
     ap (cons_option (load_of moment e)) (loads-append (moment_after moment e) entries more)
     ∙ cons-append (load_of moment e) (loads (moment_after moment e) entries) (loads (fold moment_after (moment_after moment e) entries) more)
 
--- Where entries have no accepted load, none of them is one.
+-- If the accepted loads of the entries are an empty list, then the entry at place i is no accepted load.
 pub loads-none : (moment : ℕ) (entries : List Entry) (i : ℕ) (entry : Entry) → i < length entries → entry ≡ get_or entries i entry
     → loads moment entries ≡ []
     → load_of (fold moment_after moment (take i entries)) entry ≡ None
@@ -193,7 +193,7 @@ carried-append slot (r ∷ rules) more =
     ap (cons_option (carried_at slot r)) (carried-append (slot + 1) rules more ∙ ap (λ n. carried_from (slot + 1) rules ++ carried_from n more) same)
     ∙ cons-append (carried_at slot r) (carried_from (slot + 1) rules) (carried_from (slot + length (r ∷ rules)) more)
 
--- Where slots carry no rule in, each of them is empty.
+-- If the slots have no rule that is carried in, then slot i is empty.
 pub carried-none : (rules : List (Option Version)) (i : ℕ) (rule : Option Version) → i < length rules → rule ≡ get_or rules i rule
     → carried_from 0 rules ≡ []
     → carried_at i rule ≡ None
@@ -228,7 +228,7 @@ unpaid-append n (q ∷ points) more =
     ∙ ap (λ m. unpaid_from (n + 1) points ++ unpaid_from m more) same)
     ∙ sym (append_assoc (map (unpaid_transaction n) q.unpaid) (unpaid_from (n + 1) points) (unpaid_from (n + length (q ∷ points)) more))
 
--- Where points have no unpaid transaction, none of them has a first or a second one.
+-- If the points have no unpaid transaction, then the point at place i has neither a first nor a second one.
 pub unpaid-neither : (points : List PointState) (i : ℕ) (p : PointState) (first second : Option Transaction) → i < length points → p ≡ get_or points i p
     → option_to_list first ++ option_to_list second ≡ p.unpaid
     → unpaid_of points ≡ []

@@ -74,8 +74,8 @@ module _ (axis : Axis) (steps : ℕ) where
 
 -- ---- step after step
 
--- The steps before place i of the cuts were followed. `done` entries belong to them, `now` are the points after these,
--- and `states` is what they show.
+-- The steps before place i of the cuts were followed. The first `done` entries belong to these steps, `now` are the
+-- points after those entries, and `states` is what these steps show.
 pub record Stands (points : List PointState) (entries : List Entry) (cuts : List ℕ) (i done : ℕ) (now : List PointState) (states : List State) : Type 0 where
   pub few : done ≤ length entries
   pub within : AreWithin (4290000000 + done) now
@@ -88,7 +88,7 @@ pub begins : (points : List PointState) (entries : List Entry) (cuts : List ℕ)
 begins points entries cuts now states same none within =
     record { few = omega arith; within = within; stood = same; ahead = λ k _ _. omega arith; told = ap (λ s. s ++ steps_show points entries 0 cuts) none }
 
--- The entries before a place, and those from there up to before a later one, are those before the later one.
+-- The entries before place `done`, and then those from `done` up to before place `cut`, are the entries before `cut`.
 joined : (entries : List Entry) (done cut : ℕ) → done ≤ cut → cut ≤ length entries → take done entries ++ entries_between entries done cut ≡ take cut entries
 joined entries done cut le few =
     let front = take done entries in

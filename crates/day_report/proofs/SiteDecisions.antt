@@ -118,7 +118,7 @@ first-once n ns h = sum_by-cons (λ k. if n == k then 1 else 0) n ns ∙ (λ i. 
 
 -- ---- the versions that are carried in
 
--- What is true of each number is true of the number of the version in any slot.
+-- If P holds for the number of each version in the slots, then it holds for the number of the version in this slot.
 at-slot : (P : ℕ → Type 0) (rules : List (Option Version)) (slot : ℕ) (v : Version) → AllByRecursion P (rule_numbers rules)
     → slice_index_or rules slot None ≡ Some v → P v.number
 at-slot P [] slot v h is = none-is v is
@@ -127,7 +127,8 @@ at-slot P (None ∷ rules) (suc slot) v h is = at-slot P rules slot v h is
 at-slot P (Some u ∷ rules) zero v h is = subst (λ (x : Version). P x.number) (some-is u v is) h.0
 at-slot P (Some u ∷ rules) (suc slot) v h is = at-slot P rules slot v h.1 is
 
--- If no two slots have versions of one number, then the number of the version in a slot is there once.
+-- If no two slots have versions of one number, then the number of the version in this slot comes exactly once among the
+-- numbers of all these versions.
 once-at : (rules : List (Option Version)) (slot : ℕ) (v : Version) → IsDistinct (λ a b. a == b) (rule_numbers rules)
     → slice_index_or rules slot None ≡ Some v → times v.number (rule_numbers rules) ≡ 1
 once-at [] slot v d is = none-is v is
@@ -158,7 +159,8 @@ are-numbers slot [] = refl
 are-numbers slot (None ∷ rules) = are-numbers (slot + 1) rules
 are-numbers slot (Some v ∷ rules) = ap (λ ns. v.number ∷ ns) (are-numbers (slot + 1) rules)
 
--- The number of each version in force at first is there once, and is at most the number of versions before.
+-- The number of each version in force when the day begins comes exactly once among the numbers of the versions carried
+-- in, and isn't above `versions_before`, which says how many versions were loaded before the day.
 abbrev Opens : ConfigValue → Type 0
 Opens config = (slot : ℕ) (v : Version) → opening_rule config slot ≡ Some v → (times v.number (olds config) ≡ 1) × (v.number ≤ versions_before config)
 
@@ -475,7 +477,7 @@ range-push a (suc n) =
     ap (range_with_len a) one
     ∙ ap (λ l. a ∷ l) (range-push (a + 1) n ∙ ap (λ k. range_with_len (a + 1) n ++ k ∷ []) same)
 
--- the number of the next version, if the act with this reply is a load that was accepted
+-- if the act with this reply is a load that was accepted, then its version has the next version number
 abbrev Numbers : ConfigValue → List Entry → Act → Reply → Type 0
 Numbers config past a r =
     (number moment : ℕ) → numbers (option_to_list (loaded_at number moment a r))

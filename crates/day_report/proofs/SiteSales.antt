@@ -1,4 +1,5 @@
--- The number and the total of the sales in a journal are those that the state of its site has, and so are its points.
+-- The points that follow from a journal are those of its site. What was cleared before the day and the sales in the
+-- journal are together what the site cleared, in number and in cents.
 use Rattle.std.proofs.Common.{◌≡◌, ℕ, zero, suc, ◌+◌, ◌-◌, ◌<◌, ◌≤◌, Bool, true, false, List, [], ◌∷◌, ◌++◌, length, reverse, Option, Some}
 use Rattle.std.proofs.Common.{None, slice_get, refl, arith, ap, ◌∙◌, sym, subst}
 use Rattle.std.specs.Prelude.{if◌then◌else◌, ◌==◌, nat_le, nat_lt, sum_by, option_to_list}

@@ -62,7 +62,8 @@ abbrev pub one_of : Option Transaction → ℕ
 one_of None = 0
 one_of (Some t) = 1
 
--- The points and the cleared total that follow from an act and its reply are those of the site's state after the act.
+-- The points, the cleared total and the count of cleared transactions that follow from an act and its reply are those
+-- of the site's state after the act.
 pub record Tells (s : SiteState) (a : Act) (e : Effect) : Type 0 where
   pub points : with_act s.points a e.reply ≡ e.after.points
   pub cleared : e.after.cleared ≡ s.cleared + cents_of (paid s.points (clearing_of a e.reply))

@@ -16,7 +16,7 @@ use Rattle.site_core.proofs.Points.{at_number-read}
 use Rattle.day_report.specs.Walk.{with_changed, with_command, with_event, after_event}
 use Rattle.day_report.specs.Following.{Follows}
 
--- The point after a command that the table accepts or refuses is the point that the code has then.
+-- After a command, accepted or refused, the point that the table says is the point that the code has.
 after-command-is : (a : Answer (Option ℕ)) (p new : PointState) (outcome : Result (Option ℕ) PointFault) → FollowsTable a p outcome new
     → (elim a as (λ _. PointState) [ Ok o ↦ o.0 | Err f ↦ p ]) ≡ new
 after-command-is (Ok (q, given)) p new outcome h = sym h.1
@@ -27,8 +27,8 @@ after-event-is : (a : Answer (Option Order)) (p new : PointState) (outcome : Res
 after-event-is (Ok (q, given)) p new outcome h = sym h.1
 after-event-is (Err f) p new outcome h = sym h.1
 
--- If no point has given out more than k transaction numbers, then no point has given out more than k + 1 after one
--- point was replaced. The new point has given out at most one more than the old one.
+-- Let one point be replaced by one that has given out at most one transaction number more. If no point had given out
+-- more than k numbers before, then no point has given out more than k + 1 after it.
 bounded-set : (points : List PointState) (n : ℕ) (p new : PointState) → 1 ≤ n → n ≤ length points → p ≡ get_or points (n - 1) p → new.last ≤ p.last + 1
     → (k : ℕ) → All (λ (x : PointState). x.last ≤ k) points → All (λ (x : PointState). x.last ≤ k + 1) (slice_set points (n - 1) new)
 bounded-set points n p new one le is last k all =

@@ -43,7 +43,7 @@ unfoldable pub refusal_of : Entry → Option ℕ
 refusal_of entry = refused_as entry.reply
 
 -- The price change of an act with this reply; None unless a price was granted. `number` and `moment` are those of its
--- entry. The price is in thousandths.
+-- entry. The price is in thousandths of the currency per litre.
 abbrev pub changed_price : ℕ → ℕ → Act → Reply → Option PriceChange
 changed_price number moment (act.Till till (request.Price product price)) (reply.Granted granted version) =
     Some (record { number = number; moment = moment; till = till; product = product; price = granted; version = version })

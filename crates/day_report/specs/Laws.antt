@@ -15,10 +15,10 @@ use Rattle.day_report.specs.declared.rulings.Decision.{Decision}
 use Rattle.day_report.specs.declared.counting.Deciding.TheVariants as deciding
 use Rattle.day_report.specs.declared.sales.Part.TheVariants as part
 
--- The sales in a journal agree with the state of its site. The points are the site's points. What was cleared before the
--- day and the sales together are what the site cleared: their number, and their total over all sales, over all points and
--- over all tills. It is so over all points of the configuration if the opening has as many. The tills that are added up
--- must be at least those of the site.
+-- The sales in a journal agree with the state of its site. The points after the last entry are the site's points. What
+-- was cleared before the day and what was sold in the day are together what the site cleared: in number, and in cents.
+-- The cents can be added up over all sales, or over the tills 1 to `tills`, if these include all tills of the
+-- configuration. They can be added up over all points of the configuration, if the site begins with as many points.
 pub record TellsItsSite (config : ConfigValue) (history : List Entry) (state : SiteState) : Type 0 where
   pub points : points_after config history ≡ state.points
   pub count : (opening_state config).clears + count_in part.All (sales_of config history) ≡ state.clears

@@ -1,5 +1,6 @@
--- Definitions: how the picture of a day divides its history, and what it shows (this profile). Its axis is time or the
--- entries, and it is divided into equal steps. A step shows of each point the state with the greatest number.
+-- Definitions: how the picture of a day divides its history, and what it shows (this profile). The axis of the picture
+-- is time or the entries, and is divided into equal steps. A step shows of each point the state with the greatest
+-- number.
 use Rattle.std.specs.Prelude.{◌≡◌, ◌<◌, ◌++◌, replicate, slice_index, ℕ, ◌+◌, ◌-◌, ◌*◌, ◌/◌, ◌==◌, ◌&&◌, nat_le, nat_lt, min, if◌then◌else◌, List, [], ◌∷◌, length, Option, Some, None, Bool, true, false}
 use Rattle.std.specs.Prelude.{map, take, drop, slice_index_or, slice_set}
 use Rattle.decision_journal.specs.declared.entries.Entry.{Entry}
@@ -26,7 +27,7 @@ steps_along (axis.Entries count) = min count 2000
 steps_along (axis.Time first last) = min (last - first) 2000
 
 -- The step that an entry belongs to, by its place in the history, counted from 0, or by its moment. None if the axis is
--- time and the entry has no moment. The last second of the axis lies within it.
+-- time and the entry has no moment. A time axis ends after its last second, so that this second lies within it.
 abbrev pub step_at : Axis → ℕ → ℕ → ℕ → Option ℕ
 step_at (axis.Entries count) place moment steps = Some (step_of place count steps)
 step_at (axis.Time first last) place moment steps =
@@ -37,7 +38,7 @@ abbrev pub moments_in : List Entry → List ℕ
 moments_in [] = []
 moments_in (entry ∷ entries) = if entry.moment == 0 then moments_in entries else entry.moment ∷ moments_in entries
 
--- Whether none of the numbers is less than the one before it, and the first isn't less than n.
+-- Whether the first of the numbers is at least n, and each other one at least the one before it.
 abbrev pub never_fall : ℕ → List ℕ → Bool
 never_fall n [] = true
 never_fall n (m ∷ numbers) = nat_le n m && never_fall m numbers
@@ -52,7 +53,8 @@ abbrev pub last_in : ℕ → List ℕ → ℕ
 last_in n [] = n
 last_in n (m ∷ numbers) = last_in m numbers
 
--- The axis for these moments: time, if they never fall and span at least ten minutes; else the entries.
+-- The axis of a history of `count` entries: time, if its moments never fall (`steady`) and it is at least ten minutes
+-- from the moment `first` to the moment `last`; else the entries.
 abbrev pub axis_by : ℕ → Bool → ℕ → ℕ → Axis
 axis_by count steady first last =
     if steady && nat_le 600 (last - first) then axis.Time first last else axis.Entries count
@@ -82,12 +84,13 @@ point_named (act.Till till request) = point_asked request
 point_named (act.Dispenser n event) = Some n
 point_named (act.Load slot mask layout bytes) = None
 
--- whether an entry of this step is behind step k; one without a step is behind none
+-- whether an entry that belongs to this step is behind step k; an entry without a step is behind no step
 abbrev pub is_behind : ℕ → Option ℕ → Bool
 is_behind k None = false
 is_behind k (Some step) = nat_lt k step
 
--- How many entries stand before the first that is behind step k. The first of the list has the place `place`.
+-- The place of the first entry that is behind step k, or, if there is none, the place after the last entry. The first
+-- entry of the list has the place `place`.
 abbrev pub cut_from : Axis → ℕ → ℕ → ℕ → List Entry → ℕ
 cut_from axis steps k place [] = place
 cut_from axis steps k place (entry ∷ entries) =
@@ -144,7 +147,7 @@ pub record Shows (axis : Axis) (points : List PointState) (entries : List Entry)
 
 -- ---- promises of private functions
 
--- the first of two moments that is one; a moment of 0 is none
+-- `first`, or `moment` if `first` is 0; a `first` of 0 means that there is no first moment yet
 abbrev pub first_or : ℕ → ℕ → ℕ
 first_or first moment = if first == 0 then moment else first
 

@@ -25,7 +25,7 @@ abbrev pub clearing_of : Act → Reply → Option Clearing
 clearing_of act reply.Done = cleared_by act
 clearing_of act _ = None
 
--- the unpaid transaction at point n that has this number
+-- the unpaid transaction at point n that has this number; None if there is none
 abbrev pub unpaid_at : List PointState → ℕ → ℕ → Option Transaction
 unpaid_at points n number = elim (at_number points n) [ None ↦ None | Some p ↦ find_number number p.unpaid ]
 

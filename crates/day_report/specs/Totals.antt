@@ -89,7 +89,7 @@ pub record IsSum (sum : Sum) (part : Part) (sales : List Sale) : Type 0 where
   pub cents : sum.cents ≡ cents_in part sales
   pub centilitres : sum.centilitres ≡ centilitres_in part sales
 
--- The part of a sum by its place in the list, counted from 0. Points and tills are numbered from 1, and hours from 0.
+-- The part whose sum has the place k in the list of sums. Places and hours count from 0, and points and tills from 1.
 abbrev pub part_of_point : ℕ → Part
 part_of_point k = part.Point (k + 1)
 
@@ -130,7 +130,8 @@ pub record HasOutcomes (part : Deciding) (versions : List ℕ) (decisions : List
   pub granted : found.granted.items ≡ map (λ v. decided_by part true v decisions) versions
   pub denied : found.denied.items ≡ map (λ v. decided_by part false v decisions) versions
 
--- For each till from 1 to `tills`: how often each version granted and denied its requests.
+-- `found` has for each till from 1 to `tills`, till 1 first, how often each version granted and denied requests of this
+-- till.
 pub record DecidedByTills (tills : ℕ) (versions : List ℕ) (decisions : List Decision) (found : List Outcomes) : Type 0 where
   pub long : length found ≡ tills
   pub each : (k : ℕ) (d : Outcomes) → k < length found → HasOutcomes (deciding.Till (k + 1)) versions decisions (slice_index_or found k d)
@@ -148,7 +149,7 @@ unfoldable pub unpaid_of : List PointState → List Unpaid
 unpaid_of points = unpaid_from 1 points
 
 -- What an opening carries in: how many unpaid transactions, and their total in cents; how many rules; and the total that
--- was cleared before, in cents.
+-- was cleared before the day, in cents.
 abbrev pub carried_in : OpeningValue → CarriedIn
 carried_in o = record {
   unpaid = length (unpaid_of o.points);
@@ -163,6 +164,7 @@ carried_in o = record {
 abbrev pub count_for : {S : Type 0} → HashMap ℕ ℕ S → ℕ → ℕ
 count_for counts v = unwrap_or (hash.get nat_eq counts v) 0
 
--- The map has for each version how many of the decisions are by it, in the part, and grants if `granted` is true.
+-- For each version, `count_for` finds in the map the number of its grants among the decisions in the part, if `granted`
+-- is true, or of its denials, if `granted` is false.
 abbrev pub CountsVersions : {S : Type 0} → Deciding → Bool → List Decision → HashMap ℕ ℕ S → Type 0
 CountsVersions part granted decisions counts = (v : ℕ) → count_for counts v ≡ decided_by part granted v decisions

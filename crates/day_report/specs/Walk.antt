@@ -22,7 +22,7 @@ granted_command (request.Release n asked) granted = Some (n, command.Release gra
 granted_command (request.Preset n asked) granted = Some (n, command.Preset granted)
 granted_command _ granted = None
 
--- The point and the command of a request that was answered Done; None for a request that never is.
+-- The point and the command of a request that was answered Done; None for a request that is never answered so.
 abbrev pub done_command : Request → Option (ℕ × Command)
 done_command (request.OpenPoint n) = Some (n, command.OpenPoint)
 done_command (request.ClosePoint n) = Some (n, command.ClosePoint)
@@ -34,7 +34,8 @@ done_command (request.Unlock n number) = Some (n, command.Unlock number)
 done_command (request.Clear n number) = Some (n, command.Clear number)
 done_command _ = None
 
--- The point and the command that were carried out for a till's request with this reply; None if the reply is a refusal.
+-- The point and the command that were carried out for a till's request with this reply; None if no command was carried
+-- out, as for a refused request, a price change, or a request to show a point.
 abbrev pub command_told : Request → Reply → Option (ℕ × Command)
 command_told request (reply.Granted granted version) = granted_command request granted
 command_told request reply.Done = done_command request
@@ -44,7 +45,8 @@ command_told request _ = None
 unfoldable pub with_changed : List PointState → ℕ → (PointState → PointState) → List PointState
 with_changed points n becomes = elim (at_number points n) [ None ↦ points | Some p ↦ slice_set points (n - 1) (becomes p) ]
 
--- The points after a till's command at its point. Tills are numbered from 1, so a command of till 0 changes nothing.
+-- The points after a till's command; `c` has the number of a point and the command at this point. Tills are numbered
+-- from 1, so a command of till 0 changes nothing.
 abbrev pub with_command : List PointState → ℕ → ℕ × Command → List PointState
 with_command points till c = if nat_lt 0 till then with_changed points c.0 (λ p. after_command p till c.1) else points
 

@@ -48,7 +48,7 @@ pub struct Totals {
     pub by_hour: Vec<Sum>,
     /// The fuelling points as they are after the last entry.
     pub points: Vec<Point>,
-    /// How often each of the refusals S20 to S34 was the reply.
+    /// How often each of the refusals S20 to S34 was the reply, S20 first.
     pub refused: Vec<usize>,
     /// The rules that were carried in from the day before, in the order of their slots.
     pub carried: Vec<CarriedRule>,
@@ -98,7 +98,8 @@ enum By {
     Hour,
 }
 
-/// Returns the part of the sales that is at this place in the list of the parts, counted from 0.
+/// Returns the part of the sales at this place, counted from 0, if sales are divided as `by` says. `place` must be at
+/// most 64.
 fn part_at(by: By, place: usize) -> Part
     requires { place ≤ MOST_PARTS }
     ensures { result ≡ part_by by place }
@@ -111,7 +112,7 @@ fn part_at(by: By, place: usize) -> Part
 }
 
 /// Splits the sales by point, by till or by hour, as `by` says, and returns the total of each of the first `count`
-/// points, tills or hours.
+/// points, tills or hours. `count` must be at most 64. The error is that memory ran out.
 fn sums_by(alloc: Global, sales: &[Sale], by: By, count: usize) -> Result<Vec<Sum>, AllocError>
     requires { count ≤ MOST_PARTS }
     ensures { IfOk result (λ sums. SumsUp (part_by by) count sums.items sales.now) }
@@ -123,7 +124,8 @@ fn sums_by(alloc: Global, sales: &[Sale], by: By, count: usize) -> Result<Vec<Su
     Ok(sums)
 }
 
-/// Returns how often each of the refusals S20 to S34 is among these numbers.
+/// Returns how often each of the refusals S20 to S34 is among these numbers, S20 first. The error is that memory ran
+/// out.
 fn by_number(alloc: Global, numbers: &[u32]) -> Result<Vec<usize>, AllocError>
     ensures { IfOk result (λ counts. CountsRefusals counts.items numbers.now) }
 {
@@ -134,7 +136,7 @@ fn by_number(alloc: Global, numbers: &[u32]) -> Result<Vec<usize>, AllocError>
     Ok(counts)
 }
 
-/// Returns how often each of the refusals S20 to S34 was the reply.
+/// Returns how often each of the refusals S20 to S34 was the reply, S20 first. The error is that memory ran out.
 fn refused_in(alloc: Global, entries: &[Entry]) -> Result<Vec<usize>, AllocError>
     ensures { IfOk result (λ counts. CountsRefusals counts.items (filter_map refusal_of entries.now)) }
 {
@@ -142,7 +144,8 @@ fn refused_in(alloc: Global, entries: &[Entry]) -> Result<Vec<usize>, AllocError
     by_number(alloc, &numbers)
 }
 
-/// Returns how often each of these versions granted and denied, among the decisions in one part.
+/// Returns how often each of these versions granted and denied, counting only the decisions in `part`. The error is
+/// that memory ran out.
 fn outcomes(
     alloc: Global,
     decisions: &[Decision],
@@ -157,7 +160,8 @@ fn outcomes(
     })
 }
 
-/// Returns for each of the 64 tills how often each version granted and denied requests of this till.
+/// Returns for each of the tills 1 to 64, till 1 first, how often each version granted and denied requests of this
+/// till. The error is that memory ran out.
 fn by_till_asked(
     alloc: Global,
     decisions: &[Decision],
@@ -440,8 +444,8 @@ pub fn add_up(alloc: Global, config: &Config, entries: &[Entry]) -> Result<Total
     })
 }
 
-/// Returns what an opening carries in. The error is that memory ran out, which it can't if the opening has no unpaid
-/// transaction and no rule.
+/// Returns what an opening carries in. The opening must have at most 16 slots. The error is that memory ran out, which
+/// it can't if the opening has no unpaid transaction and no rule.
 fn carried_by(alloc: Global, opening: &Opening) -> Result<CarriedIn, AllocError>
     requires { length opening.now.rules ≤ 16 }
     ensures found { IfOk result (λ found. found ≡ carried_in opening.now) }

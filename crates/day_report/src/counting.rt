@@ -44,8 +44,8 @@ fn is_wanted(part: Deciding, granted: bool, decision: &Decision) -> bool
     is_among(part, decision) && has_outcome(granted, decision)
 }
 
-/// Counts one more decision of a version, if `wanted` is true. The error is that memory ran out. If `wanted` is false
-/// there is no error.
+/// Counts one more decision of a version, if `wanted` is true. All counts must be at most 2^64 - 2. The error is that
+/// memory ran out. If `wanted` is false there is no error.
 fn count_if(counts: &mut HashMap<u32, u64>, version: u32, wanted: bool) -> Result<(), AllocError>
     requires { (v : ℕ) → count_for counts.old v ≤ 2 ^ 64 - 2 }
     ensures counted { OnOk result ((v : ℕ) → count_for counts.new v ≡ count_for counts.old v

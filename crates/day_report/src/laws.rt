@@ -3,9 +3,9 @@
 ghost use Rattle.day_report.specs.Laws.{SalesTellTheSite, VersionsTellAllDecisions};
 
 /// Does nothing. Its contract is a law: the sales in the journal of a site agree with the site's own state. The points
-/// after the last entry are the site's points. What was cleared before the day, and the sales, are together what the
-/// site cleared. This holds for the number of transactions, and for the total in cents, added up over all sales or over
-/// all tills. It holds over all points too, if the site begins with as many points as the configuration has.
+/// after the last entry are the site's points. What was cleared before the day and what was sold in the day are
+/// together what the site cleared: in number, and in cents. The cents can be added up over all sales or till by till.
+/// They can be added up point by point too, if the site begins with as many points as the configuration has.
 pub fn law_of_sales()
     ensures { SalesTellTheSite }
 {}

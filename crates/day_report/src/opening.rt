@@ -38,7 +38,8 @@ fn new_points(alloc: Global, count: usize) -> Result<Vec<Point>, AllocError>
     vec![in alloc; Point::new(); count]
 }
 
-/// Returns a copy of an opening's points. The error is that memory ran out.
+/// Returns a copy of an opening's points. None of them may have given out a transaction number over 4,290,000,000. The
+/// error is that memory ran out.
 fn points_in(alloc: Global, opening: &Opening) -> Result<Vec<Point>, AllocError>
     requires { AreWithin 4290000000 opening.now.points }
     ensures points { IfOk result (λ points. points.items ≡ (opened_state opening.now).points) }
@@ -77,8 +78,8 @@ fn carried_at(slot: u32, rule: &Option<Version>) -> Option<CarriedRule>
     }
 }
 
-/// Returns the rules of slots 0, 1, and so on, in the order of the slots, without the empty slots. The error is that
-/// memory ran out. If all slots are empty there is no error.
+/// Returns the rules of the slots that aren't empty, in the order of the slots. `rules` has an item for each slot, slot
+/// 0 first, and must have at most 16. The error is that memory ran out. If all slots are empty there is no error.
 pub(crate) fn rules_in(
     alloc: Global,
     rules: &[Option<Version>],

@@ -1,4 +1,4 @@
-//! The sales of a history: the transactions that tills cleared when they were paid.
+//! The sales of a history. A sale is a transaction that a till cleared: it was paid, and is gone.
 
 ghost use Rattle.std.specs.Prelude.{◌≡◌, ◌≤◌, [], IfOk, IsOk, length};
 ghost use Rattle.site_core.specs.declared.site.TheConstants.{ENTRIES};
@@ -17,7 +17,7 @@ use std::alloc::{AllocError, Global};
 use till_request::{Act, Reply, Request};
 
 /// A transaction that a till cleared. It has the number and the moment of the entry that cleared it, the till, the
-/// point, the amount in cents and the volume in centilitres.
+/// point, the amount in cents and the volume in centilitres. The moment is in seconds, or 0 if the entry has none.
 #[derive(Clone, Copy)]
 pub struct Sale {
     pub number: u32,
@@ -62,7 +62,7 @@ fn clearing_of(act: &Act, reply: &Reply) -> Option<Clearing>
     }
 }
 
-/// Returns the unpaid transaction number `number` of point `n`, if there is one.
+/// Returns the unpaid transaction number `number` of point `n`, or `None` if there is none. Points count from 1.
 fn unpaid_at(points: &[Point], n: u32, number: u32) -> Option<Transaction>
     ensures { result ≡ unpaid_at points.now n number }
 {
@@ -89,8 +89,9 @@ pub fn sale_of(points: &[Point], entry: &Entry) -> Option<Sale>
     })
 }
 
-/// Returns the sales that the entries made. At first `points` are the points before the entries, and at the end those
-/// after them. The error is that memory ran out. Without a sale there is no error.
+/// Returns the sales that the entries made. `points` must be the points before the entries, and become those after
+/// them, if there is no error. The last transaction number of each point, plus the number of entries, must be at most
+/// 2^32 - 1. The error is that memory ran out. Without a sale there is no error.
 fn follow_sales(
     alloc: Global,
     points: &mut [Point],

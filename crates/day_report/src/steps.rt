@@ -33,7 +33,7 @@ pub enum Axis {
     Time(u64, u64),
 }
 
-/// Returns `first`, or `moment` if `first` is 0, which means that there is no first moment yet.
+/// Returns `first`, or `moment` if `first` is 0. A `first` of 0 means that there is no first moment yet.
 fn first_or(first: u64, moment: u64) -> u64
     ensures { result ≡ first_or first moment }
 {
@@ -188,7 +188,8 @@ fn show_point(states: &mut [State], points: &[Point], n: Option<u32>)
 }
 
 /// Applies the entries of a step to the points. After each entry, the state of the point that it names is stored in
-/// `states`, if this state has a greater number than the one that is stored there.
+/// `states`, if this state has a greater number than the one that is stored there. The last transaction number of each
+/// point, plus the number of entries, must be at most 2^32 - 1.
 fn follow_step(points: &mut [Point], states: &mut [State], entries: &[Entry])
     requires few { HaveRoom points.old (length entries.now) }
     ensures stand { points.new ≡ stand points.old entries.now }
@@ -213,7 +214,8 @@ fn states_of(alloc: Global, points: &[Point]) -> Result<Vec<State>, AllocError>
 }
 
 /// Applies the entries of a step to the points, and returns a state for each point: of the states that it has before
-/// the entries and after each of them, the one with the greatest number. The error is that memory ran out.
+/// the entries and after each of them, the one with the greatest number. The last transaction number of each point,
+/// plus the number of entries, must be at most 2^32 - 1. The error is that memory ran out.
 fn step_states(
     alloc: Global,
     points: &mut [Point],

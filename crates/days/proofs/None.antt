@@ -61,7 +61,8 @@ prefix (l ∷ ls) (m ∷ ms) ws hl hm some h =
     prefix ls ms ws hl.1 hm.1 some (same_tail (line_spelling m) (line_spelling l) (map line_spelling ms ++ [] ∷ []) (map line_spelling ls ++ ws) h) in
     (rest.0, ap (λ x. x ∷ ms) first ∙ ap (λ xs. l ∷ xs) rest.1, rest.2)
 
--- An opening with the text has the lines that were taken, and then these, which can stand behind them.
+-- The opening has the lines in `taken`, and then those in `more`. These can come after them, and are the lines of
+-- `rest`.
 record Begins (f : OpeningFile) (taken : List Line) (rest : List ℕ) : Type 0 where
   more : List Line
   lines : opening_lines f ≡ taken ++ more
@@ -115,7 +116,7 @@ cut_none text n cut f good fits is =
     by_more (l ∷ ls) e =
         not_none ([] ∷ []) (map line_spelling ls) (omega arith) (sym (same_tail (line_spelling l) cut.line (map line_spelling ls ++ [] ∷ []) [] e))
 
--- a line whose program is refused can't stand
+-- a line whose program is refused can't come next
 refused_stands : (r : ReadingValue) (l : Line) (refusal : Refusal) → IsRefusedIn (program_in l) refusal → CanStand r l → ⊥
 refused_stands r (lines.Day n) refusal h c = h
 refused_stands r (lines.Cleared total count) refusal h c = h
@@ -139,7 +140,7 @@ refused_none text n refusal it =
       bad = λ l back is stands. refused_stands it.r it.line refusal it.refused (subst (λ x. CanStand it.r x) (one_line it.line l it.back back is) stands);
     })
 
--- where all lines were taken, an opening with the text is the one that was read
+-- if the whole text was read, then an opening with this text is the one that was read
 pub one_file : (text : List ℕ) (n : ℕ) (r : ReadingValue) → HasRead text [] n r → (f : OpeningFile) → IsOpeningFile f → FileFits f
     → opening_text f ≡ text → r ≡ record { next = 61; file = f }
 one_file text n r has f good fits is =
@@ -166,13 +167,13 @@ one_opening f g good fits good' fits' is =
     } in
     ap (λ (r : ReadingValue). r.file) (one_file (opening_text f) (min (length (opening_lines f) + 1) 4294967295) (record { next = 61; file = f }) has g good' fits' (sym is))
 
--- where all lines were taken, and the last one isn't there, no opening has the text
+-- if the whole text was read, and the last line of an opening wasn't, then no opening has the text
 pub short_none : (text : List ℕ) (n : ℕ) (r : ReadingValue) → HasRead text [] n r → ¬ (r.next ≡ 61) → HasNoOpening text
 short_none text n r has open_yet f good fits is = open_yet (ap (λ (x : ReadingValue). x.next) (one_file text n r has f good fits is))
 
 -- ---- the line of a flaw
 
--- Lines that lead to the last one from any place.
+-- From any place on, there are lines that can come one after another, up to the last line of an opening.
 ends : (k : ℕ) (f : OpeningFile) → k ≤ 61 → (more : List Line) × AllStand (record { next = k; file = f }) more
     × ((after_lines (record { next = k; file = f }) more).next ≡ 61)
 ends zero f le = (
@@ -197,7 +198,7 @@ stand_on : (r : ReadingValue) (ls ms : List Line) → AllStand r ls → AllStand
 stand_on r [] ms h k = k
 stand_on r (l ∷ ls) ms h k = (h.0, stand_on (after_line r l) ls ms h.1 k)
 
--- lines that can stand one behind another from the beginning are the first lines of an opening
+-- lines that can come one after another from the beginning are the first lines of an opening
 begin_one : (ls : List Line) → AllStand nothing_read ls → BeginOne ls
 begin_one ls h =
     let r : ReadingValue = after_lines nothing_read ls in
@@ -210,7 +211,8 @@ begin_one ls h =
       lines_are = whole_lines (after_lines r e.0) (ls ++ e.0) after all e.2;
     }
 
--- the same of the text of another opening: it has the lines that were taken only if it goes on with a line that can stand there
+-- if the piece is no line that can come after the lines `ls`, then no opening's text begins with these lines and has
+-- the piece as its next line
 follows : (ls : List Line) → AllByRecursion ReadsBack ls → (r : ReadingValue) → r ≡ after_lines nothing_read ls → (piece : List ℕ)
     → ((l : Line) → ReadsBack l → line_spelling l ≡ piece → CanStand r l → ⊥) → (behind : List (List ℕ)) → CannotFollow ls piece behind
 follows ls hl r is piece bad behind f good fits next rest e =

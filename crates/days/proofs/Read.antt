@@ -1,4 +1,4 @@
--- What lines that were read have in common with the text.
+-- The lines that were read of a text, and what is wrong with the line behind them.
 use Rattle.std.proofs.Common.{◌≡◌, ℕ, ◌+◌, List, [], ◌∷◌, ◌++◌, length, map, min, eqb, MatchOption}
 use Rattle.std.proofs.Common.{Option, Some, Err, refl, sym, ◌∙◌, ap, subst, append_assoc, length-append, arith}
 use Rattle.std.specs.List.{AllByRecursion, slice_split}
@@ -29,7 +29,8 @@ next_number : (ls : List Line) (l : Line) (n m : ℕ) → n ≡ min (length ls +
     → m ≡ min (length (ls ++ l ∷ []) + 1) 4294967295
 next_number ls l n m h k = omega (arith, length-append ls (l ∷ []))
 
--- the line between the lines so far and the rest was read too
+-- if the text was read up to `rest`, and the first line of `rest` was taken, then the text was read up to `more`, which
+-- comes after that line
 pub read_more : (text rest more bytes : List ℕ) (n m : ℕ) (r new : ReadingValue) → HasRead text rest n r
     → slice_split (λ b. eqb b 10) rest ≡ bytes ∷ slice_split (λ b. eqb b 10) more
     → (l : Line) × (line_spelling l ≡ bytes) × ReadsBack l × CanStand r l × (new ≡ after_line r l) → m ≡ min (n + 1) 4294967295 → HasRead text more m new

@@ -61,7 +61,7 @@ small n f h = bound (number 32 (decimal n)) n f (number-small n h)
 large : {B : Type 0} (n : ℕ) (f : ℕ → Result B LineFault) → n < 2 ^ 64 → (number 64 (decimal n) >>= f) ≡ f n
 large n f h = bound (number 64 (decimal n)) n f (number-large n h)
 
--- a line's words are those of its spelling
+-- if a line is read from words that have no spaces, it is also read from these words joined by spaces
 worded : (w : List ℕ) (ws : List (List ℕ)) (l : Line) → NoSpace w → AllByRecursion NoSpace ws → line_of_words (w ∷ ws) ≡ Ok l
     → line_read (join_with_byte 32 (w ∷ ws)) ≡ Ok l
 worded w ws l h hs e = ap line_of_words (split_joined w ws h hs) ∙ e
@@ -168,7 +168,7 @@ journal_back n digest h b e =
     small n (λ x. digest_by (encode_lower digest) >>= (λ d. Ok (lines.Journal x d))) h
     ∙ bound (digest_by (encode_lower digest)) digest (λ d. Ok (lines.Journal n d)) (digest_back digest b e)
 
--- the values of a point's own line before those that were read last
+-- What has been read of a point's line before its last five words. The other values are 0, false or nothing.
 abbrev begun : Snapshot → State → ℕ → ℕ → ℕ → Snapshot
 begun s state nozzle preset limit = record {
   state = state;

@@ -1,4 +1,4 @@
--- Each line of an opening can stand behind those before it, and all of them are read as that opening.
+-- Each line of an opening can come after those before it, and all of them are read as that opening.
 use Rattle.std.proofs.Common.{◌≡◌, ℕ, zero, suc, ◌+◌, ◌-◌, ◌<◌, ◌≤◌, ◌^◌, ◌⊎◌, inl, inr}
 use Rattle.std.proofs.Common.{List, [], ◌∷◌, ◌++◌, length, set, get_or, replicate, Option, Some, None}
 use Rattle.std.proofs.Common.{refl, sym, ◌∙◌, ap, subst, append_assoc, append-nil, length-append, arith, lit≤}
@@ -21,7 +21,7 @@ use Rattle.days.specs.Reading.{AllStand, CanStand, ReadingValue, after_line, aft
 use Rattle.days.specs.Text.{counter_lines, head_lines, numbered_lines, opening_lines, own_values, point_lines, price_lines, version_lines}
 use Rattle.days.proofs.Taken.{one_counter, one_price}
 
--- The lines can all stand, and lead from the first to the second.
+-- The lines can all come, one after another, when `r` has been read, and what has been read after them is `s`.
 pub record Leads (r : ReadingValue) (ls : List Line) (s : ReadingValue) : Type 0 where
   pub stand : AllStand r ls
   pub after : after_lines r ls ≡ s
@@ -51,13 +51,14 @@ set_front [] (suc i) x y rest e = absurd (omega (arith, e))
 set_front (z ∷ xs) zero x y rest e = absurd (omega (arith, e))
 set_front (z ∷ xs) (suc i) x y rest e = ap (λ ys. z ∷ ys) (set_front xs i x y rest (omega (arith, e)))
 
--- An item without a line is as if it hadn't been read; or it has a line that puts it in its place i.
+-- The item has no line, and is as if it hadn't been read. Or it has one line, which can come next and puts it in its
+-- place i.
 abbrev Fills : {T : Type 0} → (ℕ → List T → ReadingValue) → (ℕ → T → List Line) → T → ℕ → ℕ → ℕ → ℕ → List T → T → Type 0
 Fills St w blank base k i number ys x =
     ((w number x ≡ []) × (x ≡ blank))
     ⊎ ((l : Line) × (w number x ≡ l ∷ []) × CanStand (St k ys) l × (after_line (St k ys) l ≡ St (base + i + 1) (set ys i x)))
 
--- The lines of the items lead to the list with these items.
+-- The lines lead from `r` to the list with the items `ys`. The next place is then from 3 to `most`.
 abbrev Filled : {T : Type 0} → (ℕ → List T → ReadingValue) → ReadingValue → List Line → ℕ → List T → Type 0
 Filled St r ls most ys = (j : ℕ) × (3 ≤ j) × (j ≤ most) × Leads r ls (St j ys)
 
@@ -96,7 +97,7 @@ fill_on St w blank base count k i number xs x zs e ge le on (inr one) =
           (subst (λ b. Leads (St (base + i + 1) ((xs ++ x ∷ []) ++ replicate (length zs) blank)) (numbered_lines w (number + 1) zs) (St rest.0 b)) (append_assoc xs (x ∷ []) zs) rest.3)),
     )
 
--- Each of the items is good where those before it are in their places and nothing else is.
+-- Each of the items is good for the list that has the items before it in their places, and blanks behind them.
 abbrev AllPlaced : {T : Type 0} → (List T → T → Type 0) → T → List T → List T → Type 0
 AllPlaced Good blank xs [] = Unit {0}
 AllPlaced Good blank xs (x ∷ zs) = Good (xs ++ replicate (length (x ∷ zs)) blank) x × AllPlaced Good blank (xs ++ x ∷ []) zs
@@ -118,7 +119,8 @@ fill St w blank n base count Good item k i number xs (x ∷ zs) e ge le total at
 
 -- ---- slots, products and counters
 
--- What is read of an opening's file before its last line, where the next place is k.
+-- What has been read of an opening's file before its last line, with these slots, prices, counters and points. The next
+-- place is k.
 abbrev stage : OpeningFile → List (Option Version) → List ℕ → List (ℕ × ℕ) → List PointState → ℕ → ReadingValue
 stage f rs ps cs qs k = record {
   next = k;
@@ -149,7 +151,7 @@ abbrev IsPlacedRule : ℕ → List (Option Version) → Option Version → Type 
 IsPlacedRule versions ys None = Unit {0}
 IsPlacedRule versions ys (Some v) = IsRule versions (Some v) × IsNewNumber ys v.number
 
--- what doesn't stand in a list with a version isn't that version's number
+-- a number that is new to a list of slots isn't the number of any version in it
 new_past : (xs zs : List (Option Version)) (v : Version) (n : ℕ) → IsNewNumber (xs ++ Some v ∷ zs) n → (n == v.number) ≡ false
 new_past [] zs v n h = h.0
 new_past (None ∷ xs) zs v n h = new_past xs zs v n h
@@ -324,7 +326,7 @@ head_leads f h = record {
   after = refl;
 }
 
--- The lines of an opening can all stand, one behind another, and what is then read is that opening.
+-- The lines of an opening can all come, one after another, and what is then read is that opening.
 pub opening_leads : (f : OpeningFile) → IsOpeningFile f → Leads nothing_read (opening_lines f) (record { next = 61; file = f })
 opening_leads f h =
     let R : List Line = numbered_lines version_lines 0 f.opening.rules in

@@ -27,11 +27,11 @@ use Rattle.days.specs.Text.{counter_lines, head_lines, line_spelling, line_text,
 use Rattle.days.specs.Text.{opening_text, own_values, point_lines, price_lines, version_lines}
 use Rattle.days.proofs.Numbered.{NoneFrom, none_more, none_placed, numbered_both, numbered_placed, numbered_set}
 
--- The last line, once it was read.
+-- The last line of an opening, if it was read.
 abbrev pub ending : ℕ → OpeningFile → List Line
 ending next f = cond (nat_lt 60 next) (lines.Journal f.entries f.digest ∷ []) []
 
--- The lines behind the first three of what was read.
+-- The lines of what was read, from those of points on. Below: the same from those of counters, products and slots on.
 abbrev pub points_on : ℕ → OpeningFile → List Line
 points_on next f = numbered_lines point_lines 1 f.opening.points ++ ending next f
 
@@ -48,7 +48,8 @@ rules_on next f = numbered_lines version_lines 0 f.opening.rules ++ prices_on ne
 abbrev pub lines_read : ReadingValue → List Line
 lines_read r = take r.next (head_lines r.file) ++ rules_on r.next r.file
 
--- What holds of all that is read. What comes at a later place has no line yet.
+-- What holds of what has been read, after any number of lines. No slot, product or counter whose place is `next` or a
+-- later one has a line yet. There are points only if `next` is 59 or more.
 pub record IsReading (r : ReadingValue) : Type 0 where
   pub few : r.next ≤ 61
   pub day : 1 ≤ r.next → 2 ≤ r.file.day
@@ -72,7 +73,7 @@ pub record IsReading (r : ReadingValue) : Type 0 where
   pub rules : All (IsRule r.file.opening.versions) r.file.opening.rules
   pub distinct : HaveOwnNumbers r.file.opening.rules
 
--- What holds of all that is read still holds after the line, and that is the last line.
+-- `IsReading` holds after the line. `lines_read` is then what it was before, with this line added at its end.
 pub record Goes (r : ReadingValue) (l : Line) : Type 0 where
   pub is : IsReading (after_line r l)
   pub lines : lines_read (after_line r l) ≡ lines_read r ++ l ∷ []
@@ -81,11 +82,11 @@ pub record Goes (r : ReadingValue) (l : Line) : Type 0 where
 snoc : (xs ys : List Line) (l : Line) → ys ≡ [] → (xs ++ l ∷ []) ++ ys ≡ (xs ++ ys) ++ l ∷ []
 snoc xs ys l h = ap (λ zs. (xs ++ l ∷ []) ++ zs) h ∙ append-nil (xs ++ l ∷ []) ∙ ap (λ zs. zs ++ l ∷ []) (sym (append-nil xs) ∙ ap (λ zs. xs ++ zs) (sym h))
 
--- a list that ends in the line, behind another
+-- if a list ends in a line, it still does with another list in front of it
 behind : (xs ys zs : List Line) (l : Line) → ys ≡ zs ++ l ∷ [] → xs ++ ys ≡ (xs ++ zs) ++ l ∷ []
 behind xs ys zs l h = ap (λ ws. xs ++ ws) h ∙ sym (append_assoc xs zs (l ∷ []))
 
--- the first three lines, where they were all read
+-- if the first three lines were read, `lines_read` begins with all of them
 heads : (r : ReadingValue) → 3 ≤ r.next → take r.next (head_lines r.file) ≡ head_lines r.file
 heads r h = take_all r.next (head_lines r.file) h
 
@@ -104,11 +105,12 @@ no_prices_on : (next : ℕ) (f : OpeningFile) → numbered_lines price_lines 1 f
     → prices_on next f ≡ []
 no_prices_on next f p c h k = ap (λ ls. ls ++ counters_on next f) p ∙ no_counters_on next f c h k
 
--- nothing has a line from the first place on, if that is where the next line is
+-- if no item has a line from the first place on, then the list has no lines
 none_yet : {T : Type 0} (w : ℕ → T → List Line) (n i : ℕ) (xs : List T) → i ≡ 0 → NoneFrom w n i xs → numbered_lines w n xs ≡ []
 none_yet w n i xs e h = subst (λ j. NoneFrom w n j xs) e h
 
--- a list that got the line, in front of nothing
+-- if a list gets one more line at its end, and the list behind it is empty before and after, then the two together get
+-- this line at their end
 grown : (ps ps' xs xs' : List Line) (l : Line) → ps' ≡ ps ++ l ∷ [] → xs' ≡ [] → xs ≡ [] → ps' ++ xs' ≡ (ps ++ xs) ++ l ∷ []
 grown ps ps' xs xs' l e h' h =
     ap (λ zs. ps' ++ zs) h' ∙ append-nil ps' ∙ e ∙ ap (λ zs. zs ++ l ∷ []) (sym (append-nil ps) ∙ ap (λ zs. ps ++ zs) (sym h))
@@ -537,7 +539,7 @@ goes r (lines.Unpaid n t) h c =
     subst Q (sym c.0) (unpaid_goes r.file n t (subst P c.0 h) (refl, c.1, c.2, c.3))
 goes r (lines.Journal entries digest) h c = journal_goes r entries digest h c
 
--- what holds after all lines, if they could all stand
+-- `IsReading` holds after these lines. `lines_read` is then what it was before, with these lines added at its end.
 pub record Gone (r : ReadingValue) (ls : List Line) : Type 0 where
   pub is : IsReading (after_lines r ls)
   pub lines : lines_read (after_lines r ls) ≡ lines_read r ++ ls
@@ -551,7 +553,7 @@ all_gone r (l ∷ ls) h s =
       lines = rest.lines ∙ ap (λ ms. ms ++ ls) one.lines ∙ append_assoc (lines_read r) (l ∷ []) ls;
     }
 
--- before the first line nothing was read
+-- `IsReading` holds before the first line
 pub nothing_is : IsReading nothing_read
 nothing_is = record {
   few = lit≤ tt;

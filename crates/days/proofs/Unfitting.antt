@@ -24,7 +24,7 @@ use Rattle.days.specs.declared.fitting.Misfit.TheVariants as misfit
 over_none : (value bound least : ℕ) (v : ℕ) → value ≡ v → bound ≡ least → bound < value → v ≤ least → ⊥
 over_none value bound least v a b over within = omega (arith, a, b, over, within)
 
--- where each transaction is held by nobody or by a till that there is, no other is found
+-- if each transaction is held by nobody or by one of the tills 1 to `tills`, then `first_held` finds none
 found_not : (tills : ℕ) (ts : List Transaction) → All (HasTill tills) ts → first_held tills ts ≡ None
 found_not tills [] all = refl
 found_not tills (u ∷ ts) all =
@@ -61,7 +61,7 @@ faulty_none count o fault.Rules h good = absurd (h.1 good.rules)
 faulty_none count o fault.Twice h good = absurd (h.1 good.distinct)
 faulty_none count o fault.OutOfMemory h good = refl
 
--- the counters of a site that begins with an opening are told by their values and bounds
+-- there is at most one list of 32 counters that has these values and these bounds
 cells_once : (values bounds a b : Counters) → AreBounded values bounds a → AreBounded values bounds b → length a ≡ 32 → length b ≡ 32 → a ≡ b
 cells_once values bounds a b h k long same = ext_get_or (0, 0) a b (long ∙ sym same) (λ c lt. h c (omega (arith, long, lt)) ∙ sym (k c (omega (arith, long, lt))))
 

@@ -25,7 +25,8 @@ adds_both a b c ls ms h k =
 pub adds_three : (a b c d : List ℕ) (ls ms ns : List Line) → AddsLines a b ls → AddsLines b c ms → AddsLines c d ns → AddsLines a d (ls ++ (ms ++ ns))
 adds_three a b c d ls ms ns h k g = adds_both a b d ls (ms ++ ns) h (adds_both b c d ms ns k g)
 
--- the lines of one more item
+-- if the lines of the items before item i were appended, and then those of item i, then those of the first i + 1 items
+-- were
 pub adds_item : {T : Type 0} (w : ℕ → T → List Line) (n : ℕ) (xs : List T) (i : ℕ) (d : T) (a b c : List ℕ) → i < length xs
     → AddsLines a b (numbered_lines w n (take i xs)) → AddsLines b c (w (n + i) (get_or xs i d)) → AddsLines a c (numbered_lines w n (take (i + 1) xs))
 adds_item w n xs i d a b c lt h k =
@@ -64,7 +65,8 @@ adds_counter xs i value bound a b c lt right v w h k =
     let R : ℕ → Type 0 = λ m. AddsLines b c (counter_lines m (counter xs i)) in
     adds_item counter_lines 0 xs i (0, 0) a b c short h (subst R e (subst Q w (subst P v k)))
 
--- all items, where a list is taken up to its length
+-- if the lines of the first i items were appended, and the list has no more than i items, then the lines of all its
+-- items were
 pub adds_whole : {T : Type 0} (w : ℕ → T → List Line) (n : ℕ) (xs : List T) (i : ℕ) (a b : List ℕ) → length xs ≤ i
     → AddsLines a b (numbered_lines w n (take i xs)) → AddsLines a b (numbered_lines w n xs)
 adds_whole w n xs i a b ge h =

@@ -4,8 +4,8 @@ use Rattle.fuelling_point.specs.Snapshot.{IsPointState}
 use Rattle.site_core.specs.Opening.{IsOpening}
 use Rattle.days.specs.declared.file.OpeningFile.{OpeningFile}
 
--- A site with this number of points can begin with the opening, and each point has values in their ranges. There are 8
--- products. The day isn't the first.
+-- A site with as many points as the opening has can begin with it, and the values of each point are in their ranges.
+-- The opening has the prices of 8 products. Its day is day 2 or a later one.
 pub record IsOpeningFile (f : OpeningFile) : Type 0 where
   pub day : 2 ≤ f.day
   pub opening : IsOpening (length f.opening.points) f.opening

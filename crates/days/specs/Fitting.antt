@@ -6,15 +6,15 @@ use Rattle.fuelling_point.specs.declared.kinds.Transaction.{Transaction}
 use Rattle.site_core.specs.Limits.{ConfigValue}
 use Rattle.site_core.specs.Opening.{IsOpening, OpeningValue}
 
--- A transaction is held by nobody, or by one of these many tills.
+-- The transaction is held by nobody, or by one of the tills 1 to `tills`. Nobody holds it if its holder is 0.
 abbrev pub HasTill : ℕ → Transaction → Type 0
 HasTill tills t = t.holder ≤ tills
 
--- Each unpaid transaction of the points is held by nobody, or by one of these many tills.
+-- Each unpaid transaction of the points is held by nobody, or by one of the tills 1 to `tills`.
 abbrev pub HaveTills : ℕ → List PointState → Type 0
 HaveTills tills points = All (λ (p : PointState). All (HasTill tills) p.unpaid) points
 
--- Each counter's value is at most its bound among others.
+-- The value of each counter in `values` is at most its bound in `bounds`.
 abbrev pub AreWithin : Counters → Counters → Type 0
 AreWithin values bounds = (c : ℕ) → c < 32 → (counter values c).0 ≤ (counter bounds c).1
 
@@ -25,12 +25,13 @@ pub record Fits (config : ConfigValue) (o : OpeningValue) : Type 0 where
   pub tills : HaveTills config.tills o.points
   pub counters : AreWithin o.counters config.counters
 
--- The counters have these values, and the bounds of others.
+-- The counters `cells` have the values in `values` and the bounds in `bounds`.
 abbrev pub AreBounded : Counters → Counters → Counters → Type 0
 AreBounded values bounds cells = (c : ℕ) → c < 32 → counter cells c ≡ ((counter values c).0, (counter bounds c).1)
 
--- The configuration of a site that begins with this opening: the bounds of the counters are its own, as they were. The
--- opening with these counters is one that a site with as many points can begin with.
+-- The opening `o` fits `config`, and `begun` is the configuration of a site of `config` that begins with it: `config`
+-- with the opening `o`, whose counters keep their values and have the bounds in `config`. The opening with these
+-- counters is one that a site with as many points as `config` has can begin with.
 abbrev pub BeginsWith : ConfigValue → OpeningValue → ConfigValue → Type 0
 BeginsWith config o begun =
     Fits config o

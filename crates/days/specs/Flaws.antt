@@ -13,7 +13,7 @@ use Rattle.days.specs.Ranges.{FileFits}
 use Rattle.days.specs.Reading.{program_in}
 use Rattle.days.specs.Text.{line_spelling, opening_lines, opening_text}
 
--- The text is that of no other opening.
+-- The text is that of no other opening than `file`.
 abbrev pub IsOnly : List ℕ → OpeningFile → Type 0
 IsOnly text file = (f : OpeningFile) → IsOpeningFile f → FileFits f → opening_text f ≡ text → f ≡ file
 
@@ -25,15 +25,16 @@ HasNoOpening text = (f : OpeningFile) → IsOpeningFile f → FileFits f → ope
 abbrev pub pieces : List ℕ → List (List ℕ)
 pieces text = slice_split (λ b. b == 10) text
 
--- The lines are the first ones of an opening.
+-- The lines are the first lines of some opening.
 pub record BeginOne (lines : List Line) : Type 0 where
   pub f : OpeningFile
   pub good : IsOpeningFile f
   pub more : List Line
   pub lines_are : opening_lines f ≡ lines ++ more
 
--- The piece of a text with this number, counted from 1: the pieces before it are the first lines of an opening, and
--- `IsSo` holds of it. A number above 4,294,967,295 is given as 4,294,967,295.
+-- The text has a piece with this number, counted from 1. The pieces before it are the first lines of an opening, and
+-- `IsSo` holds of these lines, the piece, and the pieces behind it. A number above 4,294,967,295 is given as
+-- 4,294,967,295.
 pub record IsPiece (text : List ℕ) (number : ℕ) (IsSo : List Line → List ℕ → List (List ℕ) → Type 0) : Type 0 where
   pub before : List Line
   pub begin_one : BeginOne before
@@ -43,7 +44,7 @@ pub record IsPiece (text : List ℕ) (number : ℕ) (IsSo : List Line → List �
   pub number_is : number ≡ min (length before + 1) 4294967295
   pub so : IsSo before piece behind
 
--- No opening's text begins with these lines and then with this piece as a line.
+-- No opening's text begins with the lines `before` and then has this piece as its next line.
 abbrev pub CannotFollow : List Line → List ℕ → List (List ℕ) → Type 0
 CannotFollow before piece behind =
     (f : OpeningFile) → IsOpeningFile f → FileFits f → (next : List ℕ) (rest : List (List ℕ))
@@ -58,8 +59,8 @@ abbrev pub IsRefusedLine : Refusal → List Line → List ℕ → List (List ℕ
 IsRefusedLine refusal before piece behind =
     (line : Line) × (line_spelling line ≡ piece) × ((p : ProgramText) × (program_in line ≡ Some p) × (refusal_of p ≡ Some refusal))
 
--- What holds of a text, for each flaw: the text isn't that of an opening, and the line is the first that no opening has
--- after the lines before it.
+-- The text has this flaw: it isn't that of an opening, the lines before the flaw's line are the first lines of one, and
+-- the flaw's line is wrong as the flaw says. If memory ran out, nothing is claimed.
 abbrev pub IsFlaw : List ℕ → OpeningFlaw → Type 0
 IsFlaw text (BadLine n) = HasNoOpening text × IsPiece text n CannotFollow
 IsFlaw text (CutLine n) = HasNoOpening text × IsPiece text n IsCut

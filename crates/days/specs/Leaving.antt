@@ -8,8 +8,9 @@ use Rattle.site_core.specs.declared.opening.OpeningFault.TheVariants.{OutOfMemor
 use Rattle.days.specs.declared.file.Uncarried.{Uncarried}
 use Rattle.days.specs.declared.file.Uncarried.TheVariants.{Fault, LastDay}
 
--- Why the site of day `number` leaves no opening: there is no next number; or there is one, and no site with this number
--- of points can begin with what the site leaves; or one can, and memory ran out.
+-- The reason is right: it is why the site of day `number` leaves no opening. Either `number` is the greatest that a day
+-- can have. Or it isn't, and no site with as many points as this one can begin with what it leaves. Or one can, and
+-- memory ran out.
 abbrev pub IsUncarried : ℕ → SiteValue → Uncarried → Type 0
 IsUncarried number site LastDay = number ≡ 4294967295
 IsUncarried number site (Fault fault) =

@@ -13,7 +13,8 @@ use Rattle.days.specs.declared.beginning.Unfit.TheVariants as unfit
 use Rattle.days.specs.declared.fitting.Misfit.{Misfit}
 use Rattle.days.specs.declared.fitting.Misfit.TheVariants as misfit
 
--- The first counter whose value among these counters is over its bound among others, with both.
+-- Counter `m.0` is the first one whose value in `values` is over its bound in `bounds`. `m.1` is this value, and `m.2`
+-- is this bound.
 abbrev pub IsOver : Counters → Counters → ℕ × ℕ × ℕ → Type 0
 IsOver values bounds m =
     (m.0 < 32) × (m.1 ≡ (counter values m.0).0) × (m.2 ≡ (counter bounds m.0).1) × (m.2 < m.1)
@@ -23,15 +24,15 @@ IsOver values bounds m =
 abbrev pub first_held : ℕ → List Transaction → Option Transaction
 first_held tills transactions = find (λ (t : Transaction). nat_lt tills t.holder) transactions
 
--- The point at this place, counted from 0, is the first one with an unpaid transaction that is held by a till with a
--- number over `tills`. This is the first such transaction of the point.
+-- The point at place `at`, counted from 0, is the first one with an unpaid transaction that is held by a till with a
+-- number over `tills`. `t` is the first such transaction of this point.
 pub record IsHeldOver (tills : ℕ) (points : List PointState) (at : ℕ) (t : Transaction) : Type 0 where
   pub within : at < length points
   pub before : HaveTills tills (take at points)
   pub held : IfSome (slice_get points at) (λ p. first_held tills p.unpaid ≡ Some t)
 
--- Why the opening doesn't fit, with the numbers of both. The points are compared first, then the tills, and then the
--- counters.
+-- The reason is right: it is the first reason why the opening doesn't fit the configuration, and has the numbers of
+-- both. The points are compared first, then the tills, and then the counters.
 abbrev pub Misfits : ConfigValue → OpeningValue → Misfit → Type 0
 Misfits config o (misfit.Points points there) = (points ≡ length o.points) × (there ≡ length config.points) × (points ≢ there)
 Misfits config o (misfit.Till at t tills) =
@@ -39,9 +40,9 @@ Misfits config o (misfit.Till at t tills) =
 Misfits config o (misfit.Counter c value bound) =
     (length o.points ≡ length config.points) × HaveTills config.tills o.points × IsOver o.counters config.counters (c, value, bound)
 
--- Why no site of this configuration begins with the opening: they don't fit each other. Or they do, and no site with
--- this number of points can begin with the opening once its counters have the configuration's bounds; or one can, and
--- memory ran out.
+-- The reason is right: it is why no site of this configuration begins with the opening. Either the two don't fit each
+-- other. Or they do, and no site with the configuration's number of points can begin with the opening once its counters
+-- have the configuration's bounds. Or one can, and memory ran out.
 abbrev pub IsUnfit : ConfigValue → OpeningValue → Unfit → Type 0
 IsUnfit config o (unfit.Misfit m) = Misfits config o m
 IsUnfit config o (unfit.Fault fault) =
@@ -54,6 +55,6 @@ IsUnfit config o (unfit.Fault fault) =
 abbrev pub CannotBegin : ConfigValue → OpeningValue → Type 0
 CannotBegin config o = (begun : ConfigValue) → BeginsWith config o begun → ⊥
 
--- Memory ran out.
+-- The reason is that memory ran out.
 abbrev pub IsWant : Unfit → Type 0
 IsWant u = u ≡ unfit.Fault OutOfMemory

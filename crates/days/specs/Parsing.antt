@@ -64,24 +64,26 @@ abbrev pub counter_of : List (List ℕ) → Result Line LineFault
 counter_of (c ∷ v ∷ b ∷ []) = counter_with c v b
 counter_of ws = Err BadLine
 
--- The state of a number; any number but 1 to 8 is taken for 9.
+-- The state with this number. Any number but 1 to 8 is taken for 9.
 abbrev pub state_with : ℕ → State
 state_with n =
     if n == 1 then states.Inoperative else if n == 2 then states.Closed else if n == 3 then states.Idle else if n == 4 then states.Calling
     else if n == 5 then states.Authorised else if n == 6 then states.Started else if n == 7 then states.SuspendedStarted
     else if n == 8 then states.Fuelling else states.SuspendedFuelling
 
--- The order that a short word names; any unknown word is taken for `stop`.
+-- The order that a word of at most ten bytes names, or None for `none`. Any unknown word is taken for `stop`.
 abbrev pub short_order : List ℕ → Option Order
 short_order w =
     if bytes_eq w (codes "none") then None else if bytes_eq w (codes "suspend") then Some orders.Suspend
     else if bytes_eq w (codes "resume") then Some orders.Resume else Some orders.Stop
 
--- An order; any word of more than ten bytes is taken for `authorise:` and an amount.
+-- The order that a word names, or None for `none`. Any word of more than ten bytes is taken for `authorise:` and an
+-- amount.
 abbrev pub order_read : List ℕ → Result (Option Order) LineFault
 order_read w = if nat_lt 10 (length w) then (number 64 (drop 10 w) >>= (λ a. Ok (Some (orders.Authorise a)))) else Ok (short_order w)
 
--- The first values of a point's line, and the last ones.
+-- The values in a point's line are read in two parts. `point_begun` reads the state, the nozzle, the preset and the
+-- limit, and `point_ended` adds the others.
 abbrev pub point_begun : List ℕ → List ℕ → List ℕ → List ℕ → Result Snapshot LineFault
 point_begun s z p l =
     number 32 s >>= (λ state'. number 32 z >>= (λ nozzle'. number 64 p >>= (λ preset'. number 64 l >>= (λ limit'. Ok (record {
@@ -132,7 +134,7 @@ abbrev pub journal_of : List (List ℕ) → Result Line LineFault
 journal_of (n ∷ d ∷ []) = journal_with n d
 journal_of ws = Err BadLine
 
--- Reads the words behind a line's name; any unknown name is taken for `versions`.
+-- Reads a line from its name and the words behind its name. Any unknown name is taken for `versions`.
 abbrev pub line_named : List ℕ → List (List ℕ) → Result Line LineFault
 line_named name ws =
     if bytes_eq name (codes "price") then price_of ws else if bytes_eq name (codes "counter") then counter_of ws

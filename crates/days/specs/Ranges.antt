@@ -13,19 +13,22 @@ abbrev pub OrderFits : Option Order → Type 0
 OrderFits (Some (orders.Authorise amount)) = amount < 2 ^ 64
 OrderFits order = Unit {0}
 
--- The preset, the limit and the amount of the order are below 2^64, and tills below 2^32.
+-- The preset, the limit, and the amount in a pending order are below 2^64. The numbers of the tills that hold
+-- transactions are below 2^32.
 pub record PointFits (p : PointState) : Type 0 where
   pub preset : p.preset < 2 ^ 64
   pub limit : p.limit < 2 ^ 64
   pub order : OrderFits p.order
   pub holders : All (λ (t : Transaction). t.holder < 2 ^ 32) p.unpaid
 
--- The mask of a program is below 2^32, and its bytes are below 256.
+-- If there is a version, the mask of its program is below 2^32, and each byte of the program is below 256.
 abbrev pub VersionFits : Option Version → Type 0
 VersionFits None = Unit {0}
 VersionFits (Some v) = (v.program.declared < 2 ^ 32) × IsBytes v.program.bytes
 
--- What a file can hold besides: days and numbers of entries are below 2^32, a digest has 32 bytes, and there are fewer than 2^64 points.
+-- The numbers that `IsOpeningFile` doesn't bound are in the ranges of their types: the day and the number of entries
+-- are below 2^32, the digest is 32 bytes, and there are fewer than 2^64 points. `PointFits` holds of each point, and
+-- `VersionFits` of each slot.
 pub record FileFits (f : OpeningFile) : Type 0 where
   pub day : f.day < 2 ^ 32
   pub entries : f.entries < 2 ^ 32

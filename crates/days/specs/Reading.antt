@@ -21,14 +21,15 @@ use Rattle.days.specs.declared.file.OpeningFlaw.TheVariants as flaws
 use Rattle.days.specs.Parsing.{line_read}
 use Rattle.days.specs.Text.{line_spelling}
 
--- What has been read. Lines have places, which rise: 0, 1 and 2 are those of the first three lines, 3 to 18 of slots 0 to 15, 19 to 26 of
--- products 1 to 8, 27 to 58 of counters 0 to 31, 59 of all lines of points, and 60 of the last line. `next` is the least place that the next line
--- can have, or 61 after the last line. What hasn't been read is 0 or nothing in `file`.
+-- What has been read of an opening. Each line has a place, and no place is less than that of the line before. The first
+-- three lines have the places 0 to 2, slots 0 to 15 have 3 to 18, products 1 to 8 have 19 to 26, counters 0 to 31 have
+-- 27 to 58, all lines of points have 59, and the last line has 60. `next` is the least place that the next line can
+-- have, or 61 after the last line. What hasn't been read is 0 or nothing in `file`.
 pub record ReadingValue : Type 0 where
   pub next : ℕ
   pub file : OpeningFile
 
--- Before the first line nothing has been read.
+-- What has been read before the first line: nothing.
 abbrev pub nothing_read : ReadingValue
 nothing_read = record {
   next = 0;
@@ -48,15 +49,15 @@ nothing_read = record {
   };
 }
 
--- The state of a point, after one more unpaid transaction.
+-- The state of the point with one more unpaid transaction, behind the others.
 abbrev pub with_unpaid : PointState → Transaction → PointState
 with_unpaid p t = record p { unpaid = p.unpaid ++ t ∷ [] }
 
--- The point of this number.
+-- The point with this number, counted from 1. If there are fewer points, it is a new one.
 abbrev pub point_at : List PointState → ℕ → PointState
 point_at points n = slice_index_or points (n - 1) fresh_point
 
--- The line can come next.
+-- The line can come next after what has been read, and its values are allowed there.
 abbrev pub CanStand : ReadingValue → Line → Type 0
 CanStand r (lines.Day n) = (r.next ≡ 0) × (2 ≤ n)
 CanStand r (lines.Cleared total count) = (r.next ≡ 1) × (total ≤ 1000000000000000000) × (count ≤ 1000000000000000000)
@@ -72,7 +73,7 @@ CanStand r (lines.Unpaid n t) =
     (r.next ≡ 59) × (1 ≤ n) × (n ≡ length r.file.opening.points) × IsPointState (with_unpaid (point_at r.file.opening.points n) t)
 CanStand r (lines.Journal entries digest) = (3 ≤ r.next) × (r.next ≤ 60)
 
--- What has been read after a line of a slot, a product, a counter or a point.
+-- What has been read, with `next` and `opening` in place of what it had for them.
 abbrev pub with_opening : ReadingValue → ℕ → OpeningValue → ReadingValue
 with_opening r next opening = record { next = next; file = record r.file { opening = opening } }
 
@@ -99,33 +100,37 @@ abbrev pub program_in : Line → Option ProgramText
 program_in (lines.Version slot number mask layout bytes) = Some (as_loaded bytes mask layout)
 program_in line = None
 
--- The verifier refuses the program of the line for this reason.
+-- There is a program, and the verifier refuses it for this reason.
 abbrev pub IsRefusedIn : Option ProgramText → Refusal → Type 0
 IsRefusedIn None refusal = ⊥
 IsRefusedIn (Some p) refusal = refusal_of p ≡ Some refusal
 
--- Memory may run out for the line: it is a point's and can come next, or a version's that could with another program.
+-- Taking the line needs memory. It is a point's line that can come next, or a version's line that could come next with
+-- a program that the verifier accepts.
 abbrev pub TakesMemory : ReadingValue → Line → Type 0
 TakesMemory r (lines.Version slot number mask layout bytes) =
     (3 ≤ r.next) × (r.next ≤ 3 + slot) × (slot < 16) × (1 ≤ number) × (number ≤ r.file.opening.versions) × IsNewNumber r.file.opening.rules number
 TakesMemory r (lines.Point n s) = CanStand r (lines.Point n s)
 TakesMemory r line = ⊥
 
--- The line was taken, and could come next; or it couldn't. Or its place and number are right, and its program is refused, or memory ran out.
+-- The result of taking a line: it could come next, and was taken. Or it couldn't come next (`Misplaced`). Or it could
+-- but for its program, which the verifier refuses. Or taking it needs memory, which ran out. After an error nothing is
+-- claimed of `new`.
 abbrev pub Steps : ReadingValue → Line → Result (Unit {0}) StepFault → ReadingValue → Type 0
 Steps old line (Ok u) new = CanStand old line × (new ≡ after_line old line)
 Steps old line (Err Misplaced) new = CanStand old line → ⊥
 Steps old line (Err (Refused refusal)) new = TakesMemory old line × IsRefusedIn (program_in line) refusal
 Steps old line (Err OutOfMemory) new = TakesMemory old line
 
--- The version has the number and the program, which is good and accepted; or the program is refused; or memory ran out.
+-- The result is a version with this number and this program, which is good and which the verifier accepts. Or the
+-- verifier refuses the program for the given reason. Or memory ran out.
 abbrev pub Verified : ℕ → ProgramText → Result Version StepFault → Type 0
 Verified number p (Ok v) = (v ≡ record { number = number; program = p }) × IsGood p × (refusal_of p ≡ None)
 Verified number p (Err Misplaced) = ⊥
 Verified number p (Err (Refused refusal)) = refusal_of p ≡ Some refusal
 Verified number p (Err OutOfMemory) = Unit {0}
 
--- Each of the lines can come after those before it.
+-- Each of the lines can come next after what has been read and the lines before it.
 abbrev pub AllStand : ReadingValue → List Line → Type 0
 AllStand r [] = Unit {0}
 AllStand r (line ∷ rest) = CanStand r line × AllStand (after_line r line) rest
@@ -138,15 +143,17 @@ after_lines r (line ∷ rest) = after_lines (after_line r line) rest
 abbrev pub ReadsBack : Line → Type 0
 ReadsBack line = line_read (line_spelling line) ≡ Ok line
 
--- These bytes are the spelling of the line that was read. If the fault is `Misplaced`, they aren't the spelling of any that is read back.
+-- The result of reading these bytes as a line. It is a line that is read back from its spelling, which these bytes are.
+-- Or it is `Misplaced`, and there is no such line. Or memory ran out, and nothing is claimed.
 abbrev pub LineFound : List ℕ → Result Line StepFault → Type 0
 LineFound bytes (Ok line) = (line_spelling line ≡ bytes) × ReadsBack line
 LineFound bytes (Err Misplaced) = (line : Line) → ReadsBack line → line_spelling line ≡ bytes → ⊥
 LineFound bytes (Err (Refused refusal)) = ⊥
 LineFound bytes (Err OutOfMemory) = Unit {0}
 
--- The line of this number, whose bytes these are, was taken; or no line that can come next has these bytes; or its
--- program is refused; or memory ran out.
+-- The result of taking the line with this number and these bytes. It was taken. Or no line that can come next has these
+-- bytes (`BadLine` with this number). Or the verifier refuses its program (`BadProgram` with this number). Or memory
+-- ran out, and nothing is claimed.
 abbrev pub Takes : ℕ → List ℕ → ReadingValue → Result (Unit {0}) OpeningFlaw → ReadingValue → Type 0
 Takes number bytes old (Ok u) new = (line : Line) × (line_spelling line ≡ bytes) × ReadsBack line × CanStand old line × (new ≡ after_line old line)
 Takes number bytes old (Err (flaws.BadLine n)) new =
@@ -156,8 +163,8 @@ Takes number bytes old (Err (flaws.BadProgram n refusal)) new =
     (n ≡ number) × ((line : Line) × (line_spelling line ≡ bytes) × ReadsBack line × IsRefusedIn (program_in line) refusal)
 Takes number bytes old (Err flaws.OutOfMemory) new = Unit {0}
 
--- Lines were read from a text, up to the rest: each is read back from its spelling, and could come after those before
--- it. The next line has this number, but at most 4,294,967,295.
+-- The text was read line by line up to `rest`. Each line is read back from its spelling, and could come after those
+-- before it. `r` is what has been read, and `number` is that of the next line, but at most 4,294,967,295.
 pub record HasRead (text rest : List ℕ) (number : ℕ) (r : ReadingValue) : Type 0 where
   pub taken : List Line
   pub split : slice_split (λ b. b == 10) text ≡ map line_spelling taken ++ slice_split (λ b. b == 10) rest
@@ -166,7 +173,8 @@ pub record HasRead (text rest : List ℕ) (number : ℕ) (r : ReadingValue) : Ty
   pub is : r ≡ after_lines nothing_read taken
   pub number_is : number ≡ min (length taken + 1) 4294967295
 
--- Lines were read, and then came these bytes, which aren't the spelling of a line that can come next.
+-- The lines before line `number` of the text were read, and the bytes of that line aren't the spelling of a line that
+-- can come next. A number above 4,294,967,295 is given as 4,294,967,295, here and in the next two records.
 pub record BadBehind (text : List ℕ) (number : ℕ) : Type 0 where
   pub rest : List ℕ
   pub r : ReadingValue
@@ -176,7 +184,7 @@ pub record BadBehind (text : List ℕ) (number : ℕ) : Type 0 where
   pub next : slice_split (λ b. b == 10) rest ≡ line ∷ slice_split (λ b. b == 10) behind
   pub bad : (l : Line) → ReadsBack l → line_spelling l ≡ line → CanStand r l → ⊥
 
--- The line of this number is cut off: lines were read, and then came bytes without LF.
+-- Line `number` of the text is cut off: the lines before it were read, and behind them are bytes without an LF.
 pub record CutBehind (text : List ℕ) (number : ℕ) : Type 0 where
   pub rest : List ℕ
   pub r : ReadingValue
@@ -185,7 +193,8 @@ pub record CutBehind (text : List ℕ) (number : ℕ) : Type 0 where
   pub line : List ℕ
   pub cut : slice_split (λ b. b == 10) rest ≡ line ∷ []
 
--- The program of the line of this number is refused.
+-- The lines before line `number` of the text were read, and the verifier refuses the program of that line for this
+-- reason.
 pub record RefusedBehind (text : List ℕ) (number : ℕ) (refusal : Refusal) : Type 0 where
   pub rest : List ℕ
   pub r : ReadingValue
@@ -196,7 +205,7 @@ pub record RefusedBehind (text : List ℕ) (number : ℕ) (refusal : Refusal) : 
   pub back : ReadsBack line
   pub refused : IsRefusedIn (program_in line) refusal
 
--- What is wrong with a text, for each flaw.
+-- The text has this flaw in the line that the flaw names. If memory ran out, nothing is claimed.
 abbrev pub Flawed : List ℕ → OpeningFlaw → Type 0
 Flawed text (flaws.BadLine n) = BadBehind text n
 Flawed text (flaws.CutLine n) = CutBehind text n

@@ -10,6 +10,6 @@ abbrev pub with_line : List ℕ → List (List ℕ) → List ℕ
 with_line text [] = text
 with_line text (name ∷ words) = with_words (text ++ name) words
 
--- The second text is the first one and the texts of these lines.
+-- The new text is the old one, followed by the texts of these lines.
 abbrev pub AddsLines : List ℕ → List ℕ → List Line → Type 0
 AddsLines old new lines = new ≡ old ++ flat_map line_text lines

@@ -1,4 +1,5 @@
--- Definitions: the words for why the site of a day leaves no opening, and for why none begins with one (this profile).
+-- Definitions: the words for why the site of a day leaves no opening, and for why no site begins with an opening (this
+-- profile).
 use Rattle.std.specs.Prelude.{ℕ, ◌+◌, List, ◌++◌, codes, min}
 use Rattle.std.specs.Fmt.{decimal}
 use Rattle.fuelling_point.specs.declared.kinds.Transaction.{Transaction}
@@ -23,7 +24,7 @@ held_by_text t tills =
 abbrev pub over_bound_text : ℕ → ℕ → List ℕ
 over_bound_text value bound = codes "has the value " ++ (decimal value ++ (codes ", its bound in the configuration is " ++ decimal bound))
 
--- Points are counted from 1 here, up to 2^64 - 1.
+-- The words for why an opening doesn't fit a configuration. Points are counted from 1 here, up to 2^64 - 1.
 abbrev pub misfit_text : Misfit → List ℕ
 misfit_text (misfit.Points points there) =
     codes "points: " ++ (decimal points ++ (codes " in the opening, " ++ (decimal there ++ codes " in the configuration")))

@@ -4,8 +4,8 @@ use site_core::Config;
 use std::fmt;
 use till_request::LineIn;
 
-/// A day as it is given: its configuration, the bytes of the opening that it begins with, if it has one, and the device
-/// that its journal is read from, if it has one.
+/// A day as a caller gives it. `opening` is the bytes of the opening that the day begins with, or `None` if it has
+/// none. `journal` is the device that the day's journal is read from, or `None` if it has none.
 #[derive(Drop)]
 pub struct DayIn<J> {
     pub config: Config,
@@ -26,13 +26,13 @@ pub trait DaysIn {
     ghost use Rattle.days.specs.Chain.{DayText};
     ghost use Rattle.days.specs.Given.{GivesDay};
 
-    /// For proofs: all days that will still be given, if they are known.
+    /// For proofs: all days that will still be given, or `None` if they aren't known.
     ghost remaining: { Self → Option (List DayText) };
 
-    /// For proofs: a day couldn't be read.
+    /// For proofs: what holds of these days after `next_day` returned an error.
     ghost failed: { Self → Type 0 };
 
-    /// For proofs: a day was given whose journal is read from this device.
+    /// For proofs: what holds of the device of each journal that `next_day` returned. By default nothing is claimed.
     ghost gave: { Self.Journal → Type 0 } = { λ _. Unit {0} };
 
     /// Returns the next day, or `None` if there are no more. The error is that the day couldn't be read.

@@ -16,7 +16,7 @@ pub struct OpeningFile {
     pub digest: [u8; 32],
 }
 
-/// Why bytes aren't the text of an opening. The number is that of a line, counted from 1.
+/// Why bytes couldn't be read as the text of an opening. If a case has a number, it is that of a line, counted from 1.
 #[derive(Clone, Copy)]
 pub enum OpeningFlaw {
     /// No opening has this line after the lines before it. If the text ends too early, the number is the one after that

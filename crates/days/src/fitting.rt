@@ -19,8 +19,8 @@ pub enum Misfit {
     /// place of the first point with such a transaction, counted from 0, the point's first such transaction, and how
     /// many tills the configuration has.
     Till(usize, Transaction, u32),
-    /// The first counter whose value is over its bound: its number, its value in the opening, and its smaller bound in
-    /// the configuration.
+    /// The first counter whose value in the opening is over its bound in the configuration: the counter's number, the
+    /// value and the bound.
     Counter(u32, u64, u64),
 }
 
@@ -138,7 +138,8 @@ fn held_at(point: &Point, tills: u32) -> Option<Transaction>
     }
 }
 
-/// Returns the transaction, if there is one and the number of the till that holds it is over `tills`.
+/// Returns the transaction if it is held by a till whose number is over `tills`. Otherwise, or if there is no
+/// transaction, returns `None`.
 fn held(place: Option<Transaction>, tills: u32) -> Option<Transaction>
     ensures { MatchOption result (All (HasTill tills) (option_to_list place))
         (λ t. first_held tills (option_to_list place) ≡ Some t) }

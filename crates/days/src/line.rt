@@ -14,7 +14,8 @@ pub enum Line {
     Cleared(u64, u64),
     /// How many versions were ever loaded.
     Versions(u32),
-    /// The version in force in a slot, counted from 0: the version's number and its program.
+    /// The version in force in a slot, counted from 0: the version's number, and its program with the mask of the
+    /// counters that the program declares.
     Version {
         slot: u64,
         number: u32,
@@ -30,6 +31,6 @@ pub enum Line {
     Point(u64, Snapshot),
     /// A point's number, counted from 1, and one of the point's unpaid transactions.
     Unpaid(u64, Transaction),
-    /// The day that leaves the opening: how many entries it has, and the SHA-256 of its journal's bytes.
+    /// The journal of the day that left this opening: how many entries it has, and the SHA-256 of its bytes.
     Journal(u32, [u8; 32]),
 }

@@ -39,7 +39,7 @@ fn put_hex(alloc: Global, text: &mut String, bytes: &[u8]) -> Result<(), AllocEr
     put_word(text, digits.as_str())
 }
 
-/// Returns the word of a request that loads a program for contexts of this layout.
+/// Returns the first word of a request that loads a program for contexts of this layout.
 fn load_word(layout: Layout) -> &'static str
     ensures { result.now ≡ load_by layout }
 {

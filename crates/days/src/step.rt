@@ -30,10 +30,10 @@ const MOST_CLEARED: u64 = 1_000_000_000_000_000_000;
 /// first three lines have the places 0 to 2, and the lines of slots 1 to 15 have the places after this one.
 const SLOTS_AT: u32 = 3;
 
-/// The place of the line of product 1.
+/// The place of the line of product 1. The lines of products 2 to 8 have the places after this one.
 const PRODUCTS_AT: u32 = 19;
 
-/// The place of the line of counter 0.
+/// The place of the line of counter 0. The lines of counters 1 to 31 have the places after this one.
 const COUNTERS_AT: u32 = 27;
 
 /// The place of the lines of all points and of their unpaid transactions.

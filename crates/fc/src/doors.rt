@@ -54,8 +54,9 @@ fn are_ports(doors: &[Door]) -> bool {
     true
 }
 
-/// Writes the address of a door: a port or a socket's path. A port has `127.0.0.1:` before it, unless `are_ports`,
-/// which says that all doors are ports: then the printed list of the doors has `127.0.0.1:` once, at its start.
+/// Writes the address of a door: a port or a socket's path. A port has `127.0.0.1:` before it, unless `are_ports`. The
+/// caller sets `are_ports` if all doors are ports: the printed list of the doors then has `127.0.0.1:` once, at its
+/// start.
 fn write_address<W: fmt::Write>(
     f: &mut fmt::Formatter<W>,
     address: &Address,
@@ -107,9 +108,9 @@ fn mode_of(role: Role) -> u32 {
     }
 }
 
-/// Prints why a socket can't be opened, with the configuration's file, which `word` names, and the key that names the
-/// socket. The result has the exit status. If memory ran out, prints nothing: the result has the error, which is
-/// printed later.
+/// Prints why a socket can't be opened, after the name of the configuration's file and the key that names the socket.
+/// The result `Said` has the exit status. If memory ran out in this program, and not in the system, prints nothing, and
+/// returns `Failed`. `word` names the configuration's file.
 fn refuse_socket(rt: &HostRuntime, word: &str, door: &Door, error: io::Error) -> Stop {
     if error.kind() == ErrorKind::OutOfMemory && error.raw_os_error().is_none() {
         return Stop::Failed(error);
@@ -161,9 +162,9 @@ impl<'a> Opened<'a> {
         self.add(door, Listener::Socket(listener))
     }
 
-    /// Opens a door, and adds it to `doors`. If it is a socket, adds its file to `files`. If it can't be opened, prints
-    /// why; the error has the exit status. If memory ran out, the error is printed later. `word` names the
-    /// configuration's file.
+    /// Opens a door, and adds it to `doors`. If it is a socket, adds its file to `files`. If the door can't be opened,
+    /// prints why; the error `Said` has the exit status. The error `Failed` means that memory ran out, which isn't
+    /// printed yet. `word` names the configuration's file.
     fn open<H: Files + Net<Listener = TcpListener, Stream = TcpStream>>(
         &mut self,
         rt: &'a HostRuntime,
@@ -196,8 +197,9 @@ impl<'a> Opened<'a> {
     }
 }
 
-/// Opens the doors of a configuration in their order. If one can't be opened, prints why, and closes those before it;
-/// the error has the exit status. `word` names the configuration's file.
+/// Opens the doors of a configuration in their order. If one can't be opened, prints why; the error `Said` has the exit
+/// status. The error `Failed` means that memory ran out, which isn't printed yet. After either error, the doors that
+/// were opened are closed again. `word` names the configuration's file.
 pub fn open_doors<'a, H: Files + Net<Listener = TcpListener, Stream = TcpStream>>(
     rt: &'a HostRuntime,
     host: &H,

@@ -19,7 +19,7 @@ use std::thread::Threads;
 use std::time::Clock;
 
 /// Does a job, and returns the exit status. Faults of files and devices are printed on standard error. The error is why
-/// the job ended before it was done.
+/// the job ended before it was done: the reason of `Said` is printed already, and that of `Failed` isn't yet.
 ///
 /// `host` is the same runtime as `rt`, but has a type that can start threads and open sockets. Only `main` can borrow
 /// the runtime with this type.
@@ -69,7 +69,7 @@ pub fn do_job<
     }
 }
 
-/// Serves a site, and returns the exit status.
+/// Serves a site, and returns the exit status. The errors mean the same as those of `do_job`.
 fn serve<
     H: Files + Net<Listener = TcpListener, Stream = TcpStream> + Threads + Wait + Clock + Sync,
 >(rt: &HostRuntime, host: &H, job: &ServeJob) -> Result<u8, Stop> {

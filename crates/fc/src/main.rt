@@ -20,15 +20,16 @@ use site_files::{FAILED, Stop, USAGE};
 use std::io::{self, ErrorKind};
 use std::process::ExitCode;
 
-/// Returns the arguments of the command line, the program's name first. The error is that one isn't UTF-8, or that
-/// memory ran out.
+/// Returns the arguments of the command line, the program's name first. The error is that an argument isn't UTF-8, or
+/// that memory ran out.
 fn words_of(rt: &HostRuntime) -> io::Result<Vec<String>> {
     let words = std::env::args(rt)?.collect(rt.alloc())?;
     Ok(words)
 }
 
-/// Parses the arguments of the command line as a job. If they aren't valid, prints why on standard error; the error has
-/// the exit status. If memory ran out, the error is printed here or later.
+/// Parses the arguments of the command line as a job. If they aren't valid, prints why on standard error; the error
+/// `Said` has the exit status. If memory ran out, the error is `Said`, once that is printed, or `Failed`, which isn't
+/// printed yet.
 fn job_of(rt: &HostRuntime) -> Result<Job, Stop> {
     let words = match words_of(rt) {
         Ok(words) => words,
@@ -49,8 +50,8 @@ fn job_of(rt: &HostRuntime) -> Result<Job, Stop> {
     }
 }
 
-/// Returns the exit status of a job that was done, or that stopped. Prints the error of a call that failed, since it
-/// wasn't printed yet.
+/// Returns the exit status of a job that was done, or that stopped. If the job stopped with `Failed`, prints the error,
+/// which wasn't printed yet.
 fn status_of(rt: &HostRuntime, done: Result<u8, Stop>) -> u8 {
     match done {
         Ok(status) | Err(Stop::Said(status)) => status,

@@ -129,9 +129,9 @@ fn remove(rt: &HostRuntime, path: &str) -> io::Result<()> {
     }
 }
 
-/// Removes a folder that a killed process may have left beside a path, and makes it again. Returns false, and removes
-/// nothing, if no killed process can have left what is there. If somebody listens at the socket in it, that is an
-/// error.
+/// Removes `folder`, the folder beside a path, if a killed process may have left it, and makes it again. Returns false,
+/// and removes nothing, if no killed process can have left what is there. `socket` is the path of the socket in the
+/// folder. If somebody listens there, that is an error.
 fn make_again<H: Net>(rt: &HostRuntime, host: &H, folder: &str, socket: &str) -> io::Result<bool> {
     if !is_left(rt, folder)? {
         return Ok(false);

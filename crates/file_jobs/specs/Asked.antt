@@ -23,7 +23,7 @@ abbrev pub format_of : Format → RowFormat
 format_of form.Csv = format.Csv
 format_of form.Json = format.Json
 
--- what is printed of a program's file with these bytes, and the status
+-- `told` is what is printed of a program's file with the bytes `text`, and the exit status.
 abbrev pub TellsFile : Tell → List ℕ → Told → Type 0
 TellsFile tell.Asm text told = AsmTells text told
 TellsFile tell.Dis text told = DisTells text told

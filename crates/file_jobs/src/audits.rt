@@ -14,7 +14,8 @@ use till_request::devices::StreamIn;
 
 /// Audits the journal in a file as this site's journal, prints the result, and returns the exit status. The argument
 /// `journal` names the file. If a file can't be read, if the configuration, the opening or the text of the journal is
-/// refused, or if two files are standard input, prints why; the error has the exit status.
+/// refused, or if two files are standard input, prints why; the error `Said` has the exit status. The error `Failed`
+/// means that memory ran out, which isn't printed yet.
 pub fn audit_files(rt: &HostRuntime, site: SiteFiles<'_>, journal: &str) -> Result<u8, Stop>
     ensures { IsTrue (reads_twice site.entry.config.now (option_map (λ w. w.now) site.entry.opening) journal.now)
         → result ≡ Err (Stop.Said 2) }
@@ -31,7 +32,8 @@ pub fn audit_files(rt: &HostRuntime, site: SiteFiles<'_>, journal: &str) -> Resu
 }
 
 /// Returns the text and the exit status of the audit of a journal. The argument `journal` names its file. If the
-/// journal can't be read, prints why; the error has the exit status.
+/// journal can't be read, prints why; the error `Said` has the exit status. The error `Failed` means that memory ran
+/// out, which isn't printed yet.
 fn audited(
     rt: &HostRuntime,
     config: &Config,

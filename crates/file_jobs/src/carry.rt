@@ -16,8 +16,8 @@ use site_files::{DONE, SiteFiles, Source, Stop};
 
 /// Audits the journal in a file as this site's journal, prints the opening of the next day, and returns the exit
 /// status. The argument `journal` names the file. If a file is refused or can't be read, or if two files are standard
-/// input, prints what `fc audit` prints, and no opening. If the day can't be closed, prints why. The error has the exit
-/// status.
+/// input, prints what `fc audit` prints, and no opening. If the day can't be closed, prints why. The error `Said` has
+/// the exit status. The error `Failed` means that memory ran out, which isn't printed yet.
 pub fn carry_files(rt: &HostRuntime, site: SiteFiles<'_>, journal: &str) -> Result<u8, Stop>
     ensures done { IfOk result (EndsWith 0) }
     ensures twice { IsTrue (reads_twice site.entry.config.now (option_map (λ w. w.now) site.entry.opening) journal.now)
@@ -31,8 +31,9 @@ pub fn carry_files(rt: &HostRuntime, site: SiteFiles<'_>, journal: &str) -> Resu
     }
 }
 
-/// Audits a journal, and returns the close of its day. If the journal is refused or can't be read, prints what
-/// `fc audit` prints of it; the error has the exit status.
+/// Audits a journal, and returns the close of its day. If the journal is refused or can't be read, prints of it what
+/// `fc audit` prints; the error `Said` has the exit status. The error `Failed` means that memory ran out, which isn't
+/// printed yet.
 fn closed(rt: &HostRuntime, config: Config, journal: &str, source: Source) -> Result<Closed, Stop>
     ensures { IfErr result (SaysOrFails 1) }
 {
@@ -54,7 +55,8 @@ fn closed(rt: &HostRuntime, config: Config, journal: &str, source: Source) -> Re
 }
 
 /// Prints the opening that day `number` leaves for the next one, and returns the exit status. If the day can't be
-/// closed, prints why; the error has the exit status. `journal` names the file of the day's journal.
+/// closed, prints why; the error `Said` has the exit status. The error `Failed` means that memory ran out, which isn't
+/// printed yet. `journal` names the file of the day's journal.
 fn print_opening(rt: &HostRuntime, journal: &str, number: u32, closed: &Closed) -> Result<u8, Stop>
     ensures done { IfOk result (EndsWith 0) }
     ensures refused { IfErr result (SaysOrFails 1) }

@@ -43,8 +43,8 @@ struct FolderIn<'a> {
 }
 
 impl<'a> FolderIn<'a> {
-    /// Makes the days of a folder from its oldest to its newest. `config` is the configuration for each day for which
-    /// the folder has none.
+    /// Makes the input that gives the days of a folder, from the oldest to the newest in `span`. `config` is the
+    /// configuration for each day for which the folder has none.
     fn new(rt: &'a HostRuntime, folder: Folder<'a>, config: Config, span: Span) -> FolderIn<'a>
         ensures next { result.next ≡ Some span.oldest }
         ensures newest { result.newest ≡ span.newest }
@@ -60,7 +60,8 @@ impl<'a> FolderIn<'a> {
         }
     }
 
-    /// Returns the number of the next day, or `None` after the newest, and goes on to the day after that.
+    /// Returns the number of the next day, or `None` after the newest day. Then goes on: the day after the returned one
+    /// is the next day, or there is none if the returned one is the newest.
     fn turn(&mut self) -> Option<u32>
         ensures day { result ≡ self.old.next }
         ensures next { self.new.next ≡ turn self.old.next self.old.newest }
@@ -120,7 +121,7 @@ impl<'a> DaysIn for FolderIn<'a> {
 
     ghost use Rattle.std.specs.Prelude.{IsSome, None};
 
-    /// No contract knows what the files of a folder hold.
+    /// For proofs: the days that remain aren't known, since no contract knows what the files of a folder hold.
     ghost remaining = { λ _. None };
 
     ghost failed = { λ s. IsSome s.stop };
@@ -141,7 +142,8 @@ impl<'a> DaysIn for FolderIn<'a> {
 
 /// Audits all days of the folder that the argument `path` names, prints the result, and returns the exit status. `word`
 /// names the configuration for each day for which the folder has none. If a file can't be read, or the days are
-/// refused, prints why; the error has the exit status.
+/// refused, prints why; the error `Said` has the exit status. The error `Failed` means that memory ran out, which isn't
+/// printed yet.
 pub fn audit_folder(rt: &HostRuntime, path: &str, word: &str) -> Result<u8, Stop>
     ensures done { IfOk result (EndsWith 0) }
     ensures input { is_input path.now ≡ true → result ≡ Err (Stop.Said 2) }
@@ -156,7 +158,8 @@ pub fn audit_folder(rt: &HostRuntime, path: &str, word: &str) -> Result<u8, Stop
 }
 
 /// Audits the days of a folder from its oldest to its newest, prints the result, and returns the exit status. If a day
-/// can't be read or is refused, prints why; the error has the exit status.
+/// can't be read or is refused, prints why; the error `Said` has the exit status. The error `Failed` means that memory
+/// ran out, which isn't printed yet.
 fn audit_span(rt: &HostRuntime, folder: Folder<'_>, config: Config, span: Span) -> Result<u8, Stop>
     ensures { IfOk result (EndsWith 0) }
 {
@@ -173,8 +176,8 @@ fn audit_span(rt: &HostRuntime, folder: Folder<'_>, config: Config, span: Span) 
     }
 }
 
-/// Prints why the days of a folder are refused, as `refuse_cause` does. The error is that memory ran out before
-/// anything was printed.
+/// Prints why the days of a folder are refused, and returns why the job stops, as `refuse_cause` does. The error is
+/// that memory ran out before anything was printed.
 fn refuse_days(
     rt: &HostRuntime,
     days: FolderIn<'_>,
@@ -189,7 +192,8 @@ fn refuse_days(
 }
 
 /// Prints why the days of a folder are refused at this day, and returns why the job stops. `paths` names the day's
-/// opening and its journal. If the day couldn't be read, prints nothing, and returns what reading it returned.
+/// opening and its journal. If the day couldn't be read, prints nothing, and returns `days.stop`, the error of reading
+/// the day.
 fn refuse_cause(
     rt: &HostRuntime,
     days: FolderIn<'_>,
@@ -299,7 +303,8 @@ fn same_len(text: &[u8], left: &[u8]) -> usize
     left.len()
 }
 
-/// Prints why a day can't begin with its opening. The result has the exit status.
+/// Prints why a day can't begin with its opening. The result `Said` has the exit status. The result `Failed` means that
+/// memory ran out, which isn't printed yet.
 fn refuse_unbegun(rt: &HostRuntime, opening: &str, day: u32, why: Unbegun) -> Stop
     ensures { RefusesBeginning why result }
 {
@@ -315,7 +320,8 @@ fn refuse_unbegun(rt: &HostRuntime, opening: &str, day: u32, why: Unbegun) -> St
     }
 }
 
-/// Prints why a day's journal is refused, or why it can't be read. The result has the exit status.
+/// Prints why a day's journal is refused, or why it can't be read. The result `Said` has the exit status. The result
+/// `Failed` means that memory ran out, which isn't printed yet.
 fn refuse_unclosed(rt: &HostRuntime, path: &str, why: Unclosed<Journal<'_>>) -> Stop
     ensures { RefusesJournal why.entry result }
 {

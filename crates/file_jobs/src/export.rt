@@ -15,7 +15,8 @@ use std::io::{self, BufWriter, Write};
 
 /// Audits the journal in a file as this site's journal, prints the rows that are asked for, and returns the exit
 /// status. The argument `journal` names the file. If a file is refused or can't be read, or if two files are standard
-/// input, prints what `fc audit` prints, and no rows; the error has the exit status.
+/// input, prints what `fc audit` prints, and no rows; the error `Said` has the exit status. The error `Failed` means
+/// that memory ran out, which isn't printed yet.
 pub fn export_files(
     rt: &HostRuntime,
     rows: Rows,

@@ -30,7 +30,7 @@ type Script<'a, 'b, 'c> = Ahead<StreamIn<Incoming<'a, 'b, 'c>>>;
 
 /// Returns the exit status of a play with the result `ended`, and prints on standard error what stopped it. `word` is
 /// the argument that names the script, and `lines` lines come before the script in the same input. `read` is the error
-/// of a failed read.
+/// of a failed read, if a read failed.
 fn status_of(
     rt: &HostRuntime,
     ended: Result<Ended, SessionFault>,
@@ -58,7 +58,7 @@ fn status_of(
 }
 
 /// Prints on standard error why a play was broken off: a read or a write failed, or no more reads are allowed. `read`
-/// is the error of a failed read.
+/// is the error of a failed read, if a read failed.
 fn tell_broken(
     rt: &HostRuntime,
     word: &str,
@@ -75,7 +75,8 @@ fn tell_broken(
     }
 }
 
-/// Returns `read`, the system's error of a failed read, if a failed read is why a play is broken off.
+/// Returns `read`, the system's error of a failed read, if `fault` is that a read failed. Returns `None` for other
+/// faults.
 fn read_error(fault: SessionFault, read: Option<&io::Error>) -> Option<&io::Error>
     ensures { result ≡ read_error fault read.entry }
 {
@@ -89,7 +90,8 @@ fn read_error(fault: SessionFault, read: Option<&io::Error>) -> Option<&io::Erro
 }
 
 /// Plays the script in standard input against a new site, and returns the exit status. The configuration comes before
-/// the script, in standard input too. If the configuration is refused, prints why; the error has the exit status.
+/// the script, in standard input too. If the configuration is refused, prints why; the error `Said` has the exit
+/// status. The error `Failed` means that memory ran out, which isn't printed yet.
 pub fn play_input(rt: &HostRuntime) -> Result<u8, Stop>
     ensures ended { IfOk result IsEnded }
     ensures refused { IfErr result (SaysOrFails 1) }
@@ -122,7 +124,7 @@ fn play_both<'a>(rt: &'a HostRuntime, input: &mut Script<'a, '_, '_>) -> Result<
 }
 
 /// Returns the settings in `head`, which is the input up to and with the line that ends the configuration. If the first
-/// 65,541 bytes of the input have no such line, `head` is these bytes, or all of the input if it is shorter. If the
+/// 65,541 bytes of the input have no such line, `head` is these bytes, or the whole input if that is shorter. If the
 /// settings are refused, prints why; the error has the exit status.
 fn settings_before(rt: &HostRuntime, head: &[u8]) -> Result<Settings, Stop>
     ensures { IfErr result (Says 1) }
@@ -155,8 +157,9 @@ fn outlet<'a, 'b>(answers: &'b Answers<'a>) -> StreamOut<Outgoing<'a, 'b>> {
 }
 
 /// Plays the script in a file against this site, with no entries yet, and returns the exit status. The argument
-/// `script` names the file. If a file can't be opened, if the configuration or the opening is refused, or if two files
-/// are standard input, prints why; the error has the exit status.
+/// `script` names the file. If a file can't be opened, if the configuration or the opening can't be read or is refused,
+/// or if two files are standard input, prints why; the error `Said` has the exit status. The error `Failed` means that
+/// memory ran out, which isn't printed yet.
 pub fn play_files<'a>(rt: &'a HostRuntime, site: SiteFiles<'_>, script: &'a str) -> Result<u8, Stop>
     ensures ended { IfOk result IsEnded }
     ensures twice { IsTrue (reads_twice site.entry.config.now (option_map (λ w. w.now) site.entry.opening) script.now)
@@ -172,7 +175,7 @@ pub fn play_files<'a>(rt: &'a HostRuntime, site: SiteFiles<'_>, script: &'a str)
 }
 
 /// Plays a script, and returns the exit status. `word` is the argument that names the script, and `lines` lines come
-/// before the script in the same input. At most `left` reads are made.
+/// before the script in the same input. At most `left` reads are made. `left` must be at most `READS`.
 fn play_script<'a>(
     rt: &'a HostRuntime,
     config: Config,

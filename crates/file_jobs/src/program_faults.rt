@@ -20,7 +20,7 @@ fn file_code(fault: ProgramFileFault) -> Option<&'static str>
     }
 }
 
-/// Prints on standard error why a program file is refused.
+/// Prints on standard error why a program file is refused, or only that memory ran out, if the flaw is that.
 pub(crate) fn tell_program(rt: &HostRuntime, word: &str, flaw: &ProgramFlaw) {
     let place = Place::of(word);
     match flaw {

@@ -27,14 +27,15 @@ pub enum Tell {
 
 /// Prints what `tell` asks for about a file, and returns the exit status. The argument `word` names the file. If the
 /// file is refused, also prints why on standard error. If it can't be read or has over 65,536 bytes, prints why; the
-/// error has the exit status.
+/// error `Said` has the exit status. The error `Failed` means that memory ran out, which isn't printed yet.
 pub fn tell_file(rt: &HostRuntime, word: &str, tell: Tell) -> Result<u8, Stop> {
     let text = text_of(rt, word)?;
     tell_bytes(rt, word, tell, &text)
 }
 
 /// Prints what `tell` asks for about a file with the bytes `text`, and returns the exit status. The argument `word`
-/// names the file. If the file is refused, also prints why on standard error.
+/// names the file. If the file is refused, also prints why on standard error. The error is that memory ran out, which
+/// isn't printed yet.
 fn tell_bytes(rt: &HostRuntime, word: &str, tell: Tell, text: &[u8]) -> Result<u8, Stop>
     ensures { IfOk result (λ status. (told : Told) × TellsFile tell text.now told × EndsWith told.status status) }
 {

@@ -12,7 +12,8 @@ use std::io::{self, BufWriter, Write};
 
 /// Audits the journal in a file as this site's journal, prints its page of HTML, and returns the exit status. The
 /// argument `journal` names the file. If a file is refused or can't be read, or if two files are standard input, prints
-/// what `fc audit` prints, and no page; the error has the exit status.
+/// what `fc audit` prints, and no page; the error `Said` has the exit status. The error `Failed` means that memory ran
+/// out, which isn't printed yet.
 pub fn report_files(rt: &HostRuntime, site: SiteFiles<'_>, journal: &str) -> Result<u8, Stop>
     ensures done { IfOk result (EndsWith 0) }
     ensures twice { IsTrue (reads_twice site.entry.config.now (option_map (λ w. w.now) site.entry.opening) journal.now)

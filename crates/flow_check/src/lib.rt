@@ -59,7 +59,8 @@ impl Model for Flow {
     ghost invariant = { λ f. GoesForward f.code };
 }
 
-// Returns the distance of a jump, in units from the unit after the jump, or `None` if the instruction isn't a jump.
+// Returns the distance of a jump, in units from the unit after the jump; it is negative for a jump backwards. `None` if
+// the instruction isn't a jump.
 fn distance_in(inst: Inst) -> Option<i64>
     ensures { result ≡ distance_by (form_of inst.opcode) inst }
 {
@@ -89,8 +90,8 @@ fn fault_of_landing(landing: Option<Unit>) -> Option<JumpFault>
     }
 }
 
-// Returns what is wrong with the jump at unit `pc` over this distance; `None` if nothing is wrong. A `distance` of
-// `None` means that no jump begins there, and the result is `None`.
+// Returns what is wrong with the jump at unit `pc` over this distance; `None` if nothing is wrong. `pc` must be below
+// 512. A `distance` of `None` means that no jump begins there, and the result is `None`.
 fn fault_of_distance(units: &[Unit], pc: usize, distance: Option<i64>) -> Option<JumpFault>
     requires { pc < UNITS }
     ensures { result ≡ distance_fault units.now pc distance }

@@ -96,7 +96,7 @@ fn price_of(view: &View, number: u64) -> u64
 }
 
 // Writes the 16-byte record of a point to the stack at place `at`, or 16 zeros if there is no point. Returns 1 if there
-// is a point, else 0.
+// is a point, else 0. `at` must be 0 to 496.
 fn put_point(point: Option<PointView>, at: u64, stack: &mut [u8; 512]) -> u64
     requires { at + 16 ≤ STACK_BYTES }
     ensures answer { result ≡ is_there point }
@@ -110,7 +110,7 @@ fn put_point(point: Option<PointView>, at: u64, stack: &mut [u8; 512]) -> u64
 }
 
 // Calls `helper`, with the values of R1 and R2 as `a` and `b`, and returns its answer. Changes the counters and the
-// stack's bytes as the helper does.
+// stack's bytes as the helper does. `a` and `b` must be what `call` demands.
 fn answer(
     helper: Helper,
     a: u64,

@@ -34,7 +34,7 @@ fn put_double(memory: &mut [u8; 512], at: usize, n: u64)
 }
 
 /// Writes the low bytes of a number, as many as `size` says, to place `at` and the places above it, the lowest byte
-/// first.
+/// first. All these places must be inside `memory`.
 #[inline(always)]
 pub fn put(memory: &mut [u8; 512], at: usize, size: Size, n: u64)
     requires { at + bytes_in size ≤ STACK_BYTES }

@@ -13,10 +13,11 @@ use counters::Counters;
 use helpers::View;
 use reg_types::Program;
 
-/// Sets `now` to the counters that a run on `now` would leave, without that run. An earlier run, on the same context
-/// and view, began with the counters `before` and left `after`. Of the counters, a run depends only on the declared
-/// ones, and these must be the same in `before` and `now`. So the answer is the same, and the declared counters become
-/// those of `after`.
+/// Sets `now` to the counters that a run of `program` on `now` would leave, without that run. `after` must be the
+/// counters that an earlier run of `program` left, which had the same context and view and began with `before`. The
+/// context must have the program's layout, and the counters that the program declares must be the same in `before` and
+/// `now`. A run depends on no other counters, so its answer would be the same. Only the declared counters of `now`
+/// change, to those of `after`.
 pub fn rebase(
     program: &Program,
     context: &Context,

@@ -62,7 +62,8 @@ one_site : (a b : SiteValue) → Upholds a → Upholds b → b.config ≡ a.conf
 one_site a b u v config history =
     elim (own_audit a (Ok b) u (config, history, v)) as (λ _. b ≡ a) [ inl e ↦ cc | inr e ↦ absurd (cc) ]
 
--- If an audit refuses an entry with F3, and the site has room for it, then its moment, reply or run isn't the site's.
+-- If an audit refuses an entry with F3, and the site has room for it, then the moment, the reply or the run differs
+-- from that of the entry that the site makes.
 pub same_parts : (config : ConfigValue) (before : List Entry) (entry : Entry) (number : ℕ) → IsRejected config before entry (NotLegal number)
     → (site : SiteValue) → site.config ≡ config → site.history ≡ before → Upholds site → length before < 1048576
     → entry.moment ≡ (entered site entry.pass entry.moment entry.act).moment

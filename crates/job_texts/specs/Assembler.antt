@@ -31,14 +31,14 @@ asm_fault_text OutOfMemory = []
 abbrev pub ToldUnits : List ℕ → Told → Type 0
 ToldUnits text told = (code : List ProgramUnit) × Spells text code × IsSaid told (unit_lines (encoded code)) 0
 
--- the text can't be assembled, and the reason is printed, which isn't that memory ran out
+-- the text can't be assembled, and the reason is printed; the reason isn't that memory ran out
 pub record ToldAsmFault (text : List ℕ) (told : Told) : Type 0 where
   pub fault : AsmFault
   pub refused : IsRefused text fault
   pub no_want : fault ≢ OutOfMemory
   pub said : IsSaid told (asm_fault_text fault) 1
 
--- What `fc asm` prints of a text: L1 for a text of over 65,536 bytes, and else its units or its fault.
+-- What `fc asm` prints of a text: L1 for a text of over 65,536 bytes, or else its units or its fault.
 abbrev pub AsmTells : List ℕ → Told → Type 0
 AsmTells text told =
     ((65537 ≤ length text) × IsSaid told (codes "L1\n") 1) ⊎ ((length text ≤ 65536) × (ToldUnits text told ⊎ ToldAsmFault text told))

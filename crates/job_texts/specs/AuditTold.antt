@@ -53,7 +53,8 @@ journal_fault_answer journal.Cut = codes "J2\n"
 journal_fault_answer journal.Device = []
 journal_fault_answer journal.OutOfMemory = []
 
--- the text is the journal of a history that a site of this configuration can have, and the number of its entries is printed
+-- the text is the journal of a history that a site of this configuration can have, and how many entries it has is
+-- printed
 pub record LegalTold (config : ConfigValue) (text : List ℕ) (told : Told) : Type 0 where
   pub journal : IsJournal config text
   pub said : IsSaid told (legal_text journal.entries) 0
@@ -77,7 +78,7 @@ pub record RefusedTold (config : ConfigValue) (text : List ℕ) (told : Told) : 
   pub status_is : told.status ≡ 1
   pub of : FaultOf config text told
 
--- What `fc audit` prints of a text. If it is the journal of a history that a site of this configuration can have, that
--- is the number of entries, and else its fault.
+-- What `fc audit` prints of a text: how many entries it has, if it is the journal of a history that a site of this
+-- configuration can have, or else its fault.
 abbrev pub JournalTells : ConfigValue → List ℕ → Told → Type 0
 JournalTells config text told = LegalTold config text told ⊎ RefusedTold config text told

@@ -25,7 +25,8 @@ VerifyFlawOf read counters layout flaw = ⊥
 abbrev pub IsVerifyFlaw : List ℕ → ℕ → Layout → ProgramFlaw → Type 0
 IsVerifyFlaw file counters layout flaw = VerifyFlawOf (program_in file) counters layout flaw
 
--- Why bytes can't be decoded as units, with the line of the unit that the fault names. It isn't that memory ran out.
+-- Why bytes can't be decoded as units, with the line of the unit that the fault names. The fault isn't that memory ran
+-- out.
 pub record IsUndecoded (bytes : List ℕ) (told : RefusedProgram) : Type 0 where
   pub fault : DecodeFault
   pub refused : IsRefusedFor bytes fault

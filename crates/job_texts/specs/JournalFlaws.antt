@@ -35,7 +35,8 @@ pub record AnsweredAfter (config : ConfigValue) (before : List Entry) (entry : E
   pub room : length before < 1048576
   pub after : new.history ≡ before ++ entered old entry.pass entry.moment entry.act ∷ []
 
--- the first part in which the entry differs from the one that the site makes; `NoEntry` exactly if its history is full
+-- the first part in which the entry differs from the one that the site makes, or `NoEntry` if the site's history is
+-- full
 abbrev pub IsEntryFlaw : ConfigValue → List Entry → Entry → JournalFlaw → Type 0
 IsEntryFlaw config before entry (flaw.Entry difference) =
     (length before < 1048576) × (old : SiteValue) × (old.config ≡ config) × (old.history ≡ before) × Upholds old

@@ -32,7 +32,7 @@ impl fmt::Display for ProgramFlaw {
     }
 }
 
-/// Returns a fault of a file as a flaw. For the fault `OutOfMemory` returns the error.
+/// Returns a fault of a file as a flaw. Only the fault `OutOfMemory` gives the error.
 fn file_flaw(fault: ProgramFileFault) -> Result<ProgramFlaw, AllocError>
     ensures flaw { IfOk result (λ flaw. flaw ≡ ProgramFlaw.File fault) }
     ensures fault { OnOk result (fault ≢ ProgramFileFault.OutOfMemory) }
@@ -44,8 +44,9 @@ fn file_flaw(fault: ProgramFileFault) -> Result<ProgramFlaw, AllocError>
     }
 }
 
-/// Returns why `verify_file` refuses a program file with these counters and this context, or `None` if it accepts the
-/// file. The error is that memory ran out. For a file of over 65,536 bytes there is no error.
+/// Returns why `verify_file` refuses a program file for contexts of this layout, or `None` if it accepts the file. Bit
+/// c of `counters` declares counter c. The error is that memory ran out. For a file of over 65,536 bytes there is no
+/// error.
 pub fn verify_flaw(
     alloc: Global,
     file: &[u8],

@@ -144,7 +144,7 @@ fn load_flaw(alloc: Global, act: &Act, refusal: Refusal) -> Result<JournalFlaw, 
 }
 
 /// Returns what is wrong with an entry. An audit must refuse the entry after the entries `before`, with this fault. The
-/// error is that memory ran out, which it can't for `BadNumber`.
+/// error is that memory ran out. The fault `OutOfMemory` gives this error too, and `BadNumber` gives no error.
 fn fault_flaw(
     alloc: Global,
     config: Config,

@@ -46,7 +46,8 @@ pub(crate) fn told_refusal(alloc: Global, refusal: Refusal) -> Result<Told, Allo
     })
 }
 
-/// Verifies the bytes of a program, and returns what is printed.
+/// Verifies the bytes of a program for contexts of this layout, and returns what is printed. Bit c of `counters`
+/// declares counter c. The error is that memory ran out.
 fn verify_bytes(
     alloc: Global,
     bytes: &[u8],

@@ -83,8 +83,8 @@ impl fmt::Display for LineAtFault<'_> {
     }
 }
 
-/// What is wrong with an instruction, to be written in words. If the argument of a helper is at fault, the kind is that
-/// which this argument must have.
+/// What is wrong with an instruction, to be written in words. If the argument of a helper is at fault, the kind is the
+/// one that this argument must have.
 #[derive(Clone, Copy)]
 struct Wrong(Refusal, Option<Kind>);
 
@@ -268,8 +268,8 @@ pub fn refused_program(
     }
 }
 
-/// Returns why an assembler text is refused: its fault, and its flaw, which has the line or the label at fault, if the
-/// message shows one. Returns `None` if the text assembles. The error is that memory ran out.
+/// Returns why an assembler text is refused: its fault, and its flaw. The flaw has the line or the label at fault, if
+/// the fault's message shows one. Returns `None` if the text assembles. The error is that memory ran out.
 pub fn asm_flaw(alloc: Global, text: &[u8]) -> Result<Option<(AsmFault, AsmFlaw<'_>)>, AllocError>
     ensures { IfOk result
         (λ found. MatchOption found (IsSpelling text.now)

@@ -27,8 +27,8 @@ is_answered (Some fault) now rest h = h
 read_is_no_write : session.Read ≡ session.Write → ⊥
 read_is_no_write e = absurd (cc)
 
--- if the first of the buffered bytes are written, then what held with all of them in the buffer holds with the rest
--- there
+-- if a beginning of the buffered bytes is written, then what held with all of them in the buffer holds with only the
+-- rest in it
 pub waits_on : (X : Option (List ℕ) → Option (List ℕ) → Type 0) (o p q : Option (List ℕ)) (waiting after : List ℕ) → Waits X o p waiting
     → Sends waiting after p q → Waits X o q after
 waits_on X o p q waiting after w s =
@@ -122,7 +122,7 @@ module _ {C D : Type 0} (says : C × D → List ℕ → List ℕ → C × D → 
       }
 
   module _ (drops : HandlerError → C × D → List ℕ → C × D → Type 0) where
-    -- a session that broke off after writing a text would also have broken off after only a beginning of the text
+    -- if `Breaks` holds where a text was written, then it also holds where only a beginning of the text was
     part_out : (s m : C × D) (i k o q : Option (List ℕ)) (text sent lost : List ℕ) → Breaks says drops s m i k (Some []) (Some text) → sent ++ lost ≡ text
         → Appends o q sent → Breaks says drops s m i k o q
     part_out s m i k o q text sent lost b in_order out = record {

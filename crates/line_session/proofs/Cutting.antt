@@ -50,7 +50,7 @@ no_more (Some line.BadLine) r k rest x h l e = h
 no_more (Some line.BadNumber) r k rest x h l e = h
 no_more (Some line.OutOfMemory) r k rest x h l e = h
 
--- how many bytes come after the last whole line, for each way in which a session can end
+-- if a session ends with this fault of its last line, or with none, n bytes can come after the last whole line
 abbrev Size : Option LineFault → ℕ → Type 0
 Size None n = n ≡ 0
 Size (Some line.TooLong) n = 8401 ≤ n

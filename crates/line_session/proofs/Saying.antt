@@ -199,7 +199,7 @@ module _ {C D : Type 0} (says : C × D → List ℕ → List ℕ → C × D → 
         let P : Option LineFault → Type 0 = λ c. IsCut c k more in
         breaks_cut s m i j k o p q count more h.0 h.2 t taken (subst P h.1 is) h.3
 
-    -- what a session's fault says if it came while the next line was read
+    -- if reading the next line failed with this fault, then `StopsFor` holds for the session's fault
     stops_reading : (takes : List ℕ → Type 0) (fault : InputFault) (s : C × D) (more : List ℕ) → IsLine more
         → StopsFor drops takes (fault_of_input fault) s s more
     stops_reading takes input.Read s more line = (refl, line)

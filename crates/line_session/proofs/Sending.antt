@@ -23,7 +23,7 @@ text_behind o p q bytes text s w =
     let e = all_sent o p bytes s in
     record { sent = s.sent ++ text; out = appends_more o p q s.sent text s.out w; in_order = append-nil (s.sent ++ text) ∙ ap (λ (t : List ℕ). t ++ text) e }
 
--- all of the bytes went out, and after them only a beginning of the text
+-- if all of the bytes were written, and then only a beginning of the text, then the rest of the text is lost
 pub front_behind : (o p q : Option (List ℕ)) (bytes text : List ℕ) → Sends bytes [] o p → (k : ℕ) × Appends p q (take k text)
     → (lost : List ℕ) × Sends (bytes ++ text) lost o q
 front_behind o p q bytes text s h =

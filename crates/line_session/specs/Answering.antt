@@ -33,7 +33,7 @@ pub record Dropped {S O : Type 0} (drops : S → List ℕ → S → Type 0) (lin
   pub drops_it : drops s line s'
   pub output : o' ≡ o
 
--- no line is ever dropped, as each line that changes something has an answer
+-- a `drops` by which no line is ever dropped, for a handler that answers each line that changes something
 abbrev pub drops_none : {S : Type 0} → HandlerError → S → List ℕ → S → Type 0
 drops_none why s line s' = ⊥
 
@@ -64,14 +64,14 @@ all_lines lines = flat_map with_lf lines
 abbrev pub all_texts : List (List ℕ) → List ℕ
 all_texts texts = flat_map (λ text. text) texts
 
--- these lines, one after another, are answered with these texts
+-- these lines, one after another, are answered with these texts, and lead from state s to state s'
 abbrev pub SaysAll : {S : Type 0} → (S → List ℕ → List ℕ → S → Type 0) → List (List ℕ) → S → List (List ℕ) → S → Type 0
 SaysAll says [] s [] s' = s' ≡ s
 SaysAll {S} says (line ∷ lines) s (text ∷ texts) s' = (m : S) × says s line text m × SaysAll says lines m texts s'
 SaysAll says [] s (text ∷ texts) s' = ⊥
 SaysAll says (line ∷ lines) s [] s' = ⊥
 
--- lines were read and answered, and after them `rest` was read and `more` was written
+-- `count` lines were read and answered, and after them `rest` was read and `more` was written
 pub record AnswersLines {S : Type 0} (says : S → List ℕ → List ℕ → S → Type 0) (s s' : S) (in_old in_new out_old out_new : Option (List ℕ)) (count : ℕ)
     (rest more : List ℕ) : Type 0 where
   pub lines : List (List ℕ)
@@ -151,14 +151,14 @@ pub record Breaks {S : Type 0} (says : S → List ℕ → List ℕ → S → Typ
 abbrev pub ReadsOn : {S : Type 0} → S → S → List ℕ → Type 0
 ReadsOn s s' rest = (s' ≡ s) × IsLine rest
 
--- Where memory ran out: while the next line was read; or after that, and then the line needs memory and nothing
--- changed, or the line was dropped since memory ran out.
+-- Memory ran out while the next line was read. Or that line was read whole, needs memory, and changed nothing. Or it
+-- was read whole, and dropped since memory ran out.
 abbrev pub WantsNext : {S : Type 0} → (HandlerError → S → List ℕ → S → Type 0) → (List ℕ → Type 0) → S → S → List ℕ → Type 0
 WantsNext drops takes s s' rest =
     ReadsOn s s' rest ⊎ ((line : List ℕ) × IsLine line × (rest ≡ with_lf line) × (((s' ≡ s) × takes line) ⊎ drops error.OutOfMemory s line s'))
 
--- Why a session failed although no write did. `Read`, `ReadsSpent`: while the next line was read. `OutOfMemory`: there
--- was something that needed memory. `Journal`: the next line was dropped since the journal failed.
+-- Why a session failed although no write did. `Read`, `ReadsSpent`: while the next line was read. `OutOfMemory`: memory
+-- ran out at the next line, as `WantsNext` says. `Journal`: the next line was dropped since the journal failed.
 abbrev pub StopsFor : {S : Type 0} → (HandlerError → S → List ℕ → S → Type 0) → (List ℕ → Type 0) → SessionFault → S → S → List ℕ → Type 0
 StopsFor drops takes session.Write s s' rest = ⊥
 StopsFor drops takes session.Read s s' rest = ReadsOn s s' rest
@@ -166,8 +166,8 @@ StopsFor drops takes session.ReadsSpent s s' rest = ReadsOn s s' rest
 StopsFor drops takes session.OutOfMemory s s' rest = WantsNext drops takes s s' rest
 StopsFor drops takes session.Journal s s' rest = DropsFor drops error.Journal s s' rest
 
--- The session failed although no write did. The whole answers to all handled lines were written, and no answer to a
--- fault of a line. The fault has its cause at the next line.
+-- The session failed although no write did. The whole answers to all answered lines were written, and no answer to a
+-- fault of a line. The failure has its cause at the next line, as `StopsFor` says.
 abbrev pub Stops : {S : Type 0} → (S → List ℕ → List ℕ → S → Type 0) → (HandlerError → S → List ℕ → S → Type 0) → (List ℕ → Type 0) → SessionFault → S
     → S → Option (List ℕ) → Option (List ℕ) → Option (List ℕ) → Option (List ℕ) → Type 0
 Stops says drops takes fault s s' in_old in_new out_old out_new =

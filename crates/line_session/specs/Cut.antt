@@ -31,7 +31,8 @@ pub record EndAlike {S : Type 0} (s t : S) (out_s out_t : List ℕ) (count_s cou
   pub count : count_s ≡ count_t
   pub cut : cut_s ≡ cut_t
 
--- two sessions with the same bytes, from one state and after the same output, end alike if both end
+-- two sessions with the same bytes, from one state and after the same output, end alike if neither fails and none of
+-- their answers is that memory ran out
 abbrev pub CutsAlike : {S : Type 0} → (S → List ℕ → List ℕ → S → Type 0) → Type 0
 CutsAlike {S} says =
     (s t u : S) (bytes out out_t out_u : List ℕ) (in_t in_u : Option (List ℕ)) (count_t count_u : ℕ) (cut_t cut_u : Option LineFault)
@@ -40,11 +41,11 @@ CutsAlike {S} says =
     → NoWantTold one.answering.texts → NoWantTold other.answering.texts
     → EndAlike t u out_t out_u count_t count_u cut_t cut_u
 
--- in each state the clock can give only one moment
+-- in each state the clock can give only one moment, and only one state follows
 abbrev pub TellsOne : {C : Type 0} → (C → ℕ → C → Type 0) → Type 0
 TellsOne {C} tick = (c d e : C) (m n : ℕ) → tick c m d → tick c n e → (m ≡ n) × (d ≡ e)
 
--- in each state the desk has only one answer to an act at a moment, unless memory runs out
+-- in each state the desk has only one answer to an act at a moment, and only one state follows, unless memory runs out
 abbrev pub AnswersOne : {D : Type 0} → (D → Act → ℕ → Answer → D → Type 0) → Type 0
 AnswersOne {D} step =
     (d e f : D) (act : Act) (moment : ℕ) (a b : Answer) → step d act moment a e → step d act moment b f → ¬ (a ≡ OutOfMemory)

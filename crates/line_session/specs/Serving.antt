@@ -29,7 +29,7 @@ good (outcome ∷ outcomes) = one_good outcome + good outcomes
 
 -- A session over this input and output had this result. Either all lines were answered, or the session failed and a
 -- beginning of the answers was written. Each fault has its cause: a device failed, all reads were made, the journal
--- failed at a line, or something needed memory.
+-- failed at a line, or memory ran out at one.
 pub record Sits {S I O : Type 0} (says : S → List ℕ → List ℕ → S → Type 0) (drops : HandlerError → S → List ℕ → S → Type 0) (takes : List ℕ → Type 0)
     (remaining : I → Option (List ℕ)) (reads read_failures : I → ℕ) (written : O → Option (List ℕ)) (write_failures : O → ℕ)
     (result : Result Ended SessionFault) (i : I) (o : O) (s s' : S) : Type 0 where
@@ -52,7 +52,7 @@ abbrev pub SitsAtDesk : {C D I O : Type 0} → (D → Act → ℕ → Answer →
 SitsAtDesk step tick role = Sits (desk_says step tick role) (desk_drops step tick role) (desk_takes role)
 
 -- One connection: it couldn't be opened, and clock and desk weren't asked. Or it was opened, a session ran over it, and
--- how the session ended was told at the doors.
+-- how the session ended was reported to the doors.
 abbrev pub Visits : {D S I O : Type 0} → (D → I → O → D → Type 0) → (D → D → Type 0) → (D → Result Ended SessionFault → Type 0)
     → (Result Ended SessionFault → I → O → S → S → Type 0) → Outcome → D → S → D → S → Type 0
 Visits opens fails told sits None d s d' s' = fails d d' × (s' ≡ s)

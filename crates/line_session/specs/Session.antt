@@ -69,6 +69,6 @@ desk_drops step tick role why s line s' =
     (act : Act) × (moment : ℕ) × (answer : Answer) × IsUnsaid why answer × (line_read role line ≡ Ok act) × tick s.0 moment s'.0
     × step s.1 act moment answer s'.1
 
--- only a load needs memory before the desk is asked
+-- the line is a load that the role may send: only such a line needs memory before the desk is asked
 abbrev pub desk_takes : Role → List ℕ → Type 0
 desk_takes role line = IsLoad role (words line)

@@ -37,8 +37,8 @@ impl AnswerBuffer {
         self.held.bytes.len() >= MOST_WAITING
     }
 
-    /// Writes the buffered answers, and empties the buffer. The error is that a write failed: then some of the answers'
-    /// first bytes may have been written, and the buffer is empty too.
+    /// Writes the buffered answers, and empties the buffer. The error is that a write failed: then a beginning of the
+    /// answers may have been written, and the buffer is empty too.
     pub fn flush<O: LineOut>(&mut self, output: &mut O) -> Result<(), SessionFault>
         ensures ok { OnOk result
             (Sends self.old.held.bytes.items [] (O.written output.old) (O.written output.new)) }
@@ -74,8 +74,8 @@ impl AnswerBuffer {
     }
 
     /// Appends an answer with its LF to the buffer. If there is no memory for that, writes the buffered answers and
-    /// then this answer, and empties the buffer. The error is that a write failed: then some of the first bytes of
-    /// these answers may have been written, and the buffer is empty too.
+    /// then this answer, and empties the buffer. The error is that a write failed: then a beginning of these answers
+    /// may have been written, and the buffer is empty too.
     pub fn put<O: LineOut>(
         &mut self,
         alloc: Global,

@@ -36,7 +36,8 @@ pub enum SessionFault {
     /// N3: the session would need more reads than it is allowed to make.
     ReadsSpent,
     OutOfMemory,
-    /// The journal failed, so the line has no answer: the site takes no further event.
+    /// The journal failed: at least the last line that was read has no whole answer, and the site takes no further
+    /// event.
     Journal,
 }
 
@@ -85,8 +86,8 @@ impl From<HandlerError> for SessionFault {
     }
 }
 
-/// Returns the fault that ends a session: the line is too long, or it is the last line and has no LF. Returns `None` if
-/// a whole line was read, or if the input ended and no line was begun.
+/// Returns the fault of a line that ends a session: the line is too long, or the input ends before its LF. Returns
+/// `None` if a whole line was found, or if the input ended and no line was begun.
 pub(crate) fn cut_of(found: Found) -> Option<LineFault>
     ensures { result ≡ cut_by found }
 {
@@ -97,9 +98,9 @@ pub(crate) fn cut_of(found: Found) -> Option<LineFault>
     }
 }
 
-/// Returns how many answers a session gave in all, and the fault `cut` of its last line. The session has given `lines`
-/// answers so far. If `cut` isn't `None`, first writes the fault as one more answer, which is counted too. The error is
-/// that this write failed.
+/// Ends a session that has given `lines` answers so far, which must be at most `READS`. If `cut` isn't `None`, it is
+/// the fault of the last line, and is written as one more answer. Returns the number of all answers, and `cut`. The
+/// error is that the write failed.
 fn end<O: LineOut>(
     alloc: Global,
     output: &mut O,
@@ -128,7 +129,8 @@ fn end<O: LineOut>(
 }
 
 /// Answers the lines of an input in order, with at most `left` reads, and sets `left` to the number of reads that
-/// remain. `handler` writes each answer to `output`, and can use and change `clock` and `desk`.
+/// remain. `left` must be at most `READS` before. `handler` writes each answer to `output`, and can use and change
+/// `clock` and `desk`.
 ///
 /// The session ends at the end of the input. A line that is too long, or a last line without LF, is answered with its
 /// fault, and the session ends there too. The error is that a read or a write failed, that a read is needed and `left`

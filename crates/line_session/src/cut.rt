@@ -10,9 +10,10 @@ use crate::line_handler::LineHandler;
 /// in each state of the clock and the desk can give only one answer to a line, after which only one state follows. Such
 /// a handler gives the same answers to the same bytes from the same state, unless memory runs out or a session fails.
 ///
-/// The contract of `answer_lines` describes what it read and wrote by the bytes of the input alone, whatever the device
-/// is. So two calls with the same bytes end alike if both return `Ok`. A reader that lost bytes after a line's LF, or
-/// took the bytes of one read for a line, could not have this contract.
+/// The contract of `answer_lines` describes what is read and written in terms of the input's bytes alone, whatever the
+/// device is. So two calls with such a handler, the same bytes and the same state before end alike if both return `Ok`
+/// and no answer is that memory ran out. A loop that lost bytes after a line's LF, or took the bytes of one read for a
+/// line, could not have this contract.
 pub fn law_of_the_cut<C, D, S: LineHandler<C, D>>()
     ensures { (handler : S) → IsDetermined (S.says handler) → CutsAlike (S.says handler) }
 {}

@@ -7,19 +7,21 @@ pub trait Desk {
     ghost use Rattle.till_request.specs.declared.act.Act.{Act};
     ghost use Rattle.till_request.specs.declared.act.Answer.{Answer};
 
-    /// For proofs: which answers the desk can give to an act at a moment, and its state after that.
+    /// For proofs: in the first state, the desk can give this answer to this act at this moment, and be in the second
+    /// state afterwards.
     ghost step: { Self → Act → ℕ → Answer → Self → Type 0 };
 
-    /// Returns the answer to an act that is asked at a moment.
+    /// Returns the desk's answer to an act that is asked at this moment.
     fn answer(&mut self, act: Act, moment: u64) -> Answer
         ensures { step self.old act moment result self.new };
 }
 
-/// A clock: it gives moments.
+/// A clock: it gives the moments at which acts are asked. Where a site is served, they are in seconds since the start
+/// of 1970.
 pub trait Clock {
     ghost use Rattle.std.specs.Prelude.{ℕ};
 
-    /// For proofs: which moments the clock can give, and its state after that.
+    /// For proofs: in the first state, the clock can give this moment, and be in the second state afterwards.
     ghost tick: { Self → ℕ → Self → Type 0 };
 
     /// Returns the current moment.

@@ -71,7 +71,8 @@ fn say<O: LineOut>(alloc: Global, output: &mut O, answer: &Answer) -> Result<(),
     }
 }
 
-/// The line handler for a role: it answers with a desk, at the moments of a clock.
+/// A line handler for the lines of a role. It answers a line with a desk's answer to the line's act, at the moment that
+/// a clock gives, or, if the line can't be read as an act of the role, with the line's fault.
 #[derive(Clone, Copy)]
 pub struct DeskHandler {
     pub role: Role,

@@ -10,12 +10,12 @@ use crate::desk_handler::DeskHandler;
 use std::alloc::Global;
 use till_request::{LineIn, LineOut, Role};
 
-/// Answers the lines of an input in order, like `answer_lines`, as acts of a role, with the desk's answers at the
-/// clock's moments. A line that can't be read as an act of the role is answered with its fault. But if this fault is
-/// `OutOfMemory`, the line has no answer, and the session ends with this error.
+/// Answers the lines of an input in order, like `answer_lines`. Each line is read as an act of the role, and answered
+/// with the desk's answer at the moment that the clock gives. A line that can't be read as such an act is answered with
+/// its fault. But if this fault is `OutOfMemory`, the line has no answer, and the session ends with this error.
 ///
-/// After an error, all answers before it have been written. If it is that a write failed, some of the first bytes of
-/// the next answer may have been written too.
+/// After an error, all earlier answers have been written. If the error is `Write`, a beginning of the next answer may
+/// have been written too.
 pub fn session<I: LineIn, O: LineOut, C: Clock, D: Desk>(
     alloc: Global,
     role: Role,

@@ -35,7 +35,7 @@ pub trait Doors {
         false
     }
 
-    /// Reports how the session over one of the connections ended.
+    /// Reports to these doors how a session over one of their connections ended.
     fn ended(&self, outcome: &Result<Ended, SessionFault>)
         ensures { told self.now outcome.now };
 }

@@ -20,15 +20,15 @@ pub trait LineHandler<C, D> {
     ghost use Rattle.line_session.specs.Answering.{FallsShort, Said, is_write_fault};
     ghost use Rattle.line_session.specs.declared.line_handler.HandlerError.{HandlerError};
 
-    /// For proofs: which answers the handler can give to a line, and the states of the clock and the desk before and
-    /// after it.
+    /// For proofs: with the clock and the desk in the first state, the handler can answer this line (the first list of
+    /// bytes) with this text (the second), and leave the clock and the desk in the second state.
     ghost says: { Self → (C × D) → List ℕ → List ℕ → (C × D) → Type 0 };
 
-    /// For proofs: with which error a line can be left without an answer (memory ran out, or the journal failed), and
-    /// the states of the clock and the desk before and after that.
+    /// For proofs: the handler can leave this line without an answer, with this error (memory ran out, or the journal
+    /// failed). The clock and the desk are in the first state before the line, and in the second state after it.
     ghost drops: { Self → HandlerError → (C × D) → List ℕ → (C × D) → Type 0 };
 
-    /// For proofs: for which lines the handler can run out of memory before anything has changed.
+    /// For proofs: at this line, the handler can run out of memory before anything has changed.
     ghost takes: { Self → List ℕ → Type 0 };
 
     /// Writes the answer to a line, which is given without its LF. An error ends the session.

@@ -45,7 +45,7 @@ impl Progress {
     }
 
     /// Writes the buffered answers, unless they have fewer than 16,384 bytes and the input has the whole next line in
-    /// its buffer.
+    /// its buffer. The error is that a write failed.
     fn flush_unless_more<S: Doors>(
         &mut self,
         doors: &S,
@@ -67,7 +67,8 @@ impl Progress {
         self.waiting.flush(&mut connection.output)
     }
 
-    /// Answers the line that was read. The answer is buffered, or written at once if there is no memory to buffer it.
+    /// Answers the line that was read last. The answer is buffered, or written at once if there is no memory to buffer
+    /// it. The error is that a write failed, that memory ran out, or that the journal failed.
     fn answer_line<O: LineOut, C: Clock, D: Desk>(
         &mut self,
         role: Role,
@@ -93,10 +94,9 @@ impl Progress {
         self.waiting.put(alloc, output, &answer)
     }
 
-    /// Returns how many answers a session gave in all, and the fault `cut` of its last line. The session has given
-    /// `lines` answers so far. If `cut` isn't `None`, first answers the last line with the fault, and counts this
-    /// answer too. The answer is buffered, or written at once if there is no memory to buffer it. The error is that a
-    /// write failed.
+    /// Ends a session that has given `lines` answers so far, which must be at most `READS`. If `cut` isn't `None`, it
+    /// is the fault of the last line, and the line is answered with it. This answer is buffered, or written at once if
+    /// there is no memory to buffer it. Returns the number of all answers, and `cut`. The error is that a write failed.
     fn end<O: LineOut>(
         &mut self,
         output: &mut O,
@@ -126,7 +126,8 @@ impl Progress {
         }
     }
 
-    /// Answers the lines of a connection in order. At the end some answers may still be in the buffer.
+    /// Answers the lines of a connection in order. Before, the buffer must be empty, and at most `READS` reads may
+    /// remain. At the end some answers may still be in the buffer.
     fn answer_lines<S: Doors, C: Clock, D: Desk>(
         &mut self,
         role: Role,
@@ -171,51 +172,6 @@ impl Progress {
                 found => return self.end(&mut connection.output, count, cut_of(found)),
             }
             count += 1;
-        }
-    }
-
-    /// Answers the lines of a connection in order, and then writes the answers that are still in the buffer. But after
-    /// a device has failed nothing more is written.
-    fn answer_all<S: Doors, C: Clock, D: Desk>(
-        &mut self,
-        role: Role,
-        doors: &S,
-        connection: &mut Connection<S::In, S::Out>,
-        clock: &mut C,
-        desk: &mut D,
-    ) -> Result<Ended, SessionFault>
-        requires { (self.old.left ≡ session_reads) × (self.old.waiting.held.bytes.items ≡ []) }
-        ensures said { IfOk result (λ ended. Ends (desk_says D.step C.tick role) (clock.old, desk.old)
-            (clock.new, desk.new) (S.In.remaining connection.old.input) (S.In.remaining connection.new.input)
-            (S.Out.written connection.old.output) (S.Out.written connection.new.output) ended.lines ended.cut) }
-        ensures broken { OnErr result
-            (Breaks (desk_says D.step C.tick role) (desk_drops D.step C.tick role) (clock.old, desk.old)
-            (clock.new, desk.new) (S.In.remaining connection.old.input) (S.In.remaining connection.new.input)
-            (S.Out.written connection.old.output) (S.Out.written connection.new.output)) }
-        ensures read_fault { RoseBy (one_if (is_read result)) (S.In.failures connection.old.input)
-            (S.In.failures connection.new.input) }
-        ensures write_fault { RoseBy (one_if (is_write result)) (S.Out.failures connection.old.output)
-            (S.Out.failures connection.new.output) }
-        ensures reads { SpendsReads session_reads result (S.In.reads connection.old.input)
-            (S.In.reads connection.new.input) (S.In.asked connection.old.input) (S.In.asked connection.new.input) }
-        ensures stopped { IfErr result (λ fault. fault ≢ SessionFault.Write
-            → StopsAtDoor (desk_says D.step C.tick role) (desk_drops D.step C.tick role) (desk_takes role) fault
-            (clock.old, desk.old) (clock.new, desk.new) (S.In.remaining connection.old.input)
-            (S.In.remaining connection.new.input) (S.Out.written connection.old.output)
-            (S.Out.written connection.new.output)) }
-    {
-        match self.answer_lines(role, doors, connection, clock, desk) {
-            Ok(ended) => {
-                self.waiting.flush(&mut connection.output)?;
-                Ok(ended)
-            }
-            Err(fault) => {
-                if device_failed(fault) {
-                    return Err(fault);
-                }
-                self.waiting.flush(&mut connection.output)?;
-                Err(fault)
-            }
         }
     }
 }
@@ -263,5 +219,17 @@ pub fn pipelined_session<S: Doors, C: Clock, D: Desk>(
         (S.Out.written connection.new.output)) }
 {
     let mut progress = Progress::new(alloc);
-    progress.answer_all(role, doors, connection, clock, desk)
+    match progress.answer_lines(role, doors, connection, clock, desk) {
+        Ok(ended) => {
+            progress.waiting.flush(&mut connection.output)?;
+            Ok(ended)
+        }
+        Err(fault) => {
+            if device_failed(fault) {
+                return Err(fault);
+            }
+            progress.waiting.flush(&mut connection.output)?;
+            Err(fault)
+        }
+    }
 }

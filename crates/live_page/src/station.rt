@@ -27,7 +27,7 @@ pub struct Station<'a> {
     /// The workers and their connections: for tills, for dispensers and for the owner, each only if the site has
     /// workers for them or had some.
     pub peers: &'a [Peers],
-    /// The moment, in seconds since the start of 1970.
+    /// The moment at which the station is shown, in seconds since the start of 1970.
     pub moment: u64,
     /// The resident memory of the process in bytes, if it is known.
     pub memory: Option<u64>,

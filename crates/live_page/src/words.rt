@@ -11,17 +11,17 @@ use till_request::{Act, Reply, Request, Role};
 #[derive(Clone, Copy)]
 struct Phrase(&'static str, Text, Text);
 
-/// Returns a phrase of a number.
+/// Returns a phrase whose form has one place, for a number.
 fn of_number(form: &'static str, number: u32) -> Phrase {
     Phrase(form, digits(number), NONE)
 }
 
-/// Returns a phrase of two numbers.
+/// Returns a phrase whose form has two places, for two numbers in this order.
 fn of_numbers(form: &'static str, first: u32, second: u32) -> Phrase {
     Phrase(form, digits(first), digits(second))
 }
 
-/// Returns a phrase of a number and an amount in cents.
+/// Returns a phrase whose form has two places, for a number and then an amount in cents.
 fn of_amount(form: &'static str, number: u32, amount: u64) -> Phrase {
     Phrase(form, digits(number), hundredths(amount))
 }
@@ -97,7 +97,7 @@ fn event_words(event: &DispenserEvent) -> Phrase {
     }
 }
 
-/// Returns who sent an act, and what it is.
+/// Returns who sent an act, and what the act is, in words.
 fn act_words(act: &Act) -> (Phrase, Phrase) {
     match act {
         Act::Till { till, request } => (of_number("till {}", *till), request_words(request)),

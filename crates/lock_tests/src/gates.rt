@@ -164,7 +164,7 @@ fn are_granted<L: SiteLedger + Send + Sync, R: Threads + Wait + Sync>(
     Some(beside(rt, forecourt, first, second))
 }
 
-/// Closes a forecourt with these passes, and returns how many entries its site has.
+/// Closes a forecourt with these passes, and returns how many entries its site has, or `None` if the close is refused.
 fn closed<L: SiteLedger, R: Wait>(
     rt: &R,
     forecourt: Forecourt<L>,
@@ -176,8 +176,8 @@ fn closed<L: SiteLedger, R: Wait>(
     }
 }
 
-/// Reopens a forecourt that couldn't be closed, closes it with the passes that the refused close gave back and with
-/// `last`, and returns how many entries its site has.
+/// Reopens a forecourt that couldn't be closed, and closes it with the passes that the refused close gave back and with
+/// `last`. Returns how many entries its site has, or `None` if this close is refused too, or memory ran out.
 fn closed_again<L: SiteLedger, R: Wait>(
     rt: &R,
     kept: CloseFault<L>,
@@ -202,8 +202,9 @@ fn closed_in_the_end<L: SiteLedger, R: Wait>(
     }
 }
 
-/// Makes the calls of both tills at a new forecourt, and closes it. Returns whether both got their releases, why the
-/// first close was refused, and how many entries the site has.
+/// Makes the calls of both tills at a new forecourt, and closes it with `closed_in_the_end`. Returns whether all calls
+/// had the expected results, why the first close was refused, and how many entries the site has. Returns `None` if the
+/// forecourt couldn't be made or prepared for the calls, or if `closed_in_the_end` returns `None`.
 fn both<L: SiteLedger + Send + Sync, R: Threads + Wait + Sync>(
     rt: &R,
     alloc: Global,

@@ -1,4 +1,4 @@
--- Definitions: what a request on the page port asks for, and why another is refused.
+-- Definitions: what a request on the page port asks for, or why it is refused.
 use Rattle.std.specs.Prelude.{◌==◌, nat_lt, ℕ, List, [], ◌∷◌, length, take, drop, map, codes, Bool, true, false}
 use Rattle.std.specs.Prelude.{Option, Some, None, option_map, Result, Ok, Err, if◌then◌else◌, ◌&&◌, ◌||◌, not}
 use Rattle.std.specs.Char.{to_ascii_lowercase}
@@ -14,7 +14,7 @@ use Rattle.page_port.specs.declared.asked.Refusal.TheVariants as refusals
 use Rattle.page_port.specs.declared.asked.View.{View}
 use Rattle.page_port.specs.declared.asked.View.TheVariants as views
 
--- whether what follows a host's name is nothing, or a colon and a port
+-- whether what follows a host's name is empty, or begins with a colon, as a port does
 abbrev pub is_port : List ℕ → Bool
 is_port [] = true
 is_port (b ∷ _) = b == 58
@@ -39,7 +39,7 @@ abbrev pub host_of : Parts → Option (List ℕ)
 host_of head = host_in (option_map authority_host (uri_authority head.uri))
     (option_map (λ v. v.bytes) (get head.headers (codes "host")))
 
--- whether a request is for this machine; one that names no host is
+-- whether a request for this host is for this machine; a request that names no host is
 abbrev pub is_for_here : Option (List ℕ) → Bool
 is_for_here None = true
 is_for_here (Some host) = is_here host
@@ -47,7 +47,7 @@ is_for_here (Some host) = is_here host
 abbrev pub is_read : List ℕ → Bool
 is_read method = bytes_eq method (codes "GET") || bytes_eq method (codes "HEAD")
 
--- the lines behind the entry with a number
+-- the view of the journal's lines after the entry with this number; a refusal if no number could be read
 abbrev pub lines_after : Result ℕ LineFault → Result View Refusal
 lines_after (Ok n) = Ok (views.Journal n)
 lines_after (Err _) = Err refusals.NoNumber

@@ -64,8 +64,8 @@ impl Refusal {
     }
 }
 
-/// Returns whether what follows a host's name is a port, with its colon, or nothing. The form of a port was checked
-/// when the request was read.
+/// Returns whether `rest`, which follows a host's name, is empty or begins with a colon, as a port does. The form of a
+/// port was checked when the request was read.
 fn is_port(rest: &[u8]) -> bool
     ensures { result ≡ is_port rest.now }
 {
@@ -93,8 +93,8 @@ fn is_here(host: &[u8]) -> bool
     is_named(host, b"localhost") || is_named(host, b"127.0.0.1") || is_named(host, b"[::1]")
 }
 
-/// Returns the view of the journal's lines after the entry whose number `digits` spells. The error is `NoNumber` if it
-/// spells no number below 2^32.
+/// Returns the view of the journal's lines after the entry whose number `digits` spells. The error is `NoNumber` if
+/// `digits` spells no number below 2^32.
 fn lines_after(digits: &[u8]) -> Result<View, Refusal>
     ensures { result ≡ lines_after (number 32 digits.now) }
 {
@@ -123,8 +123,8 @@ fn journal_at(query: Option<&[u8]>) -> Result<View, Refusal>
     }
 }
 
-/// Returns what a path shows. The query of `/journal` gives the entry after which its lines begin. That of another path
-/// doesn't matter. The error is `NoSuchPath` for a path that shows nothing, and `NoNumber` for a wrong query of
+/// Returns what a path shows. The query of `/journal` gives the entry after which its lines begin. The query of any
+/// other path is ignored. The error is `NoSuchPath` for a path that shows nothing, and `NoNumber` for a wrong query of
 /// `/journal`.
 fn view_at(path: &[u8], query: Option<&[u8]>) -> Result<View, Refusal>
     ensures { result ≡ view_at path.now (option_copied query.entry) }

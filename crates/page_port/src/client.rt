@@ -42,7 +42,7 @@ pub struct Client {
     connection: Connection,
     /// When the connection was opened, and later when its answer was made.
     since: Instant,
-    /// Whether the answer was sent whole, and nothing more will be.
+    /// Whether the answer was sent whole, and nothing more will be sent.
     is_answered: bool,
 }
 

@@ -34,7 +34,7 @@ impl JournalCounts {
         self.bytes.fetch_add(bytes as u64, Ordering::SeqCst);
     }
 
-    /// Counts a sync, and adds the time `taken`, if answers wait for syncs.
+    /// Counts a sync, which took the time `taken`. If answers don't wait for syncs, does nothing.
     pub fn synced(&self, taken: Duration) {
         if let Some(syncs) = &self.syncs {
             syncs.add(taken);

@@ -31,9 +31,9 @@ const MEMORY_PAGE: u64 = 4096;
 
 /// A port of 127.0.0.1 on which somebody looks at a site while it is served.
 ///
-/// One thread answers one request on each connection, up to 32 of them at once, so that a peer that hangs keeps nobody
-/// waiting. A request has 5 seconds to come, and an answer has 5 seconds to be taken; then the connection ends. What is
-/// shown is copied under the site's lock, a piece of bounded size at a time, and sent afterwards.
+/// One thread serves up to 32 connections at once, and answers one request on each, so that a peer that hangs keeps
+/// nobody waiting. A request has 5 seconds to come, and an answer has 5 seconds to be taken; then the connection ends.
+/// What is shown is copied under the site's lock, a piece of bounded size at a time, and sent afterwards.
 #[derive(Drop)]
 pub struct PagePort<'a> {
     rt: &'a HostRuntime,
@@ -66,9 +66,9 @@ fn listen<H: Net<Listener = TcpListener, Stream = TcpStream>>(
     }
 }
 
-/// Gives each client a turn. If the result of a client's turn is `Over`, closes its connection and removes it from the
-/// list; the last client of the list, if it is another one, takes its place, and has no turn in this call. Returns
-/// whether the result of at least one turn was `Moved` or `Over`.
+/// Gives each client a turn. A client whose turn gives `Over` is removed from the list, and its connection is closed.
+/// The last client of the list, if it is another one, then takes its place, and has no turn in this call. Returns
+/// whether at least one turn gave `Moved` or `Over`.
 fn take_turns<S: Service, R: Clock>(rt: &R, clients: &mut Vec<Client>, service: &mut S) -> bool {
     let mut went_on = false;
     for place in 0..clients.len() {
@@ -93,8 +93,8 @@ fn take_turns<S: Service, R: Clock>(rt: &R, clients: &mut Vec<Client>, service: 
 
 impl<'a> PagePort<'a> {
     /// Opens a port of 127.0.0.1 on which a site can be looked at. The site has `tills` tills, and `connections` counts
-    /// its workers and their connections. `journal` has the counts of the file in which its journal is kept, if it is
-    /// kept in one. A port above 65,535 gives the error `InvalidInput`. `host` is the same runtime as `rt`.
+    /// its workers and their connections. `journal` has the counts of the file in which the site's journal is kept, if
+    /// it is kept in one. A port above 65,535 gives the error `InvalidInput`. `host` must be the same runtime as `rt`.
     pub fn open<H: Net<Listener = TcpListener, Stream = TcpStream>>(
         rt: &'a HostRuntime,
         host: &H,
@@ -204,7 +204,7 @@ impl<'a> PagePort<'a> {
         self.is_leaving.load(Ordering::SeqCst)
     }
 
-    /// Answers requests, each with what the site is when it is answered, until `leave` is called.
+    /// Answers requests until `leave` is called. Each answer shows the site as it is when the answer is made.
     pub fn watch<L: SiteLedger, J: Journal, R: Wait + Clock>(
         &self,
         rt: &R,
@@ -231,7 +231,7 @@ impl<'a> PagePort<'a> {
         }
     }
 
-    /// Asks `watch` to return soon. If it waits for a connection, it stops waiting, since the socket is shut down.
+    /// Asks `watch` to return soon. If `watch` waits for a connection, it stops waiting, since the socket is shut down.
     pub fn leave(&self) {
         self.is_leaving.store(true, Ordering::SeqCst);
         let _ = self.handle.shutdown(Shutdown::Both);

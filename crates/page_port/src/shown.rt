@@ -86,7 +86,8 @@ fn add_fields(kind: Kind, response: &mut Response) -> Result<(), AllocError>
     response.add_header(header::CONNECTION, HeaderValue::from_static("close"))
 }
 
-/// Adds the field `allow`, which names GET and HEAD, if the refusal is `OtherMethod`.
+/// Adds the field `allow`, which names GET and HEAD, if the refusal is `OtherMethod`. `response` must have the header
+/// fields of an answer of the kind `Plain`, and no others.
 fn add_allowed(refusal: Refusal, response: &mut Response) -> Result<(), AllocError>
     requires { fields_of response.old ≡ fields Plain }
     ensures fields { OnOk result (fields_of response.new ≡ fields_refusing refusal) }

@@ -22,7 +22,7 @@ abbrev shown : ℕ → List ProgramText → Option Version → Option ℕ → Op
 shown before programs opened None = opened
 shown before programs opened (Some n) = option_map (λ program. record { number = n; program = program }) (slice_get programs (n - before - 1))
 
--- What holds of a list's items and of a default holds of the item at a place.
+-- If P holds of all items of a list and of the default d, it holds of the item at place k, which is d past the end.
 at_or : {A : Type 0} (P : A → Type 0) (xs : List A) (k : ℕ) (d : A) → P d → All P xs → P (get_or xs k d)
 at_or P [] k d h all = h
 at_or P (x ∷ xs) zero d h all = all 0 d (omega arith)

@@ -17,7 +17,8 @@ pub record Installs (old : SlotsValue) (slot : ℕ) (program : ProgramText) (num
   pub in_slot : version_in new slot ≡ Some (record { number = number; program = program })
   pub elsewhere : (other : ℕ) → other ≢ slot → version_in new other ≡ version_in old other
 
--- When each result is returned. A slot over 15 is reported first. Memory can run out only where a version could otherwise be made.
+-- What is true before the call if `install` returns this result. A slot over 15 is reported first. Memory can run out
+-- only where a version could otherwise be made.
 abbrev pub Refuses : SlotsValue → ℕ → Result ℕ SlotFault → Type 0
 Refuses old slot (Ok number) = (slot < 16) × (length old.programs < 4096)
 Refuses old slot (Err NoSuchSlot) = 16 ≤ slot

@@ -18,7 +18,8 @@ opened_slots before opened = record { before = before; opened = opened; installe
 abbrev pub no_versions : SlotsValue
 no_versions = opened_slots 0 []
 
--- The program that was installed as the version of this number.
+-- The program that was installed in these slots as the version `number`; None if there is none. `number` must be over
+-- `before`.
 abbrev pub installed_program : SlotsValue → ℕ → Option ProgramText
 installed_program v number = slice_get v.programs (number - v.before - 1)
 
@@ -41,6 +42,7 @@ program_among [] number = None
 program_among (None ∷ rest) number = program_among rest number
 program_among (Some w ∷ rest) number = if w.number == number then Some w.program else program_among rest number
 
--- The program of a version that was installed in these slots, or that one of them began with.
+-- The program of the version `number`, if that version was installed in these slots, or if one of them began with it;
+-- else None.
 abbrev pub program_of : SlotsValue → ℕ → Option ProgramText
 program_of v number = if nat_lt v.before number then installed_program v number else program_among v.opened number

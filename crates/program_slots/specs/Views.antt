@@ -13,14 +13,15 @@ slots_view s = record {
   programs = map (λ program. arc_value program) s.programs.items;
 }
 
--- Nothing was installed in the slot, or what was has the number of one of `count` versions that were made after the
--- first `before`.
+-- Nothing was installed in the slot, or the number of the version installed there is over `before` and at most
+-- before + count.
 abbrev pub IsVersion : ℕ → ℕ → Option ℕ → Type 0
 IsVersion before count None = Unit {0}
 IsVersion before count (Some n) = (before < n) × (n ≤ before + count)
 
--- There are 16 slots, and each stores the number of a version that was installed. There are at most 4,096 of these, and
--- at most 4,290,000,000 before them. Each slot began with no version, or with one of those before.
+-- There are 16 slots. Each stores None, or the number of a version that was installed in these slots. At most 4,096
+-- versions were installed, and at most 4,290,000,000 were made before. Each slot began with no version, or with one of
+-- those made before.
 pub record AreSlots (s : Inside) : Type 0 where
   pub slots : length s.installed ≡ 16
   pub count : length s.programs.items ≤ 4096

@@ -119,7 +119,8 @@ load_ok : (o : Option ℕ) → IsSome o → GivesNumber (number_at o)
 load_ok None h = absurd (cc)
 load_ok (Some at) h = refl
 
--- A load from the context through R1 into R0 is accepted. It gives a number, since no pointer is spilled in the context.
+-- A load from the context through R1 into R0 is accepted. It gives a number, since no pointer is spilled in the
+-- context.
 loaded_first : (layout : Layout) (fact : Fact) (i : Inst) (size : Size) → LoadsArgument layout i size → 2 ≤ length fact.types → type_at fact.types 1 ≡ Ctx 0
     → Accepted (set_type fact.types i.dst (loaded_type layout fact.stack fact.spills (type_at fact.types i.src) i (bytes_in size)))
 loaded_first layout fact i size f l b =

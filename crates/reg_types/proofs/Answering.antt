@@ -202,7 +202,7 @@ begin_right bytes (BadRegister pc) h e = absurd (cc)
 begin_right bytes (HalfWide pc) h e = absurd (cc)
 begin_right bytes NoMemoryToDecode h e = h
 
--- bytes that begin right have the right length
+-- if `BeginRight` holds of bytes, their length isn't wrong: with a wrong length, any P would follow
 pub never_wrong : (P : Type 0) (bytes : List ℕ) → BeginRight bytes → has_right_length bytes ≡ false → P
 never_wrong P bytes right wrong = let never : true ≡ false = sym right.right_length ∙ wrong in absurd (cc)
 

@@ -173,8 +173,8 @@ module _ (us : List ProgramUnit) (options : LoadOptions) (pc : ℕ) (i : Inst) (
       → IfSome (jump_of next) (λ to. to ≤ 512)
   jump_small e next j to = small_jump next (jumps_ahead next (next_ahead e next j to))
 
-  -- an instruction is visited if it is accepted, the fact after it is joined into its jump's target, and carried to the
-  -- next instruction
+  -- `IsVisited` holds if an instruction is accepted, and the fact after it is joined into its jump's target (if it has
+  -- a jump) and carried to the next instruction (if a run can go on there)
   pub visited : (e : Effect) (after : Fact) (next : Successors) (carried : Option StoredFact) (old new : Facts) → upper ≡ upper_of us pc
       → ok_of e ≡ judged (length us) pc options fact i upper form → IsAfter fact e after → some_of (list_of next) ≡ leads pc i form → IsNext pc form next
       → jump_of next ≡ target_by pc form i → carried ≡ carried_of after next → ((q : ℕ) → AreSame (new q) (arrived_all q after (jumps_of next) (old q)))
@@ -196,7 +196,7 @@ module _ (us : List ProgramUnit) (options : LoadOptions) (pc : ℕ) (i : Inst) (
       → flaw_under us options pc (Some fact) ≡ Some (located pc flaw)
   refused_here flaw up j = flaw_is (Err flaw) up j
 
-  -- memory ran out as the fact after an accepted jump was stored for its target
+  -- `OutOfMemory` is a refusal that a unit with an accepted jump can get
   pub ran_out : (e : Effect) (next : Successors) → upper ≡ upper_of us pc → ok_of e ≡ judged (length us) pc options fact i upper form
       → jump_of next ≡ target_by pc form i → (jump_of next ≡ None → ⊥) → IsUnitRefused us options pc (Some fact) OutOfMemory
   ran_out e next up j jump some = (flaw_is (Ok e) up j, λ none. some (jump ∙ sym target_is ∙ none))

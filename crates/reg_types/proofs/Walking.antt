@@ -105,7 +105,8 @@ one_instruction : (x y : Inst × Form) (o : Option (Inst × Form)) → o ≡ Som
 one_instruction x y o a b = cc
 
 module _ (us : List ProgramUnit) (options : LoadOptions) (q : ℕ) where
-  -- the instruction before unit q is one of the first n units, and all that is known of q is the fact after that instruction
+  -- the instruction before unit q is one of the first n units, and all that is known of q is the fact after that
+  -- instruction
   record IsLast (n : ℕ) : Type 0 where
     before : ℕ
     below : before < n

@@ -23,7 +23,8 @@ abbrev pub PlainOption : Option Fact → Type 0
 PlainOption None = ⊤
 PlainOption (Some fact) = ArePlain fact.types
 
--- if `fact` is known before the instruction, it is accepted, and after it R1 points to the context and R0 holds a number
+-- if `fact` is known before the instruction, it is accepted, and after it R1 points to the context and R0 holds a
+-- number
 abbrev pub PlainAt : List ProgramUnit → ℕ → LoadOptions → Inst → Fact → Type 0
 PlainAt us pc options i fact =
     (upper : ℤ) (form : Form) → form_of i.opcode ≡ Some form → (e : Effect) × (judged (length us) pc options fact i upper form ≡ Ok e) × ArePlain e.types

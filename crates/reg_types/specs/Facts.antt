@@ -157,8 +157,8 @@ abbrev pub HasAfter : Bool → List Bool → ℕ → ℕ → ℕ → Type 0
 HasAfter true set at len p = Has set p ⊎ Within at len p
 HasAfter false set at len p = Has set p × ¬ (Within at len p)
 
--- the fact after an instruction: the types of its effect, the set with a number's bytes added or a pointer's removed, and the new
--- spills
+-- `after` is the fact after an instruction with this effect, if `fact` is the one before: it has the types of the
+-- effect, the set of stack bytes with those of a written number added or those of a pointer removed, and the new spills
 pub record IsAfter (fact : Fact) (effect : Effect) (after : Fact) : Type 0 where
   pub types : after.types ≡ effect.types
   pub places : (p : ℕ) → Has after.stack p ↔ HasAfter (is_unset effect.kept) fact.stack effect.at effect.len p

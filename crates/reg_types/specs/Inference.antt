@@ -21,7 +21,7 @@ use Rattle.reg_types.specs.declared.refusal.TypeFault.{TypeFault}
 use Rattle.reg_types.specs.Refusals.{located}
 use Rattle.reg_types.specs.Rules.{join_type, is_unset, spill_of, judged}
 
--- ---- sets of stack bytes: one truth value for each byte, from the lowest on; a byte beyond the list's end isn't in the set
+-- ---- sets of stack bytes: a list of truth values, the lowest byte's first; bytes beyond its end aren't in the set
 
 -- the bytes that are in both sets
 abbrev pub common : List Bool → List Bool → List Bool
@@ -66,7 +66,7 @@ join_types [] bs = []
 join_types (a ∷ rest) [] = []
 join_types (a ∷ rest) (b ∷ bs) = join_type a b ∷ join_types rest bs
 
--- the join of two facts: what is true by both of them
+-- the join of two facts: what is true whichever of the two holds
 abbrev pub join_fact : Fact → Fact → Fact
 join_fact a b =
     record { types = join_types a.types b.types; stack = common a.stack b.stack; spills = join_spills a.spills b.spills }
@@ -174,7 +174,7 @@ passed us options pc (Some fact) q old = passed_from us options pc fact (instruc
 
 -- ---- the whole program
 
--- what is known of unit q from the entry and from the edges of the units below n: nothing where none of these reaches it
+-- what is known of unit q from the entry and from the edges of the units below n; None if none of these reaches it
 unfoldable pub known : List ProgramUnit → LoadOptions → ℕ → ℕ → Option Fact
 known us options zero q = if q == 0 then Some entry_fact else None
 known us options (suc n) q = passed us options n (known us options n n) q (known us options n q)

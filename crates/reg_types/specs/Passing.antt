@@ -80,7 +80,7 @@ pub record IsSettled (pc : ℕ) (carried : Option StoredFact) (fact : Option Fac
   pub here : AreStored (new pc) fact
   pub kept : (q : ℕ) → is_some (new q) ≡ is_some (old q)
 
--- If `fact` is known before it, the instruction at pc has no flaw. The fact after it was joined with that of its jump's
+-- The instruction at pc has no flaw if `fact` is known before it. The fact after it was joined with that of its jump's
 -- target, if it has a jump. The fact after it is also carried to the next instruction, if a run can go on there.
 pub record IsVisited (us : List ProgramUnit) (options : LoadOptions) (pc : ℕ) (fact : Fact) (next : Option StoredFact) (old new : Facts) : Type 0 where
   pub flawless : flaw_under us options pc (Some fact) ≡ None

@@ -15,7 +15,8 @@ use Rattle.bpf_model.specs.Program.{ProgramText}
 use Rattle.bpf_model.specs.declared.context.Layout.{Layout}
 use Rattle.bpf_model.specs.Layouts.{context_len}
 
--- the instruction loads into R0, through R1, which points to the context; and all bytes that it loads are inside the context
+-- the instruction loads into R0 through R1; if R1 points to the context's first byte, all bytes that it loads are
+-- inside the context
 abbrev pub LoadsArgument : Layout → Inst → Size → Type 0
 LoadsArgument layout i size = (i.dst ≡ 0) × (i.src ≡ 1) × IsSome (shifted 0 i.offset (context_len layout - bytes_in size))
 

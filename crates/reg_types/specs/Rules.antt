@@ -204,7 +204,8 @@ store_type types (Stk k) i size = marks types size (shifted (lowest k) i.offset 
 abbrev pub keeps : RegType → Effect → Result Effect Flaw
 keeps value e = if is_aligned e.len e.at then Ok (record e { kept = value }) else Err StorePointer
 
--- the effect of a store: if its place has a flaw, that one; else, for a pointer, the flaw that it can't be kept there
+-- The effect or the flaw of a store of a value of this type, from that of a store of a number to the same place. A flaw
+-- stays. An effect stays too, unless the value is a pointer: it is then kept there, or it is a flaw that it can't be.
 abbrev pub keeps_pointer : RegType → Result Effect Flaw → Result Effect Flaw
 keeps_pointer value (Err e) = Err e
 keeps_pointer value (Ok e) = if is_pointer value then keeps value e else Ok e
@@ -315,7 +316,7 @@ falls_off count pc Ja32 = false
 falls_off count pc Wide = nat_le count (pc + 2)
 falls_off count pc form = nat_le count (pc + 1)
 
--- the effect of an instruction, or its first flaw
+-- the effect of the instruction at unit pc of a program of `count` units, or its first flaw
 abbrev pub judged : ℕ → ℕ → LoadOptions → Fact → Inst → ℤ → Form → Result Effect Flaw
 judged count pc options f i upper form =
     if falls_off count pc form then Err FallsOff else effect options f i upper form

@@ -158,7 +158,8 @@ pub record IsTypeShown (bytes : List ℕ) (fault : TypeFault) : Type 0 where
   pub shows : MayHave (length code) pc unit form flaw
   pub fault_is : fault ≡ located pc flaw
 
--- what is true of bytes that are refused for this fault of decoding; it is never that memory ran out, which is `OutOfMemory`
+-- What is true of bytes that are refused for this fault of decoding. The fault is never that memory ran out, since that
+-- is the refusal `OutOfMemory`.
 abbrev pub IsDecodeRefused : List ℕ → DecodeFault → Type 0
 IsDecodeRefused bytes NoMemoryToDecode = ⊥
 IsDecodeRefused bytes fault = IsRefusedFor bytes fault
@@ -174,7 +175,7 @@ IsRefused p (Flow fault) = IsFlowRefused p.bytes fault
 IsRefused p (TypeRefusal fault) = IsTypeShown p.bytes fault
 IsRefused p OutOfMemory = ⊤
 
--- Memory is taken for this program: its bytes are 1 to 512 whole units, and the first of them has no fault.
+-- memory may run out for this program: its bytes are 1 to 512 whole units, and the first of them has no fault
 abbrev pub MayRunOut : ProgramText → Type 0
 MayRunOut p = BeginRight p.bytes
 

@@ -9,8 +9,8 @@ use flow_check::FlowFault;
 use std::fmt;
 
 /// What is wrong with an instruction, given the fact (the abstract state) before it. The first number in a variant is
-/// the unit where the instruction begins, counted from 0, which `Display` doesn't write. A second number is the
-/// register at fault (0 to 10), or the argument (1 or 2).
+/// the unit where the instruction begins, counted from 0; `Display` doesn't write this number. A second number is the
+/// register at fault (0 to 10), or the argument at fault (1 or 2).
 #[derive(Clone, Copy)]
 pub enum TypeFault {
     FallsOff(u32),

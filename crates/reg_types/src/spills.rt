@@ -8,7 +8,8 @@ ghost use Rattle.bpf_model.specs.declared.limits.TheConstants.{STACK_BYTES};
 use crate::rules::lowest_by;
 use crate::types::RegType;
 
-/// Returns the number that `Fact::spills` has for a pointer of this type; 0 for a type that isn't a pointer's.
+/// Returns the number that `Fact::spills` has for a pointer of this type; 0 for a type that isn't a pointer's, for
+/// `Ctx` over 80 and for `Stk` over 0. `Stk` below -512 gives the number of `Stk(-512)`.
 pub fn spill_of(value: RegType) -> u16
     ensures { result ≡ spill_by value }
 {
@@ -53,7 +54,8 @@ pub fn join_spills(spills: &mut [u16; 64], others: &[u16; 64])
 }
 
 /// Writes `spill` for each aligned place of eight bytes that has at least one of the `len` bytes from byte `at` on,
-/// counted from the stack's lowest byte. `len` is at least 1.
+/// counted from the stack's lowest byte. These bytes must be inside the stack. `len` is meant to be at least 1: if it
+/// is 0, the place that has byte `at` still gets `spill`, unless `at` is that place's first byte.
 pub fn put_spill(spills: &mut [u16; 64], spill: u16, at: u32, len: u32)
     requires { at + len ≤ STACK_BYTES }
     ensures { spills.new ≡ respilled spill at len 0 spills.old }

@@ -65,7 +65,8 @@ impl Table {
         }
     }
 
-    /// Copies the stored fact of a unit to `fact`, if the unit has one, and returns whether it has one.
+    /// Copies the stored fact of unit `at` to `fact`, if the unit has one, and returns whether it has one. `at` must be
+    /// at most 512.
     pub fn read_at(&self, at: u32, fact: &mut Fact) -> bool
         requires { at ≤ UNITS }
         ensures { fact_if result fact.new ≡ stored self.now at }
@@ -79,8 +80,8 @@ impl Table {
         }
     }
 
-    /// Joins the stored fact of a unit with `fact`, sets both to the join, and returns true. If the unit has no stored
-    /// fact, changes nothing and returns false.
+    /// Joins the stored fact of unit `at` with `fact`, sets both to the join, and returns true. If the unit has no
+    /// stored fact, changes nothing and returns false. `at` must be at most 512.
     pub fn join_at(&mut self, at: u32, fact: &mut Fact) -> bool
         requires { at ≤ UNITS }
         ensures joined { IsTrue result → IsJoined at fact.old (stored self.old) (stored self.new) }
@@ -104,8 +105,9 @@ impl Table {
         Ok(())
     }
 
-    /// Adds the fact that a jump brings to its target `at`: joins it with the target's stored fact, or stores it if
-    /// there is none. The error is that memory ran out. Memory is taken only if the target has no stored fact.
+    /// Adds the fact that a jump brings to its target `at`, which must be at most 512: joins the fact with the target's
+    /// stored fact, or stores it if there is none. The error is that memory ran out. Memory is taken only if the target
+    /// has no stored fact.
     pub fn enter(&mut self, at: u32, fact: &Fact) -> Result<(), AllocError>
         requires { at ≤ UNITS }
         ensures entered { OnOk result ((q : ℕ)

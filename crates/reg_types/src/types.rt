@@ -191,7 +191,7 @@ impl Fact {
     }
 
     /// Applies an instruction's write to the stack: changes which bytes are set and which pointers are spilled. The
-    /// types are not changed here.
+    /// write must be inside the stack's 512 bytes. The types are not changed here.
     pub fn apply(&mut self, mark: StackWrite)
         requires { mark.at + mark.len ≤ STACK_BYTES }
         ensures { IsAfter self.old (effect_of self.old.types mark) self.new }
@@ -201,8 +201,8 @@ impl Fact {
         }
     }
 
-    // Applies a write of at least one byte. The bytes of a number become set, and are no longer part of a spill. Those
-    // of a pointer become a spill, and are no longer set.
+    // Applies a write, which is meant to have at least one byte and must be inside the stack. The bytes of a number
+    // become set, and are no longer part of a spill. The bytes of a pointer become a spill, and are no longer set.
     fn write(&mut self, mark: StackWrite)
         requires { mark.at + mark.len ≤ STACK_BYTES }
         ensures types { self.new.types ≡ self.old.types }

@@ -1,4 +1,4 @@
--- When the head goes on behind the bytes that were read.
+-- When the bytes that were read are no whole head yet.
 use Rattle.std.proofs.Common.{◌≡◌, ℕ, ◌<◌, ◌≤◌, nat_lt, Bool, true, false, List, length, take, refl}
 use Rattle.std.proofs.lemmas.Bool.{ltb-true, ltb-false}
 use Rattle.std.proofs.lemmas.List.{take_all}

@@ -4,7 +4,7 @@ use Rattle.site_config.specs.declared.flaw.Place.{Place}
 use Rattle.site_config.specs.declared.flaw.ConfigFlaw.{ConfigFlaw}
 use Rattle.site_config.specs.declared.flaw.ConfigFlaw.TheVariants.{OutOfRange}
 
--- The number at this place if it is from low to high.
+-- The number that the configuration has at this place, if it is from `low` to `high`, or else the flaw.
 abbrev pub ranged : Place → ℕ → ℕ → ℤ → Result ℕ ConfigFlaw
 ranged place low high (pos n) = if nat_le low n && nat_le n high then Ok n else Err (OutOfRange place (pos n) low high)
 ranged place low high (negsuc n) = Err (OutOfRange place (negsuc n) low high)

@@ -226,8 +226,8 @@ each_door one (d ∷ ds) = do
   Ok (x ∷ xs)
 
 -- Where and how to serve a site of this many tills and points. The flaw is that of the first step that fails: the
--- doors' addresses and roles, clashes among them, the numbers of `[serve]`, the page's port, and last whether each till
--- and each point has a door.
+-- doors' addresses and roles, clashes among them, the numbers of `[serve]`, the page's port, and last whether each side
+-- has few enough workers, and a door for each till or point.
 unfoldable pub serve_of : ℕ → ℕ → TypedServe → Result ServeValue ConfigFlaw
 serve_of tills points s = do
   fit ← doors_fit tills points s.doors

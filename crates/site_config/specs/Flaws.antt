@@ -36,8 +36,9 @@ position_of (NotUtf8 line column) = Some (line, column)
 position_of (NotToml line column message) = Some (line, column)
 position_of flaw = None
 
--- A text has this flaw, and its position is right. For `NotUtf8` it is where the text stops being UTF-8. For `NotToml`,
--- which is told of UTF-8 alone, it is some place in the text, or its end. Memory runs out only at a text that is UTF-8.
+-- The flaw's position is right for this text. For `NotUtf8` it is where the text stops being UTF-8. For `NotToml` the
+-- text is UTF-8, and the position is that of some byte of the text, or its end. For `OutOfMemory` the text is UTF-8. Of
+-- other flaws nothing is claimed.
 abbrev pub StandsAt : List ℕ → ConfigFlaw → Type 0
 StandsAt bytes (NotUtf8 line column) = (is_utf8 bytes ≡ false) × ((line, column) ≡ position_at bytes (utf8_valid_len bytes))
 StandsAt bytes (NotToml line column message) =
@@ -45,7 +46,7 @@ StandsAt bytes (NotToml line column message) =
 StandsAt bytes OutOfMemory = is_utf8 bytes ≡ true
 StandsAt bytes flaw = Unit {0}
 
--- For `NotToml` the flaw has this message of the TOML reader. Other flaws have none.
+-- If the flaw is `NotToml`, its message is this one. Other flaws have no message, and nothing is claimed of them.
 abbrev pub HasMessage : List ℕ → ConfigFlaw → Type 0
 HasMessage message (NotToml line column told) = string_bytes told ≡ message
 HasMessage message flaw = Unit {0}

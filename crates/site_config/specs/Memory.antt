@@ -1,5 +1,6 @@
--- Definitions: what takes memory while a configuration is read (this profile). Memory is taken for a copy of a text that
--- isn't empty, and for each item of a list, once the item is read. Elsewhere out of memory is never told.
+-- Definitions: what takes memory while the settings are read from a TOML document (this profile). Memory is taken for a
+-- copy of a text that isn't empty, and for each item of a list, once the item is read. No other step of this reports
+-- that memory ran out.
 use Rattle.std.specs.Prelude.{◌≡◌, ◌<◌, ◌⊎◌, ℕ, ℤ, List, [], ◌∷◌, length, codes, Option, Some, None, Result, IsOk, IsOkAnd, IsSomeAnd}
 use Rattle.toml.specs.Data.{Data, Items, Members, no_items, item, get_member}
 use Rattle.site_config.specs.declared.flaw.ConfigFlaw.{ConfigFlaw}
@@ -129,11 +130,12 @@ MakesFirst one (x ∷ xs) = IsOk (one x)
 unfoldable pub TakesPrices : List ℤ → Type 0
 TakesPrices zs = (length zs ≡ 8) × MakesFirst (price_of 0) zs
 
--- There are doors. Of doors with a flaw the flaw is told: they are made once no flaw is left.
+-- There are doors. They take memory when they are made, which is only once none of them has a flaw.
 abbrev pub HasDoors : ServeValue → Type 0
 HasDoors s = 0 < length s.doors
 
--- Making the settings takes memory, the first time for the prices.
+-- Making the settings takes memory: the numbers that are checked before the prices are in range, and the prices are the
+-- first to take memory.
 unfoldable pub TakesSettings : Typed → Type 0
 TakesSettings d = IsOk (ranged (At Top key.Tills) 1 64 d.tills) × IsOk (ranged (At Top key.PriceSlot) 0 15 d.price_slot) × TakesPrices d.prices
 

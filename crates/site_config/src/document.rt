@@ -11,7 +11,8 @@ use std::alloc::Global;
 use toml::Table;
 
 /// Returns the position after `byte`, which is at the position `at`. A position is a line and a column, both counted
-/// from 1. The column counts characters, and a line ends with its LF.
+/// from 1. The column counts characters, and a line ends with its LF. Both numbers of `at` must be below the greatest
+/// `usize`.
 fn past(at: (usize, usize), byte: u8) -> (usize, usize)
     requires { (at.0 < usize.MAX) × (at.1 < usize.MAX) }
     ensures { result ≡ past at byte }
@@ -44,7 +45,8 @@ fn position_at(bytes: &[u8], at: usize) -> (usize, usize)
 }
 
 /// Returns the flaw `NotToml` for an error that the TOML reader found in `text` at the byte with the index `at`: the
-/// line and the column of this byte, and a copy of the reader's message. If memory ran out, returns `OutOfMemory`.
+/// line and the column of this byte, and a copy of the reader's message. `at` must be at most the length of `text`. If
+/// it is this length, the error is at the end. If memory ran out, returns `OutOfMemory`.
 fn not_toml(alloc: Global, text: &str, at: usize, message: &str) -> ConfigFlaw
     requires { at ≤ length text.now }
     ensures fault { result ≢ ConfigFlaw.OutOfMemory → IsOfText result }

@@ -87,8 +87,8 @@ fn check_address(place: Place, address: &RawAddress) -> Result<(), ConfigFlaw>
 }
 
 /// Adds the point `value` to the points in `bits`, and returns all of them as bits: point p is bit p - 1. The value is
-/// item `place`, counted from 0, of the list at `list`. The error is `OutOfRange` if the value isn't from 1 to
-/// `points`, the number of the site's points, or `PointTwice` if `bits` has the point already.
+/// item `place`, counted from 0, of the list at `list`. The site has `points` points, which must be at most 32. The
+/// error is `OutOfRange` if the value isn't from 1 to `points`, or `PointTwice` if `bits` has the point already.
 #[tactic(auto, unfolding(crate::specs::Doors::with_point))]
 fn add_point(
     list: Place,
@@ -125,9 +125,9 @@ fn add_points(list: Place, points: u32, values: &[i64]) -> Result<u32, ConfigFla
     Ok(bits)
 }
 
-/// Returns the points in `values`, the list at `list`, as bits: point p is bit p - 1. The site has `points` points. The
-/// error is `WrongCount` if the list is empty. Else it is `OutOfRange` or `PointTwice`, for the first value that isn't
-/// a point of the site or is a point a second time.
+/// Returns the points in `values`, the list at `list`, as bits: point p is bit p - 1. The site has `points` points,
+/// which must be at most 32. The error is `WrongCount` if the list is empty. Else it is `OutOfRange` or `PointTwice`,
+/// for the first value that isn't a point of the site or is a point a second time.
 #[tactic(auto, unfolding(crate::specs::Doors::bits_of))]
 fn make_bits(list: Place, points: u32, values: &[i64]) -> Result<u32, ConfigFlaw>
     requires { points ≤ POINTS }
@@ -147,8 +147,9 @@ pub fn law_of_own_lines()
     ensures { DoorsTakeOwnLines }
 {}
 
-/// Makes the role of a door. `place` is where the configuration has the door's address. The error is that a number
-/// names no till or point of the site, that a point is listed twice, or that no point is listed.
+/// Makes the role of a door, at a site with `tills` tills and `points` points. `points` must be at most 32. `place` is
+/// where the configuration has the door's address. The error is that a number names no till or point of the site, that
+/// a point is listed twice, or that no point is listed.
 #[tactic(auto, unfolding(crate::specs::Doors::role_of))]
 fn make_role(tills: u32, points: u32, place: Place, role: &RawRole) -> Result<Role, ConfigFlaw>
     requires { points ≤ POINTS }
@@ -260,8 +261,8 @@ fn check_apart(doors: &[RawDoor]) -> Result<(), ConfigFlaw>
     Ok(())
 }
 
-/// Returns the flaw of the first door whose port is `port`, that of the page on which the site is shown, or `None` if
-/// no door has this port.
+/// `port` is the port of the page on which the site is shown. Returns the flaw of the first door that has the same
+/// port, or `None` if no door has it.
 fn page_clash(port: i64, doors: &[RawDoor]) -> Option<ConfigFlaw>
     ensures found { result ≡ page_clash port doors.now }
     ensures memory { IfSome result (λ flaw. flaw ≢ ConfigFlaw.OutOfMemory) }
@@ -375,9 +376,9 @@ fn first_left(side: Side, doors: &[RawDoor], most: u32) -> Option<ConfigFlaw>
     None
 }
 
-/// Checks the doors of one side. `shared` is the number of the shared door's workers, `most` is the most workers that
-/// the side may have, and `numbers` is how many tills or points the site has. The error is `TooManyWorkers`, or
-/// `WithoutDoor` for the first till, or point, whose lines no door takes.
+/// Checks the doors of one side. `most` is the most workers that the side may have. `shared`, the number of the shared
+/// door's workers, must be at most `most`. `numbers` is how many tills or points the site has. The error is
+/// `TooManyWorkers`, or `WithoutDoor` for the first till, or point, whose lines no door takes.
 #[tactic(auto, unfolding(crate::specs::Doors::side_fits))]
 fn check_side(
     side: Side,
@@ -454,7 +455,8 @@ fn make_doors(alloc: Global, counts: Counts, doors: &[RawDoor]) -> Result<Vec<Do
     Ok(made)
 }
 
-/// Returns a number of `[serve]` if it is from low to high. The error is `OutOfRange`.
+/// Returns `value`, which the key `key` of `[serve]` has, if it is from `low` to `high`. Otherwise the error is
+/// `OutOfRange`.
 fn number_of(key: Key, value: i64, low: u32, high: u32) -> Result<u32, ConfigFlaw>
     ensures read { Finds (λ x. x) result (ranged (Place.At Section.Serve key) low high value) }
     ensures memory { result ≢ Err ConfigFlaw.OutOfMemory }

@@ -5,7 +5,8 @@ ghost use Rattle.site_config.specs.Demands.{ranged};
 
 use crate::flaw::{ConfigFlaw, Place};
 
-/// Returns the number if it is from low to high. The error is `OutOfRange`.
+/// Returns `value`, which the configuration has at `place`, if it is from `low` to `high`. Otherwise the error is
+/// `OutOfRange`.
 pub fn in_range(place: Place, value: i64, low: u32, high: u32) -> Result<u32, ConfigFlaw>
     ensures read { Finds (λ x. x) result (ranged place low high value) }
     ensures range { IfOk result (λ n. (low ≤ n) × (n ≤ high)) }

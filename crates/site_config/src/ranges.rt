@@ -34,7 +34,7 @@ const MOST_COUNTER: u64 = 9_223_372_036_854_775_807;
 /// The greatest price of a litre, in thousandths of the currency.
 const MOST_PRICE: u32 = 9_999_999;
 
-/// Returns the number if it is not below 0. The error is `OutOfRange`.
+/// Returns `value`, which the configuration has at `place`, if it is not below 0. Otherwise the error is `OutOfRange`.
 fn not_negative(place: Place, value: i64) -> Result<u64, ConfigFlaw>
     ensures read { Finds (λ x. x) result (ranged place 0 MOST_COUNTER value) }
     ensures memory { result ≢ Err ConfigFlaw.OutOfMemory }

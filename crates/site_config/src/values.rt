@@ -197,7 +197,8 @@ pub fn check_keys(alloc: Global, table: &Table, section: Section) -> Result<(), 
     Err(ConfigFlaw::UnknownKey(section, name))
 }
 
-/// Returns the items of a key's list as numbers. The error is `WrongType`, or that memory ran out.
+/// Returns the items of a key's list as numbers. The error is `WrongType` for the first item that isn't an integer, or
+/// that memory ran out.
 pub fn read_integers(
     alloc: Global,
     values: &[Value],

@@ -69,7 +69,7 @@ there_held : (tills : ℕ) (points : List PointState) (n : ℕ) (p : PointState)
 there_held tills points n p true at all = get_held tills points (n - 1) p at all
 there_held tills points n p false at all = absurd (let e : ◌≡◌ {A = Option PointState} None (Some p) = at in cc)
 
--- What holds of each point holds of the one with a number.
+-- If `IsHeldWithin` holds for each point, it holds for the point of number n.
 at_held : (tills : ℕ) (points : List PointState) (n : ℕ) (p : PointState) → at_number points n ≡ Some p → All (IsHeldWithin tills) points
     → IsHeldWithin tills p
 at_held tills points n p at all = there_held tills points n p (nat_le 1 n) at all
@@ -88,7 +88,7 @@ holders_kept config past s l first = after_all config.tills (AreHeld config.till
 
 -- ---- the versions in force are accepted and good
 
--- The program of a load is accepted and good.
+-- If there is a load, its program is accepted and good.
 abbrev IsGoodLoad : Option (ℕ × ProgramText) → Type 0
 IsGoodLoad None = Unit {0}
 IsGoodLoad (Some l) = IsGood l.1 × (refusal_of l.1 ≡ None)

@@ -29,11 +29,12 @@ use Rattle.site_core.specs.Step.{effect, effect_of, asked, load_reply}
 use Rattle.site_core.specs.Site.{SiteValue}
 use Rattle.site_core.specs.Days.{next_day, numbered_on}
 
--- The entries of a day, newest first, as they follow the site's own history.
+-- The one long history, newest entry first: the site's own, followed by the entries of the next day, numbered on.
+-- `later` has these entries newest first.
 abbrev pub followed : SiteValue → List Entry → List Entry
 followed site later = map (numbered_on (length site.history)) later ++ reverse site.history
 
--- The count of versions behind an entry: one more, if it loaded one.
+-- The count of versions after an entry: one more than before it if the entry loaded a version.
 abbrev counted : ℕ → Option (ℕ × ProgramText) → ℕ
 counted n None = n
 counted n (Some l) = n + 1
@@ -42,7 +43,7 @@ counted-sum : (all day before : ℕ) (o : Option (ℕ × ProgramText)) → all �
 counted-sum all day before None h = h
 counted-sum all day before (Some l) h = omega arith
 
--- The versions of the one long history are those of both days.
+-- The one long history has as many versions as both days together.
 pub versions-followed : (site : SiteValue) (later : List Entry) → versions (followed site later) ≡ versions later + versions (reverse site.history)
 versions-followed site [] = omega arith
 versions-followed site (e ∷ later) =
@@ -52,21 +53,22 @@ counted-more : (n : ℕ) (o : Option (ℕ × ProgramText)) → n ≤ counted n o
 counted-more n None = omega arith
 counted-more n (Some l) = omega arith
 
--- An entry more doesn't make the versions fewer.
+-- With one more entry there are at least as many versions.
 pub versions-more : (e : Entry) (later : List Entry) → versions later ≤ versions (e ∷ later)
 versions-more e later = counted-more (versions later) (loaded e.act e.reply)
 
--- The next version has the same number.
+-- The next version has the same number in the one long history and on the next day.
 next-number : (site : SiteValue) (later : List Entry) → versions_before site.config + versions (followed site later) + 1
     ≡ versions_before (next_day site) + versions later + 1
 next-number site later = let n = versions-followed site later in omega arith
 
--- The version in force in a slot behind an entry: the one that it loaded there, with this number, or else the older one.
+-- The version in force in a slot after an entry: the one that the entry loaded there, with this number, or else the
+-- older one.
 abbrev newest : ℕ → ℕ → Option Version → Option (ℕ × ProgramText) → Option Version
 newest slot number older None = older
 newest slot number older (Some l) = if l.0 == slot then Some (record { number = number; program = l.1 }) else older
 
--- The same version is in force in each of slots 0 to 15.
+-- In each of slots 0 to 15 the same version is in force in the one long history and on the next day.
 in_force-followed : (site : SiteValue) (slot : ℕ) (later : List Entry) → slot ≤ 15
     → in_force site.config slot (followed site later) ≡ in_force (next_day site) slot later
 in_force-followed site slot [] h =
@@ -74,7 +76,7 @@ in_force-followed site slot [] h =
 in_force-followed site slot (e ∷ later) h =
     λ i. newest slot (next-number site later i) (in_force-followed site slot later h i) (loaded e.act e.reply)
 
--- If a program is asked, it is one in slots 0 to 15.
+-- If a request asks a program, it is one in slots 0 to 15.
 abbrev IsWithin : Asks → Type 0
 IsWithin (asks.Decision q) = q.slot ≤ 15
 IsWithin _ = Unit {0}
@@ -121,7 +123,7 @@ kind-kept s q Release = at_point-kept s q
 kind-kept s q Preset = at_point-kept s q
 kind-kept s q Price = busy-kept q (first_busy s)
 
--- A decision has the same effect.
+-- A decision has the same effect in the one long history and on the next day.
 decided-followed : (site : SiteValue) (later : List Entry) (s : SiteState) (till moment : ℕ) (q : Question) (r : Result Question Reply) → q.slot ≤ 15
     → IfOk r (λ x. x ≡ q) → decided site.config (followed site later) s till moment r ≡ decided (next_day site) later s till moment r
 unfolding decided
@@ -130,14 +132,15 @@ decided-followed site later s till moment q (Ok x) h same =
     let within : x.slot ≤ 15 = subst (λ (y : Question). y.slot ≤ 15) (sym same) h in
     rw (in_force-followed site x.slot later within, decided) refl
 
--- What a request leads to has the same effect.
+-- What a request leads to has the same effect in the one long history and on the next day.
 asks-followed : (site : SiteValue) (later : List Entry) (s : SiteState) (till moment : ℕ) (a : Asks) → IsWithin a
     → effect_of site.config (followed site later) s till moment a ≡ effect_of (next_day site) later s till moment a
 asks-followed site later s till moment (asks.Decision q) h = decided-followed site later s till moment q (admitted s q) h (kind-kept s q q.kind)
 asks-followed site later s till moment (asks.Command n command) h = refl
 asks-followed site later s till moment (asks.Show n) h = refl
 
--- A load has the same reply while the one long history has fewer than 4,096 versions.
+-- A load has the same reply in the one long history and on the next day, while the long one has fewer than 4,096
+-- versions.
 load-followed : (site : SiteValue) (later : List Entry) (slot : ℕ) → versions (reverse site.history) + versions later < 4096
     → load_reply site.config slot (followed site later) ≡ load_reply (next_day site) slot later
 load-followed site later slot h =
@@ -146,7 +149,8 @@ load-followed site later slot h =
     let short : nat_lt (versions later) 4096 ≡ true = grind (arith, nat_tests) in
     rw (long, short, next-number site later) refl
 
--- An event has the same effect while the one long history has fewer than 4,096 versions.
+-- An event has the same effect in the one long history and on the next day, while the long one has fewer than 4,096
+-- versions.
 pub effect-followed : (site : SiteValue) (later : List Entry) (s : SiteState) (moment : ℕ) (act : Act) → IsConfig site.config
     → versions (reverse site.history) + versions later < 4096
     → effect site.config (followed site later) s moment act ≡ effect (next_day site) later s moment act

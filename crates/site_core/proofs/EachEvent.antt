@@ -36,8 +36,9 @@ use Rattle.site_core.proofs.Decisions.{decided-refused, decided-none, decided-so
 use Rattle.site_core.proofs.Grants.{grant-none, grant-some, verdict-deny, verdict-grant}
 use Rattle.site_core.proofs.Points.{commanded-none, commanded-some, reported-none, reported-some}
 
--- What each part of an event leaves true: another point in place of one, whose transactions stay held within the tills, what is cleared, a price in its range, and the
--- counters after a run.
+-- P stays true after each part of an event: after one point is replaced, after the totals of what was cleared change,
+-- after a price of at most 9,999,999 is set, and after a run. `IsHeldWithin` must hold for the new point if it holds
+-- for the replaced one.
 pub record Stays (tills : ℕ) (P : SiteState → Type 0) : Type 0 where
   pub at_point : (s : SiteState) (n : ℕ) (p new : PointState) → at_number s.points n ≡ Some p → (IsHeldWithin tills p → IsHeldWithin tills new) → P s
       → P (with_point s n new)

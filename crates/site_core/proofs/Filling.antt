@@ -56,7 +56,7 @@ same-both (suc n) (x ∷ xs) (y ∷ ys) len front rest =
     let same : xs ≡ ys = same-both n xs ys (omega arith) (λ k d lt. front (suc k) d (omega arith)) rest in
     λ i. front zero x (omega arith) i ∷ same i
 
--- Behind its points, a list that is filled up to a length has only what it is filled with.
+-- If a list of at most n items is mapped and then filled up to m places with z, the places from n on have only z.
 drop-filled : {A B : Type 0} (f : A → B) (z : B) (xs : List A) (n m : ℕ) → length xs ≤ n
     → drop n (map f xs ++ replicate (m - length xs) z) ≡ replicate (m - n) z
 drop-filled f z [] n m le =

@@ -23,7 +23,8 @@ use Rattle.site_core.specs.declared.question.Kind.TheVariants.{Release, Preset, 
 abbrev IsHeld : ℕ → Transaction → Type 0
 IsHeld tills t = t.holder ≤ tills
 
--- The point that an answer leaves has such transactions.
+-- Each unpaid transaction of the point that this answer leaves is held by nobody or by one of these many tills. Always
+-- true of a refusal.
 abbrev pub LeavesHeld : {T : Type 0} → ℕ → Answer T → Type 0
 LeavesHeld tills (Ok o) = IsHeldWithin tills o.0
 LeavesHeld tills (Err f) = Unit {0}
@@ -43,7 +44,7 @@ rest_if tills next p false h = h
 rest_held : (tills : ℕ) (next : State) (p : PointState) → IsHeldWithin tills p → IsHeldWithin tills (rest_in next p)
 rest_held tills next p h = rest_if tills next p (is_busy p.state) h
 
--- An answer that is the point under a test, or else a refusal.
+-- If `LeavesHeld` holds for two answers, it holds for the one of them that a test selects.
 tested : {T : Type 0} (tills : ℕ) (b : Bool) (x y : Answer T) → LeavesHeld tills x → LeavesHeld tills y → LeavesHeld tills (if b then x else y)
 tested tills true x y h k = h
 tested tills false x y h k = k
@@ -117,7 +118,7 @@ released_held tills granted p h =
 preset_held : (tills granted : ℕ) (p : PointState) → IsHeldWithin tills p → LeavesHeld tills (command_step p 0 (command.Preset granted))
 preset_held tills granted p h = tested tills (is_ready p.state) (Ok (record p { preset = granted }, None)) (Err (WrongState p.state)) h tt
 
--- A command of one of the tills leaves them so.
+-- After a command of one of the tills, a point's transactions are still held by nobody or by one of the tills.
 pub command_held : (tills till : ℕ) (p : PointState) (c : Command) → till ≤ tills → IsHeldWithin tills p → LeavesHeld tills (command_step p till c)
 command_held tills till p command.OpenPoint le h =
     tested tills (is_closed p.state) (Ok (record p { state = ready_state p.nozzle }, None)) (Err (WrongState p.state)) h tt
@@ -139,7 +140,7 @@ after_if : (tills : ℕ) (p : PointState) (a : Answer (Option ℕ)) → IsHeldWi
 after_if tills p (Ok o) h k = k
 after_if tills p (Err f) h k = h
 
--- So does a grant.
+-- After a grant, too, a point's transactions are still held by nobody or by one of the tills.
 pub grant_held : (tills till g : ℕ) (p : PointState) (k : Kind) → IsHeldWithin tills p → IsHeldWithin tills (after_command p till (command_of k g))
 grant_held tills till g p Release h = after_if tills p (command_step p till (command.Release g)) h (released_held tills g p h)
 grant_held tills till g p Preset h = after_if tills p (command_step p till (command.Preset g)) h (preset_held tills g p h)
@@ -162,7 +163,7 @@ order_held : (tills : ℕ) (p : PointState) (o : Option Order) → IsHeldWithin 
 order_held tills p None h = tt
 order_held tills p (Some x) h = h
 
--- And so does an event of the dispenser.
+-- After a dispenser's event, too, a point's transactions are still held by nobody or by one of the tills.
 pub event_held : (tills : ℕ) (p : PointState) (e : DispenserEvent) → IsHeldWithin tills p → LeavesHeld tills (event_step p e)
 event_held tills p (event.Up n) h =
     tested tills (p.nozzle == 0 && nat_le 1 n && nat_le n 8 && takes_up p.state) (Ok (record p { nozzle = n; state = state_after_up p.state }, None))

@@ -23,11 +23,11 @@ length-followed site later =
       length-reverse site.history,
     )
 
--- The number of the next entry is greater by the length of the day before.
+-- In the one long history the number of the next entry is greater by the length of the day before.
 numbers : (site : SiteValue) (later : List Entry) → length later + 1 + length site.history ≡ length (followed site later) + 1
 numbers site later = let l = length-followed site later in omega arith
 
--- The next day's step of an entry is the step of the entry that is numbered on.
+-- If the next day's step makes this entry, then the one long history's step makes the entry numbered on.
 step-on : (site : SiteValue) (later : List Entry) (before after : SiteState) (e : Entry) → IsConfig site.config
     → versions (reverse site.history) + versions later < 4096 → Step (next_day site) later before e.pass e.moment e.act e after
     → Step site.config (followed site later) before e.pass e.moment e.act (numbered_on (length site.history) e) after
@@ -47,7 +47,7 @@ step-on site later before after e is few st =
       leaves = st.leaves ∙ ap (λ (x : Effect). x.after) (sym same);
     }
 
--- The step of an entry that is numbered on is the next day's step of that entry.
+-- If the one long history's step makes an entry numbered on, then the next day's step makes the entry itself.
 step-back : (site : SiteValue) (later : List Entry) (before after : SiteState) (e : Entry) → IsConfig site.config
     → versions (reverse site.history) + versions later < 4096
     → Step site.config (followed site later) before e.pass e.moment e.act (numbered_on (length site.history) e) after
@@ -74,7 +74,7 @@ step-back site later before after e is few st =
       leaves = st.leaves ∙ ap (λ (x : Effect). x.after) same;
     }
 
--- A history of the next day, numbered on, follows the site's own history.
+-- If a history of the next day is legal, then its entries, numbered on, legally follow the site's own history.
 goes-on : (site : SiteValue) (later : List Entry) (s : SiteState) → IsConfig site.config → Upholds site → length site.history + length later ≤ 1048576
     → versions (reverse site.history) + versions later < 4096 → Legal (next_day site) later s → Legal site.config (followed site later) s
 goes-on site [] s is u room few l = subst (λ t. Legal site.config (reverse site.history) t) (sym l) u.legal
@@ -83,7 +83,7 @@ goes-on site (e ∷ later) s is u room few l =
     let less : length (followed site later) < 1048576 = omega (arith, length-followed site later) in
     (l.0, goes-on site later l.0 is u (omega arith) fewer l.1, less, step-on site later l.0 s e is fewer l.3)
 
--- What, numbered on, follows the site's own history is a history of the next day.
+-- If entries, numbered on, legally follow the site's own history, then they are a legal history of the next day.
 comes-back : (site : SiteValue) (later : List Entry) (s : SiteState) → IsConfig site.config → Upholds site
     → versions (reverse site.history) + versions later < 4096 → Legal site.config (followed site later) s → Legal (next_day site) later s
 comes-back site [] s is u few l = legal-unique site.config (reverse site.history) s site.state l u.legal

@@ -30,7 +30,7 @@ pub own_none : HaveOwnNumbers []
 unfolding IsDistinct
 own_none = tt
 
--- What a walk over the slots answers: at their end, and at a slot with a version.
+-- What the walk `have_own_numbers` answers is right at the end of the slots, and at a slot with a version.
 pub own_end : (rules : List (Option Version)) → rules ≡ [] → IsTrue true ↔ HaveOwnNumbers rules
 own_end rules is = (λ _. subst HaveOwnNumbers (sym is) own_none, λ _. refl)
 
@@ -55,7 +55,7 @@ new_set (Some w ∷ rest) zero v n h e = (e, h.1)
 new_set (None ∷ rest) (suc k) v n h e = new_set rest k v n h e
 new_set (Some w ∷ rest) (suc k) v n h e = (h.0, new_set rest k v n h.1 e)
 
--- A version with a new number leaves each slot's number its own.
+-- If a version with a new number is put into a slot, the slots still have numbers of their own.
 pub own_set : (rules : List (Option Version)) (slot : ℕ) (v : Version) → HaveOwnNumbers rules → IsNewNumber rules v.number
     → HaveOwnNumbers (set rules slot (Some v))
 own_set [] zero v h new = h
@@ -69,7 +69,7 @@ own_set (Some w ∷ rest) (suc k) v h new =
 
 -- ---- slot by slot
 
--- Two slots don't have versions of one number.
+-- Two slots don't have versions with the same number.
 abbrev pub Differ : Option Version → Option Version → Type 0
 Differ None y = Unit {0}
 Differ (Some v) None = Unit {0}
@@ -112,7 +112,7 @@ own_at (Some v ∷ rest) (suc i) (suc j) lt h = own_at rest i j (omega (arith, l
 
 -- ---- the versions in force
 
--- A slot's version has a number of at most n.
+-- The slot is empty, or the number of its version is at most n.
 abbrev pub IsUpTo : ℕ → Option Version → Type 0
 IsUpTo n None = Unit {0}
 IsUpTo n (Some v) = v.number ≤ n
@@ -121,7 +121,8 @@ up_to-more : (n : ℕ) (x : Option Version) → IsUpTo n x → IsUpTo (n + 1) x
 up_to-more n None h = tt
 up_to-more n (Some v) h = omega (arith, h)
 
--- The version in force in a slot behind a load, which has the number n + 1 if it is into that slot.
+-- The version in force in a slot after a load: the loaded program with the number n + 1 if the load is into this slot,
+-- or else the older version.
 abbrev pub taken : Bool → ℕ → ProgramText → Option Version → Option Version
 taken b n program older = if b then Some (record { number = n + 1; program = program }) else older
 
@@ -147,7 +148,7 @@ taken-differ true false n program x y apart up on d = new-first n program y on
 taken-differ false true n program x y apart up on d = new-last n program x up
 taken-differ false false n program x y apart up on d = d
 
--- The version in force in a slot behind an entry that loaded this, if n versions were loaded before.
+-- The version in force in a slot after an entry that loaded this, if n versions were loaded before the entry.
 abbrev pub newest : ℕ → ℕ → Option Version → Option (ℕ × ProgramText) → Option Version
 newest slot n older None = older
 newest slot n older (Some l) = taken (l.0 == slot) n l.1 older
@@ -175,7 +176,7 @@ rule-up_to : (n : ℕ) (rule : Option Version) → IsRule n rule → IsUpTo n ru
 rule-up_to n None h = tt
 rule-up_to n (Some v) h = h.1
 
--- The version of a slot that isn't there is none.
+-- If `IsRule n` holds for each slot of a list, then `IsUpTo n` holds at each place, also behind the list's end.
 at_or_none : (n : ℕ) (rules : List (Option Version)) (slot : ℕ) → All (IsRule n) rules → IsUpTo n (get_or rules slot None)
 at_or_none n [] slot all = tt
 at_or_none n (x ∷ rest) zero all = rule-up_to n x (all 0 None (omega arith))
@@ -201,7 +202,7 @@ in_force-up_to config good slot [] =
 in_force-up_to config good slot (e ∷ past) =
     newest-up_to slot (versions_before config) (versions past) (in_force config slot past) (loaded e.act e.reply) (in_force-up_to config good slot past)
 
--- No two slots have a version of one number in force.
+-- The versions in force in two slots don't have the same number.
 pub in_force-differ : (config : ConfigValue) → IsConfig config → (i j : ℕ) → i < j → (past : List Entry)
     → Differ (in_force config i past) (in_force config j past)
 in_force-differ config good i j lt [] = opening-differ config.opening (length config.points) i j lt good.opening

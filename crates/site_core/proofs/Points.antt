@@ -125,8 +125,8 @@ pub reported-is : (s : SiteState) (n : ℕ) (event : DispenserEvent) (p new : Po
 reported-is s n event p new (Ok order) one le is answers = reported-ok s n event p new order one le is answers
 reported-is s n event p new (Err fault) one le is answers = reported-err s n event p new fault one le is answers
 
--- A question at a point that doesn't exist is refused with `no_such_point`. At a point that exists the point is
--- checked.
+-- A question at a point that doesn't exist is refused with `no_such_point`. For a point that exists, it is checked at
+-- this point.
 pub asked-none : (s : SiteState) (q : Question) → at_number s.points q.point ≡ None → asked_at_point s q ≡ Err no_such_point
 unfolding asked_at_point
 asked-none s q none = rw (none, asked_at_point)

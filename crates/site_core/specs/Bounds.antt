@@ -3,8 +3,8 @@ use Rattle.std.specs.Prelude.{ℕ, ◌+◌, ◌*◌, ◌≤◌, All}
 use Rattle.fuelling_point.specs.Table.{PointState}
 use Rattle.site_core.specs.State.{SiteState}
 
--- The bounds after n entries of a day: beyond what an opening may have, no point has given out more than n transaction
--- numbers, and each entry cleared at most one transaction.
+-- The bounds after n entries of a day. Beyond what an opening may have, no point has given out more than n transaction
+-- numbers, and each entry has cleared at most one transaction of at most 999,999,999 cents.
 pub record Bounded (n : ℕ) (s : SiteState) : Type 0 where
   pub last : All (λ (p : PointState). p.last ≤ 4290000000 + n) s.points
   pub cleared : s.cleared ≤ 1000000000000000000 + 999999999 * n

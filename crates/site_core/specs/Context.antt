@@ -28,7 +28,8 @@ told (Some p) field = field p
 abbrev pub of_point : SiteState → Question → (PointState → ℕ) → ℕ
 of_point s q field = told (at_number s.points q.point) field
 
--- The product whose price is asked, or else the number of the point's nozzle, which is the number of its product.
+-- The product of a question: for a price the product whose price is to change. Otherwise it is the number of the
+-- point's lifted nozzle, which is the number of its product; 0 if no nozzle is lifted or there is no such point.
 abbrev pub product_of : SiteState → Question → ℕ
 product_of s q = elim q.kind [ Price ↦ q.product | _ ↦ of_point s q (λ p. p.nozzle) ]
 

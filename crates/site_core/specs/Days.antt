@@ -27,7 +27,7 @@ carried site = record {
   rules = map (λ slot. in_force site.config slot (reverse site.history)) (range_with_len 0 16);
 }
 
--- The configuration of the next day.
+-- The configuration of the next day's site: that of this site, with what this site leaves as the opening.
 abbrev pub next_day : SiteValue → ConfigValue
 next_day site = record site.config { opening = Some (carried site) }
 
@@ -36,23 +36,24 @@ abbrev pub numbered_on : ℕ → Entry → Entry
 numbered_on k entry = record entry { number = entry.number + k }
 
 -- The law of the day's end: closing a day changes nothing but the numbers of entries. A list of entries, oldest first,
--- is a legal history of the next day exactly if, numbered on, it could have followed the site's own history; and both
--- lead to the same state. This holds as long as the one long history stays within the limits of one: 1,048,576 entries, and
--- fewer than 4,096 versions.
+-- is a legal history of the next day exactly if, numbered on, it could have followed the site's own history. It leads
+-- to the same state either way. This holds as long as both days together have at most 1,048,576 entries and fewer than
+-- 4,096 versions.
 abbrev pub DayGoesOn : Type 0
 DayGoesOn = (site : SiteValue) (day : List Entry) (state : SiteState) → IsConfig site.config → Upholds site
     → length site.history + length day ≤ 1048576 → versions (reverse site.history) + versions (reverse day) < 4096
     → LegalHistory (next_day site) day state ↔ LegalHistory site.config (site.history ++ map (numbered_on (length site.history)) day) state
 
--- The law of each event: on the next day it has the effect that it would have had if the day before had gone on, however
--- many entries both days have. `later` has the entries of the next day so far, newest first.
+-- The law of each event: an event of the next day has the effect that it would have had if the day before had gone on,
+-- however many entries both days have. This holds while both days together have fewer than 4,096 versions. `later` has
+-- the entries of the next day so far, newest first.
 abbrev pub EachEventGoesOn : Type 0
 EachEventGoesOn = (site : SiteValue) (later : List Entry) (s : SiteState) (moment : ℕ) (act : Act) → IsConfig site.config
     → versions (reverse site.history) + versions later < 4096
     → effect (next_day site) later s moment act
     ≡ effect site.config (map (numbered_on (length site.history)) later ++ reverse site.history) s moment act
 
--- The counters have the same bounds.
+-- Each counter has the same bound in both lists.
 abbrev pub HaveSameBounds : Counters → Counters → Type 0
 HaveSameBounds a b = (c : ℕ) → (counter a c).1 ≡ (counter b c).1
 
@@ -64,8 +65,8 @@ BoundsStay = (site : SiteValue) → Upholds site → HaveSameBounds (carried sit
 abbrev pub IsHeldWithin : ℕ → PointState → Type 0
 IsHeldWithin tills p = All (λ (t : Transaction). t.holder ≤ tills) p.unpaid
 
--- The law of holders: if each transaction with which a site begins is held by nobody or by one of its tills, then so is
--- each that it leaves.
+-- The law of holders: if each unpaid transaction with which a site begins is held by nobody or by one of the site's
+-- tills, then so is each that the site leaves.
 abbrev pub HoldersStay : Type 0
 HoldersStay = (site : SiteValue) → Upholds site → All (IsHeldWithin site.config.tills) (opening_state site.config).points
     → All (IsHeldWithin site.config.tills) (carried site).points

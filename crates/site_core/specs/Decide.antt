@@ -1,4 +1,5 @@
--- Definitions: how a release, a preset or a price is decided (this profile). In these definitions a history has its newest entry first.
+-- Definitions: how a release, a preset or a price is decided (this profile). In these definitions a history has its
+-- newest entry first.
 use Rattle.std.specs.Prelude.{◌≡◌, ◌≤◌, ℕ, ◌-◌, ◌/◌, ◌%◌, ◌^◌, min, Bool, true, false, ◌&&◌, ◌==◌, nat_lt, nat_le, if◌then◌else◌, List, length, map, slice_set}
 use Rattle.std.specs.Prelude.{slice_index_or, Option, Some, None, Result, Ok, Err}
 use Rattle.std.specs.List.{range_with_len}
@@ -82,7 +83,8 @@ is_within least x greatest = nat_le least x && nat_le x greatest
 abbrev pub is_till : ConfigValue → ℕ → Bool
 is_till config till = is_within 1 till config.tills
 
--- The slot that decides a point's releases, and the slot that decides its presets.
+-- The slot that decides the releases of point n, and the slot that decides its presets. Both are 0 if there are fewer
+-- than n points; n = 0 gives those of point 1.
 abbrev pub slots_of : ConfigValue → ℕ → ℕ × ℕ
 slots_of config n = slice_index_or config.points (n - 1) (0, 0)
 
@@ -161,8 +163,8 @@ abbrev pub command_of : Kind → ℕ → Command
 command_of Release granted = command.Release granted
 command_of _ granted = command.Preset granted
 
--- The amount that is granted if the program answered r, and the state after the grant. If the question has no point, it
--- is a price.
+-- The amount that is granted if the program answered r, and the state after the grant. If the question's point doesn't
+-- exist, the question is taken for one about a price, whatever its kind: `asked` becomes the price of its product.
 unfoldable pub grant : SiteState → ℕ → Question → ℕ → ℕ × SiteState
 grant s till q r =
     elim (at_number s.points q.point) [

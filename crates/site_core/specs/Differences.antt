@@ -8,29 +8,29 @@ use Rattle.site_core.specs.Draft.{DraftValue, Basis}
 use Rattle.site_core.specs.declared.why.Why.{Why}
 use Rattle.site_core.specs.declared.why.Why.TheVariants as why
 
--- The first place, counted from 0, at which two lists differ.
+-- `at` is the first place, counted from 0, at which the lists a and b differ.
 pub record FirstDiffers {T : Type 0} (a b : List T) (at : ℕ) : Type 0 where
   pub within : at < length a
   pub differs : slice_get a at ≢ slice_get b at
   pub same_before : (k : ℕ) → k < at → slice_get a k ≡ slice_get b k
 
--- The declared counter with the least number whose value or bound differs.
+-- c is the number of the first declared counter whose value or bound differs in a and b.
 pub record CounterDiffers (declared : ℕ) (a b : Counters) (c : ℕ) : Type 0 where
   pub within : c < 32
   pub declares : IsTrue (is_declared declared c)
   pub differs : counter a c ≢ counter b c
   pub same_before : (k : ℕ) → k < c → IsTrue (is_declared declared k) → counter a k ≡ counter b k
 
--- Nothing that the draft's run depends on differs.
+-- Nothing that the draft's run depends on differs from what a run would be made on now.
 pub record IsFresh (now : Basis) (draft : DraftValue) : Type 0 where
   pub version : now.version ≡ Some draft.version
   pub context : now.context ≡ draft.context
   pub view : now.view ≡ draft.view
   pub counters : Agrees draft.version.program.declared draft.counters now.counters
 
--- The first difference, in this order: the version, the first byte of the context, the first point, the first price,
--- the first declared counter. Points and products are numbered from 1. The version's number and the counter's value are
--- the current ones, not the draft's.
+-- The `Why` names the first difference between the draft and what its run would be made on now, in this order: the
+-- version, the first byte of the context, the first point, the first price, the first declared counter. Points and
+-- products are numbered from 1. The version's number and the counter's value are the current ones, not the draft's.
 abbrev pub Differs : Basis → DraftValue → Why → Type 0
 Differs now draft (why.Version number) =
     (now.version ≢ Some draft.version) × (number ≡ option_map (λ (v : Version). v.number) now.version)

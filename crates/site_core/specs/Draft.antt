@@ -16,7 +16,8 @@ use Rattle.site_core.specs.State.{SiteState, at_number, view_of}
 use Rattle.site_core.specs.Context.{context}
 use Rattle.site_core.specs.Decide.{is_till, asks_of}
 
--- What a run outside the site starts from: which till asks what at which moment, and the version, context, view and counters of the run.
+-- What a run outside the site starts from: which till asks what at which moment, and the version, context, view and
+-- counters of the run.
 pub record DraftValue : Type 0 where
   pub till : ℕ
   pub moment : ℕ
@@ -55,7 +56,7 @@ abbrev pub routed : ConfigValue → SiteState → ℕ → Request → Option Que
 routed config s till request = if is_till config till then routed_request config s request else None
 
 -- What a run would be made on in the current state. The context has the layout of the version in the slot. If the till
--- or the point doesn't exist, there is no version.
+-- or the point doesn't exist, there is no version. Without a version the context is empty.
 pub record Basis : Type 0 where
   pub version : Option Version
   pub context : List ℕ

@@ -7,8 +7,8 @@ use Rattle.site_core.specs.Opening.{OpeningValue, HaveOwnNumbers}
 use Rattle.site_core.specs.declared.opening.OpeningFault.{OpeningFault}
 use Rattle.site_core.specs.declared.opening.OpeningFault.TheVariants as fault
 
--- The opening of a site with this many points is without this fault. That memory ran out is no fault of an opening, so
--- then nothing is claimed of it.
+-- The opening of a site with this many points is without this fault. `OutOfMemory` is no fault of an opening; for it
+-- this is false, so that `Misfits` claims nothing.
 abbrev pub IsWithout : ℕ → OpeningValue → OpeningFault → Type 0
 IsWithout count o fault.Points = length o.points ≡ count
 IsWithout count o fault.Prices = All (λ price. price ≤ 9999999) o.prices
@@ -21,7 +21,7 @@ IsWithout count o fault.Rules = All (IsRule o.versions) o.rules
 IsWithout count o fault.Twice = HaveOwnNumbers o.rules
 IsWithout count o fault.OutOfMemory = ⊥
 
--- The faults that are told sooner than this one, if an opening has more than one.
+-- The faults that come before this one in the order of `OpeningFault`; none for `OutOfMemory`.
 abbrev pub sooner : OpeningFault → List OpeningFault
 sooner fault.Points = []
 sooner fault.Prices = fault.Points ∷ []
@@ -36,7 +36,8 @@ sooner fault.Twice =
     fault.Points ∷ fault.Prices ∷ fault.Transactions ∷ fault.Cleared ∷ fault.Clears ∷ fault.Versions ∷ fault.Slots ∷ fault.Rules ∷ []
 sooner fault.OutOfMemory = []
 
--- The fault is the first one of the opening of a site with this many points. If memory ran out, nothing is claimed.
+-- The fault is the first one that the opening has for a site with this many points. If memory ran out, nothing is
+-- claimed.
 abbrev pub Misfits : ℕ → OpeningValue → OpeningFault → Type 0
 Misfits count o fault = AllByRecursion (IsWithout count o) (sooner fault) × ¬ IsWithout count o fault
 
@@ -57,8 +58,9 @@ IsOutgrown fault.OutOfMemory = Unit {0}
 abbrev pub AreFew : List PointState → Type 0
 AreFew points = All (λ (p : PointState). p.last ≤ 4290000000) points
 
--- The first of the numbers that only grow that is too great for an opening, if there is one. The numbers are those of
--- these points' newest transactions, the total and the count of what was cleared, and the count of versions.
+-- The fault says which of these numbers is the first that is too great for an opening; None says that none is. The
+-- numbers, which only grow, are those of these points' newest transactions, the total and the count of what was
+-- cleared, and the count of versions.
 abbrev pub IsFirstGrown : List PointState → ℕ → ℕ → ℕ → Option OpeningFault → Type 0
 IsFirstGrown points cleared clears versions None =
     AreFew points × (cleared ≤ 1000000000000000000) × (clears ≤ 1000000000000000000) × (versions ≤ 4290000000)

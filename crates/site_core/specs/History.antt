@@ -9,7 +9,7 @@ use Rattle.bpf_model.specs.Program.{ProgramText, as_loaded}
 use Rattle.program_slots.specs.Value.{Version}
 use Rattle.site_core.specs.Limits.{ConfigValue}
 
--- The slot and the program of a load that was answered with a version.
+-- The slot and the program of a load that was answered with a version. None for any other act or reply.
 abbrev pub loaded : Act → Reply → Option (ℕ × ProgramText)
 loaded (act.Load slot mask layout bytes) (reply.Version v) = Some (slot, as_loaded bytes mask layout)
 loaded _ _ = None
@@ -20,11 +20,12 @@ versions [] = 0
 versions (entry ∷ earlier) =
     elim (loaded entry.act entry.reply) [ Some _ ↦ versions earlier + 1 | None ↦ versions earlier ]
 
--- How many versions were loaded before the history begins: those of the opening.
+-- How many versions were loaded before the history begins: as many as the opening counts, or 0 without an opening.
 abbrev pub versions_before : ConfigValue → ℕ
 versions_before config = elim config.opening [ None ↦ 0 | Some o ↦ o.versions ]
 
--- The version in force in a slot when the history begins: that of the opening.
+-- The version in force in a slot when the history begins: that of the opening. None if the opening has none there, and
+-- without an opening.
 abbrev pub opening_rule : ConfigValue → ℕ → Option Version
 opening_rule config slot = elim config.opening [ None ↦ None | Some o ↦ slice_index_or o.rules slot None ]
 

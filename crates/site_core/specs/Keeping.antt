@@ -21,7 +21,8 @@ use Rattle.site_core.specs.Legal.{Legal, GoodLoad, GoodLoads}
 use Rattle.site_core.specs.Histories.{load_refusal, AcceptedLoads}
 use Rattle.decision_journal.specs.Journal.{IsWritten}
 
--- The slots have the versions of the opening and those that the history has loaded. The history has its newest entry first.
+-- The slots have the versions of the opening and those that the history has loaded. The history has its newest entry
+-- first.
 pub record Agrees (config : ConfigValue) (slots : SlotsValue) (past : List Entry) : Type 0 where
   pub in_force : (slot : ℕ) → in_force config slot past ≡ version_in slots slot
   pub before : versions_before config ≡ slots.before
@@ -44,8 +45,9 @@ pub record Keeps (config : ConfigValue) (history : List Entry) (state : SiteStat
   pub points : length state.points ≡ length config.points
   pub bounded : Bounded (length history) state
 
--- An event was performed as the step defines, and p is its entry. The slots agree with the history once an entry with
--- the act and the reply of p is added.
+-- An act was performed as the step defines, on the state `old` after the entries `past`: p has the act, moment, reply
+-- and run of its entry, and `new` is the state after it. The slots agree with the history once an entry with the act
+-- and the reply of p is added. If the act is a load, its program is accepted and good.
 pub record Performs (config : ConfigValue) (past : List Entry) (old : SiteState) (moment : ℕ) (act : Act) (p : Entry) (new : SiteState)
     (slots : SlotsValue) : Type 0 where
   pub act_is : p.act ≡ act
@@ -63,7 +65,8 @@ pub record Loads (config : ConfigValue) (old : SlotsValue) (slot : ℕ) (program
 abbrev pub with_counters : SiteState → Counters → SiteState
 with_counters s counters = record s { counters = counters }
 
--- The reply if a version answered r, and the state after it. A denial changes nothing.
+-- The reply if the program of this version answered r to the question, and the state after it. The answer 0 is a
+-- denial, and changes nothing.
 unfoldable pub settled : SiteState → ℕ → Question → ℕ → ℕ → Reply × SiteState
 settled s till q version r =
     if r == 0 then (denied version, s)

@@ -3,8 +3,8 @@ use Rattle.std.specs.Prelude.{◌≡◌, ℕ, ◌≤◌, List, length, Option, S
 use Rattle.site_core.specs.Opening.{OpeningValue, IsOpening}
 
 -- The values of a configuration. A point's pair is the slot of its releases and the slot of its presets; a counter's
--- pair is its value and its bound. Where there is an opening, the site begins with that in place of the prices and
--- counters of the configuration and of closed points.
+-- pair is its value and its bound. With an opening, the site begins with the opening's points, prices and counters.
+-- Without one, it begins with closed points, and with the prices and counters of the configuration.
 pub record ConfigValue : Type 0 where
   pub tills : ℕ
   pub price_slot : ℕ

@@ -7,9 +7,9 @@ use Rattle.bpf_model.specs.Runs.{AreCounters}
 use Rattle.program_slots.specs.Value.{Version}
 use Rattle.program_slots.specs.Slots.{IsRule}
 
--- The state in which a day begins: the points, prices in thousandths, counters with their bounds, the total of all
--- amounts that were ever cleared in cents, and how many transactions were. `versions` is how many versions were ever
--- loaded. `rules` has for each slot the version in force, if there is one.
+-- The state in which a day begins: the points, prices in thousandths, counters with their bounds, the total in cents of
+-- all amounts that were ever cleared, and how many transactions were ever cleared. `versions` is how many versions were
+-- ever loaded. `rules` has for each slot the version in force, if there is one.
 pub record OpeningValue : Type 0 where
   pub points : List PointState
   pub prices : List ℕ

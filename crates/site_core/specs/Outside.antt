@@ -35,7 +35,8 @@ run_now site till moment request = (effect site.config (reverse site.history) si
 abbrev pub reply_now : SiteValue → ℕ → ℕ → Request → Reply
 reply_now site till moment request = (effect site.config (reverse site.history) site.state moment (act.Till till request)).reply
 
--- The step would run a program for this request now, and the draft holds the request and all that this run would be made on.
+-- The step would run a program for this request now, and the draft holds the request and all that this run would be
+-- made on.
 pub record Begun (site : SiteValue) (till moment : ℕ) (request : Request) (draft : DraftValue) : Type 0 where
   pub till_is : draft.till ≡ till
   pub moment_is : draft.moment ≡ moment
@@ -57,7 +58,7 @@ Begins site till moment request begin.Direct =
     ⊎ ((run_now site till moment request ≡ None) × (is_decided (reply_now site till moment request) ≡ false))
 Begins site till moment request (begin.Run draft) = (length site.history < 1048576) × Begun site till moment request draft
 
--- The run has the version of the draft, and the answer that the draft's program gave.
+-- There is a run, with the version of the draft, and with the answer that the draft's program gave.
 abbrev pub IsRunOf : ReadyValue → Option Run → Type 0
 IsRunOf ready None = ⊥
 IsRunOf ready (Some run) = (run.version ≡ ready.draft.version.number) × (run.r0 ≡ ready.r0)

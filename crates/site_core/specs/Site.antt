@@ -46,7 +46,7 @@ unfoldable pub entered : SiteValue → ℕ → ℕ → Act → Entry
 entered site pass moment act =
     entry_of (reverse site.history) pass moment act (effect site.config (reverse site.history) site.state moment act)
 
--- The site after it entered that act.
+-- The site after it has entered an act of this pass at this moment.
 unfoldable pub site_after : SiteValue → ℕ → ℕ → Act → SiteValue
 site_after site pass moment act =
     record site { history = site.history ++ entered site pass moment act ∷ []; state = (effect site.config (reverse site.history) site.state moment act).after }

@@ -10,8 +10,8 @@ use Rattle.bpf_model.specs.Machine.{Counters, counter, no_point}
 use Rattle.site_core.specs.Opening.{OpeningValue}
 use Rattle.site_core.specs.Limits.{ConfigValue}
 
--- The state of a site. Points and products are numbered from 1, counters from 0. Prices are in thousandths. `cleared` is the total of all
--- cleared amounts in cents; `clears` is how many transactions were ever cleared.
+-- The state of a site. Points and products are numbered from 1, counters from 0. Prices are in thousandths. `cleared`
+-- is the total of all cleared amounts in cents; `clears` is how many transactions were ever cleared.
 pub record SiteState : Type 0 where
   pub points : List PointState
   pub prices : List ℕ
@@ -28,34 +28,34 @@ fresh_state config = record { points = map (λ _. fresh_point) config.points; pr
 abbrev pub opened_state : OpeningValue → SiteState
 opened_state o = record { points = o.points; prices = o.prices; counters = o.counters; cleared = o.cleared; clears = o.clears }
 
--- The state in which a site starts: that of the opening, if there is one.
+-- The state in which a site starts: that of the opening, if there is one, or else `fresh_state`.
 abbrev pub opening_state : ConfigValue → SiteState
 opening_state config = elim config.opening [ None ↦ fresh_state config | Some o ↦ opened_state o ]
 
--- The item of this number, counted from 1.
+-- The item of this number, counted from 1. None if there is no such item.
 abbrev pub at_number : {T : Type 0} → List T → ℕ → Option T
 at_number items n = if nat_le 1 n then slice_get items (n - 1) else None
 
 abbrev pub with_point : SiteState → ℕ → PointState → SiteState
 with_point s n point = record s { points = slice_set s.points (n - 1) point }
 
--- The price of a product, or 0 if it has none.
+-- The price of a product in thousandths. 0 if the product has no price, or if there is no such product.
 abbrev pub price_of : SiteState → ℕ → ℕ
 price_of s product = if nat_le 1 product then slice_index s.prices (product - 1) else 0
 
--- How many points are in states 5 to 9.
+-- How many points are in states 5 to 9: a delivery is authorised or under way there.
 unfoldable pub busy_points : SiteState → ℕ
 busy_points s = count_by (λ (p : PointState). is_busy p.state) s.points
 
--- How many points are in states 3 to 9.
+-- How many points are in states 3 to 9: all that are neither closed nor out of order.
 unfoldable pub open_points : SiteState → ℕ
 open_points s = count_by (λ (p : PointState). nat_le 3 (state_number p.state)) s.points
 
--- The state of the first point that is in one of states 5 to 9.
+-- The state of the first point that is in one of states 5 to 9. None if no point is.
 unfoldable pub first_busy : SiteState → Option State
 first_busy s = option_map (λ (p : PointState). p.state) (find (λ (p : PointState). is_busy p.state) s.points)
 
--- The value and the bound of a counter, for counters 0 to 31.
+-- The value and the bound of a counter, for counters 0 to 31. None for other numbers.
 abbrev pub counter_of : SiteState → ℕ → Option (ℕ × ℕ)
 counter_of s c = if nat_lt c 32 then Some (counter s.counters c) else None
 
@@ -67,6 +67,6 @@ seen p = record { state = state_number p.state; nozzle = p.nozzle; amount = p.am
 unfoldable pub seen_points : List PointState → List PointView
 seen_points points = map seen points ++ replicate (32 - length points) no_point
 
--- The part of the site that a program can ask about by calls: its points and its prices.
+-- The part of the site that a program can look up by calling helpers: the points and the prices.
 unfoldable pub view_of : SiteState → View
 view_of s = record { count = length s.points; points = seen_points s.points; prices = s.prices }

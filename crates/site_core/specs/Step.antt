@@ -1,4 +1,5 @@
--- Definitions: what each event does at a site (this profile). In these definitions a history has its newest entry first.
+-- Definitions: what each event does at a site (this profile). In these definitions a history has its newest entry
+-- first.
 use Rattle.std.specs.Prelude.{◌≡◌, ℕ, ◌+◌, nat_lt, nat_le, if◌then◌else◌, List, length, Option, Some, None, unwrap_or, Result, Ok, Err}
 use Rattle.fuelling_point.specs.Table.{PointState, Answer, command_step, event_step}
 use Rattle.fuelling_point.specs.States.{state_number}
@@ -41,7 +42,7 @@ abbrev pub clears_by : Option ℕ → ℕ
 clears_by None = 0
 clears_by (Some amount) = 1
 
--- The effect of a till's command, by what the point answered. The amount that a Clear cleared is added to the total,
+-- The effect of a till's command, given what the point answered. The amount that a Clear cleared is added to the total,
 -- and is counted.
 abbrev pub command_effect : SiteState → ℕ → Answer (Option ℕ) → Effect
 command_effect s n (Err fault) = replied (fault_reply fault) s
@@ -61,7 +62,7 @@ abbrev pub event_reply : Result (Option Order) PointFault → Reply
 event_reply (Ok order) = order_reply order
 event_reply (Err fault) = fault_reply fault
 
--- The effect of a dispenser's event, by what the point answered.
+-- The effect of a dispenser's event, given what the point answered.
 abbrev pub event_effect : SiteState → ℕ → Answer (Option Order) → Effect
 event_effect s n (Err fault) = replied (fault_reply fault) s
 event_effect s n (Ok (point, order)) = replied (order_reply order) (with_point s n point)
@@ -71,7 +72,7 @@ unfoldable pub reported : SiteState → ℕ → DispenserEvent → Effect
 reported s n event =
     elim (at_number s.points n) [ None ↦ replied no_such_point s | Some p ↦ event_effect s n (event_step p event) ]
 
--- The effect of a till's request, by what it leads to.
+-- The effect of a till's request, given what the request leads to.
 abbrev pub effect_of : ConfigValue → List Entry → SiteState → ℕ → ℕ → Asks → Effect
 effect_of config past s till moment (asks.Decision q) = decided config past s till moment (admitted s q)
 effect_of config past s till moment (asks.Command n command) = commanded s till n command
@@ -99,7 +100,7 @@ abbrev pub entered_moment : Act → ℕ → ℕ
 entered_moment (act.Till till request) moment = moment
 entered_moment _ moment = 0
 
--- The entry that an act of this pass makes after the history, with its effect's reply and run.
+-- The entry that an act of this pass makes after the entries `past`, with the reply and the run of this effect.
 abbrev pub entry_of : List Entry → ℕ → ℕ → Act → Effect → Entry
 entry_of past pass moment act e = record { number = length past + 1; pass = pass; moment = entered_moment act moment; act = act; reply = e.reply; run = e.run }
 

@@ -17,7 +17,8 @@ use program_slots::Slots;
 use reg_types::Program;
 use std::sync::Arc;
 
-/// Returns the place, counted from 0, of the first byte that differs; `None` if no byte does.
+/// Returns the place, counted from 0, of the first byte in which `a` and `b` differ; `None` if no byte differs. Both
+/// must have the same length, below 2^32.
 pub fn first_byte(a: &[u8], b: &[u8]) -> Option<u32>
     requires many { length a.now ≡ length b.now }
     requires small { length a.now < 2 ^ 32 }
@@ -35,15 +36,15 @@ pub fn first_byte(a: &[u8], b: &[u8]) -> Option<u32>
     None
 }
 
-/// Returns the greater number of points of two views.
+/// Returns the greater of two numbers: how many points `a` has, and how many `b` has.
 pub fn most_points(a: &View, b: &View) -> u32
     ensures { result ≡ max a.now.count b.now.count }
 {
     if a.count < b.count { b.count } else { a.count }
 }
 
-/// Returns the place, counted from 0, of the first point that differs; `None` if no point does. Only the first `count`
-/// points are compared: the others must be the same.
+/// Returns the place, counted from 0, of the first point in which `a` and `b` differ; `None` if no point differs.
+/// Compares only the first `count` points, which must be at most 32. All other points must be the same in both.
 pub fn first_point(count: u32, a: &[PointView; 32], b: &[PointView; 32]) -> Option<u32>
     requires count { count ≤ POINTS }
     requires others { drop count a.now ≡ drop count b.now }
@@ -75,7 +76,8 @@ pub fn first_price(a: &[u32; 8], b: &[u32; 8]) -> Option<u32>
     None
 }
 
-/// Returns whether counter `c` is undeclared, or has the same value and bound in both.
+/// Returns whether counter `c`, which must be 0 to 31, has the same value and bound in `a` and `b`. Also true if bit
+/// `c` of the mask `declared` isn't set.
 fn is_same_counter(declared: u32, a: &Counters, b: &Counters, c: u32) -> bool
     requires { c < COUNTERS }
     ensures { IsTrue result ↔ (IsTrue (is_declared declared c) → counter a.now c ≡ counter b.now c) }
@@ -86,7 +88,8 @@ fn is_same_counter(declared: u32, a: &Counters, b: &Counters, c: u32) -> bool
     a.get(c) == b.get(c) && a.bound(c) == b.bound(c)
 }
 
-/// Returns the number of the first declared counter whose value or bound differs; `None` if there is none.
+/// Returns the number of the first declared counter whose value or bound differs in `a` and `b`; `None` if there is
+/// none. Bit c of the mask `declared` declares counter c.
 pub fn first_counter(declared: u32, a: &Counters, b: &Counters) -> Option<u32>
     ensures { MatchOption result (Agrees declared b.now a.now) (CounterDiffers declared a.now b.now) }
 {

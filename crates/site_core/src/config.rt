@@ -16,10 +16,10 @@ use std::sync::Arc;
 /// The greatest bound of a counter: the greatest number that the text of a configuration can contain.
 const MOST_COUNTER: u64 = 9_223_372_036_854_775_807;
 
-/// The configuration that a site is started from: how many tills there are, the slot of price changes, the prices of
-/// products 1 to 8 in thousandths, for each point the slots of its releases and of its presets, and the values and
-/// bounds of the counters. Every value is in its range. If there is an opening, the site begins with the opening's
-/// prices and counters instead, and with the points, totals and versions of the opening.
+/// The configuration that a site is started from: how many tills there are, the slot that decides price changes, the
+/// prices of products 1 to 8 in thousandths, for each point the slots that decide its releases and its presets, and the
+/// values and bounds of the counters. Every value is in its range. If there is an opening, the site begins with the
+/// opening's prices and counters instead, and with the points, totals and versions of the opening.
 #[derive(Drop)]
 pub struct Config {
     tills: u32,
@@ -276,7 +276,7 @@ fn is_same_opening(a: &Option<Arc<Opening>>, b: &Option<Arc<Opening>>) -> bool
     }
 }
 
-// The contracts of this function and of the next give the prover that `==` on such lists decides their equality.
+// The contracts of this function and of the next give the prover that `==` decides whether two such lists are equal.
 fn is_same_points(a: &[(u32, u32)], b: &[(u32, u32)]) -> bool
     ensures { IsTrue result ↔ (a.now ≡ b.now) }
 {

@@ -1,4 +1,4 @@
-//! The context of a decision, and its fields.
+//! The context of a decision, which is the bytes that a program is run on, and the fields of a context.
 
 ghost use Rattle.std.specs.Prelude.{◌≡◌, length};
 ghost use Rattle.site_core.specs.Context.{kind_number, size_of, field_bytes, laid};

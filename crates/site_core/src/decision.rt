@@ -19,11 +19,11 @@ const GREATEST_AMOUNT: u64 = 999_999_999;
 /// How many products a site has.
 const PRODUCTS: u32 = 8;
 
-/// The greatest price of a litre, in thousandths.
+/// The greatest price of a litre, in thousandths of the currency.
 const GREATEST_PRICE: u64 = 9_999_999;
 
-/// Returns whether the point has room for the unpaid transaction that a release leads to. True for other kinds of
-/// request.
+/// Returns whether the point has room for the unpaid transaction that a release leads to: whether fewer than two are
+/// unpaid. True for other kinds of request.
 fn has_room(kind: Kind, point: &Point) -> bool
     ensures { result ≡ has_room kind point.now }
 {
@@ -34,8 +34,8 @@ fn has_room(kind: Kind, point: &Point) -> bool
 }
 
 /// Checks the question of a release or a preset at its point, and returns it. The error is the reply that refuses the
-/// question before a program is run: S25 for an amount out of range, else S22 for a wrong state, else S26 for a release
-/// at a point with two unpaid transactions.
+/// question before a program is run: S25 if the amount isn't 1 to 999,999,999 cents, else S22 if the point's state is
+/// neither `Idle` nor `Calling`, else S26 for a release at a point with two unpaid transactions.
 pub fn asked_at(point: &Point, question: Question) -> Result<Question, Reply>
     ensures question { result ≡ asked_at point.now question }
     ensures same { IfOk result (λ q. q ≡ question) }
@@ -53,9 +53,9 @@ pub fn asked_at(point: &Point, question: Question) -> Result<Question, Reply>
     Ok(question)
 }
 
-/// Checks the question of a price change, and returns it. `busy` is the state of the first busy point, if there is one.
-/// The error is the reply that refuses the question before a program is run: S25 for a price or a product out of range,
-/// else S22 for a busy point.
+/// Checks the question of a price change, and returns it. `busy` is the state of the first point with a delivery
+/// authorised or under way, if there is one. The error is the reply that refuses the question before a program is run:
+/// S25 if the product isn't 1 to 8 or the price isn't 1 to 9,999,999, else S22 if there is such a point.
 pub fn price_at(busy: Option<State>, question: Question) -> Result<Question, Reply>
     ensures question { result ≡ price_at busy question }
     ensures fits { IfOk result (λ q. (1 ≤ q.product) × (q.product ≤ PRODUCTS) × (q.asked ≤ GREATEST_PRICE)) }
@@ -70,9 +70,9 @@ pub fn price_at(busy: Option<State>, question: Question) -> Result<Question, Rep
     }
 }
 
-/// Returns what is granted if the program answered `r0`. For a release or a preset it is the amount `asked` in cents,
-/// but at most `r0`, and for a release also at most the point's `preset`, unless that is 0 for none. For a price it is
-/// the price `asked` in thousandths.
+/// Returns what is granted if the program answered `r0`. For a preset it is the amount `asked` in cents, but at most
+/// `r0`. For a release it is the same, but also at most the point's `preset`; a `preset` of 0 means that there is none.
+/// For a price it is the price `asked` in thousandths, whatever `r0` is.
 pub fn granted_point(kind: Kind, asked: u64, r0: u64, preset: u64) -> u64
     ensures { result ≡ granted_point kind asked r0 preset }
 {
@@ -95,7 +95,8 @@ pub fn command_of(kind: Kind, granted: u64) -> Command
     }
 }
 
-/// Returns the values of counter `c` before and after a run, or `None` if the mask doesn't declare it.
+/// Returns the values of counter `c`, which must be 0 to 31, before and after a run; `None` if bit `c` of the mask
+/// isn't set, so that the counter isn't declared.
 fn count_of(mask: u32, before: &Counters, after: &Counters, c: u32) -> Option<(u64, u64)>
     requires { c < COUNTERS }
     ensures { result ≡ count_of mask before.now after.now c }
@@ -107,8 +108,8 @@ fn count_of(mask: u32, before: &Counters, after: &Counters, c: u32) -> Option<(u
     }
 }
 
-/// Returns the values of each declared counter before and after a run. The error is that memory ran out; if no counter
-/// is declared, there is no error.
+/// Returns the values of each declared counter before and after a run. Bit c of the mask declares counter c. The error
+/// is that memory ran out; if no counter is declared, there is no error.
 pub fn note_counts(
     alloc: Global,
     mask: u32,

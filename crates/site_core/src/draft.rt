@@ -1,5 +1,5 @@
-//! Decisions whose program is run outside the site: a draft is made under the site's lock, run without it, and
-//! committed under it.
+//! Decisions whose program is run outside the site. A draft is made while the site's lock is held, run while it isn't,
+//! and committed while it is held again.
 
 ghost use Rattle.std.specs.Prelude.{◌≡◌, ◌≤◌, IfOk, IsOk, OnErr, None, length};
 ghost use Rattle.std.specs.Arc.{arc_value};
@@ -34,8 +34,9 @@ struct Input {
     view: View,
 }
 
-/// All that the run for a request needs of a site, copied when the decision begins. A draft is made only if the site
-/// would then run a program for the request. The largest parts are kept behind pointers, as a draft is moved often.
+/// All that a program's run for a till's request needs of a site, copied when the decision begins. A draft is made only
+/// if the site would run a program for the request at that time. The largest parts are kept behind pointers, as a draft
+/// is moved often.
 #[derive(Drop)]
 pub struct Draft {
     till: u32,
@@ -82,8 +83,9 @@ impl Draft {
     ghost use Rattle.site_core.specs.Outside.{drafted};
 
     /// Makes the draft for a request in the current state, or returns `Direct` if no program would be run for it. The
-    /// draft uses the memory in `spent`, which is `None` then; if it was `None` before, memory is allocated. The error
-    /// is that memory ran out, or that the program has too many owners.
+    /// draft is put into the memory in `spent`, or into new memory if `spent` is `None`. Afterwards `spent` is `None`,
+    /// also after an error; only `Direct` leaves it unchanged. The error is that memory ran out, or that the program
+    /// has too many owners.
     pub(crate) fn begin(
         config: &Config,
         station: &Station,
@@ -177,9 +179,9 @@ impl Draft {
     }
 }
 
-/// The memory of a run that has ended, and the run's program, to be used for another draft. With it a draft is made
-/// without an allocation. If that draft is of the same program, the program's count of owners doesn't change either.
-/// Otherwise all threads would change this count, and each would have to wait for the others.
+/// The memory of a run that has ended, and the run's program, to be used for another draft. With this memory a draft is
+/// made without an allocation. If that draft is of the same program, the program's count of owners doesn't change
+/// either. If each draft changed this count, the threads would have to wait for one another.
 #[derive(Drop)]
 pub struct Spent {
     program: Arc<Program>,
@@ -189,8 +191,8 @@ pub struct Spent {
 
 impl Spent {
     /// Returns the memory for a draft of this program, with this context, and with the current view and counters. It is
-    /// the memory in `spent`, which is `None` then, or new memory if `spent` was `None`. The error is that memory ran
-    /// out, or that the program has too many owners.
+    /// the memory in `spent`, or new memory if `spent` is `None`. Afterwards `spent` is `None`. The error is that
+    /// memory ran out, or that the program has too many owners.
     fn made(
         spent: &mut Option<Spent>,
         program: &Arc<Program>,
@@ -236,8 +238,8 @@ impl Spent {
         }
     }
 
-    /// Returns the same memory for a draft of this program, with this context, and with the current view and counters.
-    /// The error is that the program has too many owners.
+    /// Returns this memory, filled for a draft of this program, with this context, and with the current view and
+    /// counters. The error is that the program has too many owners.
     fn filled(
         self,
         program: &Arc<Program>,
@@ -272,7 +274,7 @@ impl Spent {
     }
 }
 
-/// A draft that was run: with the program's answer `r0`, and the counters after the run.
+/// A draft that was run, with the program's answer `r0` and the counters after the run.
 #[derive(Drop)]
 pub struct Ready {
     draft: Draft,
@@ -316,10 +318,11 @@ impl Ready {
         }
     }
 
-    /// Carries out what the program answered and returns the decision's entry, with this number and pass, if nothing
-    /// that the run depends on has changed since the draft was made. Counters that the program doesn't declare keep
+    /// If nothing that the run depends on has changed since the draft was made, carries out what the program answered,
+    /// and returns the decision's entry, with this number and pass. Counters that the program doesn't declare keep
     /// their current values. If the till asked to release fuel, it is granted at most the amount that is preset at the
-    /// point now, if one is.
+    /// point now, if one is. The station must be that of a site of this configuration, and the site's history must have
+    /// room for the entry.
     ///
     /// The error is `Stale` with the first change that was found, or, if nothing has changed, `OutOfMemory`. After an
     /// error the station is unchanged.
@@ -379,7 +382,8 @@ impl Ready {
     }
 }
 
-/// How a decision begins: `Run` with a draft to run without the lock, or `Direct` where no program is run.
+/// How a decision begins: `Run` with a draft to run without the site's lock, or `Direct` where no draft is made,
+/// because no program would be run or the history is full.
 #[derive(Drop)]
 pub enum Begin {
     Direct,

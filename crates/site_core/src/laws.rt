@@ -19,7 +19,7 @@ pub fn fresh_differs_nowhere()
     ensures { (now : Basis) (draft : DraftValue) (why : Why) → IsFresh now draft → Differs now draft why → ⊥ }
 {}
 
-/// Does nothing. Its contract is a law: a draft and a site have at most one first difference.
+/// Does nothing. Its contract is a law: between a draft and a site there is at most one first difference.
 pub fn one_difference_is_first()
     ensures { (now : Basis) (draft : DraftValue) (a b : Why) → Differs now draft a → Differs now draft b → a ≡ b }
 {}

@@ -195,7 +195,8 @@ pub(crate) fn first_grown(
     None
 }
 
-/// Returns whether each point's newest transaction has a number that an opening can have.
+/// Returns whether the number of each point's newest transaction is small enough for an opening: at most
+/// `MOST_TRANSACTIONS`.
 fn are_few(points: &[Point]) -> bool
     ensures { IsTrue result ↔ AreFew points.now }
 {

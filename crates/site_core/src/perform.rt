@@ -28,8 +28,9 @@ use std::alloc::{AllocError, Global};
 use std::sync::Arc;
 use till_request::{Act, Bytes, Reply, Request};
 
-/// Carries out an event, and returns its entry, with this number. The error is that memory ran out. Then the station
-/// and the slots are unchanged.
+/// Carries out an event, and returns its entry, which has the given number. The station must be that of a site of this
+/// configuration, and the site's history must have room for the entry. The error is that memory ran out; then the
+/// station and the slots are unchanged.
 pub fn perform(
     alloc: Global,
     config: &Config,
@@ -120,8 +121,8 @@ fn load(slots: &mut Slots, slot: u32, program: Arc<Program>) -> Result<Reply, Al
     }
 }
 
-/// Carries out a till's request, and returns the reply, and the run if a program is run. The error is that memory ran
-/// out; then the station is unchanged.
+/// Carries out a till's request, and returns the reply, and the run if a program is run. The station must be as
+/// `perform` demands. The error is that memory ran out; then the station is unchanged.
 fn ask(
     config: &Config,
     station: &mut Station,
@@ -187,8 +188,9 @@ pub fn routed(config: &Config, station: &Station, till: u32, request: &Request) 
     }
 }
 
-/// Decides a question: checks it, runs the program in its slot, and carries out what the program answers. Returns the
-/// reply, and the run if there is one. The error is that memory ran out; then the station is unchanged.
+/// Decides a question: checks it, runs the program in the question's slot, and carries out what the program answers.
+/// `till` must be at least 1, and the site's history must have room for the entry. Returns the reply, and the run if
+/// there is one. The error is that memory ran out; then the station is unchanged.
 fn decide(
     station: &mut Station,
     slots: &Slots,

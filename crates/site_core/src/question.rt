@@ -1,4 +1,4 @@
-//! Requests as questions to a program, or as commands.
+//! What a till's request leads to: a question to a program, a command to a point, or a reply that shows a point.
 
 ghost use Rattle.std.specs.Prelude.{◌≡◌};
 ghost use Rattle.site_core.specs.Decide.{asks_of};
@@ -7,7 +7,7 @@ use crate::config::Config;
 use fuelling_point::Command;
 use till_request::Request;
 
-/// The kind of request that a program decides.
+/// The kind of request that a program decides: a release of fuel, a preset amount, or a new price.
 #[derive(Clone, Copy)]
 pub enum Kind {
     Release,
@@ -16,7 +16,8 @@ pub enum Kind {
 }
 
 /// The question that a request asks a program, and the slot of that program. `asked` is an amount in cents, or a price
-/// in thousandths. A price has point 0; releases and presets have product 0.
+/// in thousandths of the currency per litre. Points and products are counted from 1. A price has point 0; releases and
+/// presets have product 0.
 #[derive(Clone, Copy)]
 pub struct Question {
     pub kind: Kind,
@@ -35,7 +36,8 @@ pub enum Asks {
     Show(u32),
 }
 
-/// Returns what a request leads to at a site of this configuration.
+/// Returns what a till's request leads to at a site of this configuration. Doesn't check whether the request's point or
+/// product exists.
 pub fn asks_of(config: &Config, request: &Request) -> Asks
     ensures { result ≡ asks_of config.now request.now }
 {

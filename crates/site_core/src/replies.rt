@@ -37,21 +37,21 @@ const NO_ORDER: Reply = Reply::Refused(33, None);
 /// S34: the dispenser's event, or a number in it, doesn't fit the point as it is now.
 const UNEXPECTED: Reply = Reply::Refused(34, None);
 
-/// S22: the request isn't possible in this state of the point.
+/// Returns S22 with the number of this state, 1 to 9: the request isn't possible while a point is in this state.
 pub fn wrong_state(state: State) -> Reply
     ensures { result ≡ wrong_state state }
 {
     Reply::Refused(22, Some(state.number()))
 }
 
-/// S23: no program is installed in the slot.
+/// Returns S23 with the number of the slot: no program is installed in this slot.
 pub fn no_program(slot: u32) -> Reply
     ensures { result ≡ no_program slot }
 {
     Reply::Refused(23, Some(slot))
 }
 
-/// S24: the program of this version denied the request.
+/// Returns S24 with the number of the version: the program of this version denied the request.
 pub fn denied(version: u32) -> Reply
     ensures { result ≡ denied version }
 {

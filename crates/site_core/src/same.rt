@@ -59,7 +59,7 @@ fn numbers_of(point: &Snapshot) -> (u32, u64, u64, u64, u64, u32, bool)
     )
 }
 
-// The contracts of the next two functions give the prover that `==` decides whether such values are equal.
+// The contracts of the next two functions give the prover that `==` decides whether two states or two orders are equal.
 fn is_same_state(a: State, b: State) -> bool
     ensures { IsTrue result ↔ (a ≡ b) }
 {

@@ -104,7 +104,8 @@ impl Station {
         })
     }
 
-    /// Makes the state of a new site that begins with this opening. The error is that memory ran out.
+    /// Makes the state of a new site that begins with this opening, which must have at most 32 points. The error is
+    /// that memory ran out.
     fn opened(alloc: Global, opening: &Opening) -> Result<Station, AllocError>
         requires { length opening.now.points ≤ POINTS }
         ensures { IfOk result (λ s. s ≡ opened_state opening.now) }
@@ -141,7 +142,7 @@ impl Station {
     /// Carries out a till's command at point `n`, counted from 1. Returns `Done`, or the refusal: S20 if there is no
     /// such point, else the point's own. A `Clear` adds its amount to the total of all cleared amounts, and 1 to the
     /// number of cleared transactions. A refused command changes nothing. `till` must be at least 1; whether the site
-    /// has such a till isn't checked.
+    /// has such a till isn't checked. The site's history must have room for the command's entry.
     pub fn command(&mut self, till: u32, n: u32, command: Command) -> Reply
         requires bounded { HasRoom self.old }
         requires till { 0 < till }
@@ -168,7 +169,7 @@ impl Station {
 
     /// Carries out a dispenser's event at point `n`, counted from 1. Returns the pending order for `TakeOrder`, `Done`
     /// for any other event, or the refusal: S20 if there is no such point, else the point's own. A refused event
-    /// changes nothing.
+    /// changes nothing. The site's history must have room for the event's entry.
     pub fn report(&mut self, n: u32, event: DispenserEvent) -> Reply
         requires { HasRoom self.old }
         ensures effect { reported self.old n event ≡ replied result self.new }
@@ -468,7 +469,8 @@ impl Station {
     /// Carries out the answer `r0` of a program to a question, and returns the reply. The answer 0 is a denial: the
     /// reply is S24, and nothing changes. For any other answer `grant` is called, and the reply is `Granted` with what
     /// was granted. `version` is the number of the program's version, which both replies name. The question must be one
-    /// that `admitted` accepts in the current state.
+    /// that `admitted` accepts in the current state, and `till` must be at least 1. The site's history must have room
+    /// for the request's entry.
     pub fn settle(&mut self, till: u32, question: &Question, version: u32, r0: u64) -> Reply
         requires bounded { HasRoom self.old }
         requires till { 0 < till }
@@ -485,7 +487,8 @@ impl Station {
 
     /// Grants what is asked: gives the point its command, or sets the price. Of an amount it grants at most `r0`, the
     /// program's answer, and for a release also at most the point's preset, if the point has one. A price is granted as
-    /// it is asked. Returns what was granted: cents, or thousandths for a price.
+    /// it is asked. Returns what was granted: cents, or thousandths for a price. The same must hold of the arguments as
+    /// for `settle`.
     fn grant(&mut self, till: u32, question: &Question, r0: u64) -> u64
         requires bounded { HasRoom self.old }
         requires till { 0 < till }
@@ -506,8 +509,8 @@ impl Station {
         granted
     }
 
-    /// Returns the state of a point, its lifted nozzle and its number of unpaid transactions; zeros if there is no such
-    /// point.
+    /// Returns the numbers of the state and of the lifted nozzle (0 for none) of point `n`, counted from 1, and how
+    /// many of its transactions are unpaid. All three are 0 if there is no such point.
     fn told_of(&self, n: u32) -> (u32, u32, u32)
         ensures state { result.0 ≡ told (at_number self.now.points n) (λ p. state_number p.state) }
         ensures nozzle { result.1 ≡ told (at_number self.now.points n) (λ p. p.nozzle) }

@@ -14,7 +14,8 @@ pub enum Why {
     PointDiffers(u32),
     /// A price differs; the number is that of the first such product, counted from 1.
     PriceDiffers(u32),
-    /// A declared counter differs: the number of the first such counter, and its current value.
+    /// A counter that the program declares has another value or bound: the number of the first such counter, and its
+    /// value now.
     Counter(u32, u64),
 }
 

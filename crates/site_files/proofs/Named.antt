@@ -1,10 +1,10 @@
--- The day in a file's name, by what stands before and behind its first `.`.
+-- The day in a file's name, by what is before and after the first `.` of the name.
 use Rattle.std.proofs.Common.{◌≡◌, ℕ, ◌+◌, List, [], length, true, false, None, ap, ◌∙◌, sym, arith, if◌then◌else◌}
 use Rattle.std.proofs.lemmas.List.{drop_all}
 use Rattle.std.specs.List.{before_first, after_first, position_or_len}
 use Rattle.site_files.specs.Days.{day_named, day_of, shows_day, is_dot}
 
--- a name without `.`
+-- a name without `.` names no day
 pub named-without : (name : List ℕ) → position_or_len is_dot name ≡ length name → day_named name ≡ None
 unfolding day_named
 named-without name is =

@@ -5,7 +5,7 @@ use Rattle.std.specs.Prelude.{ℕ, List, codes, Bool, false, ◌&&◌, ◌||◌,
 abbrev pub is_input : List ℕ → Bool
 is_input word = bytes_eq word (codes "-")
 
--- the same of an argument that may not be given
+-- whether an argument is given and names standard input
 abbrev pub may_be_input : Option (List ℕ) → Bool
 may_be_input None = false
 may_be_input (Some word) = is_input word

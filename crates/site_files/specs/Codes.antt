@@ -1,5 +1,5 @@
--- Definitions: the number that is told of a fault, as in `K1`, and the words that are told with it (this profile). None
--- for want of memory, which has no number.
+-- Definitions: the number that is printed for a fault, as in `K1`, and the words that are printed with it (this
+-- profile). The number is None for the fault that memory ran out, which has no number.
 use Rattle.std.specs.Prelude.{ℕ, ◌==◌, List, [], codes, count_by, nat_le, Option, Some, None, if◌then◌else◌}
 use Rattle.site_config.specs.declared.fault.ConfigFault.{ConfigFault}
 use Rattle.site_config.specs.declared.fault.ConfigFault.TheVariants as config
@@ -29,7 +29,8 @@ journal_code (flaw.Program slot refused) = Some (codes "F2")
 journal_code (flaw.Entry difference) = Some (codes "F3")
 journal_code flaw.NoEntry = Some (codes "F3")
 
--- the system's error that is told in place of a journal's fault: that of its last failed read, if a read is at fault
+-- the system's error that is printed in place of a journal's fault: that of the last failed read, if the fault is that
+-- a read failed
 abbrev pub device_error : {T : Type 0} → JournalFault → Option T → Option T
 device_error (journal.BadEntry line) failure = None
 device_error journal.Cut failure = None
@@ -43,8 +44,8 @@ bad_line text number =
     if nat_le number (count_by (λ byte. byte == 10) text) then codes "no line of an opening"
     else codes "the opening ends before its line 'journal'"
 
--- The words and the number for the line for which a text is no opening. A refused program has words of its own, and for
--- want of memory there are neither.
+-- The words and the number that are printed for a flaw of an opening. For a refused program the words are empty, since
+-- others are printed. If memory ran out, the words and the number are empty.
 abbrev pub opening_words : List ℕ → OpeningFlaw → List ℕ × List ℕ
 opening_words text (opening.BadLine line) = (bad_line text line, codes "J1")
 opening_words text (opening.CutLine line) = (codes "the last line has no LF", codes "J2")

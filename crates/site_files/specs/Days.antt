@@ -1,5 +1,5 @@
--- Definitions: the names of a day's files, the days that a folder has, and how a day begins (this profile). A day's
--- number stands in the names of its files in six digits, with zeros in front, or in more without one.
+-- Definitions: the names of a day's files, the days that a folder has, and how a day begins (this profile). The names
+-- have the day's number in six digits, with zeros in front where needed, or in more without a zero in front.
 use Rattle.std.specs.Prelude.{◌≡◌, ℕ, ◌+◌, ◌-◌, ◌==◌, ◌||◌, List, [], ◌∷◌, ◌++◌, length, codes, decimal, replicate, min, max, nat_lt, Bool, Option, Some, None, bytes_eq, if◌then◌else◌}
 use Rattle.std.specs.List.{before_first, after_first}
 use Rattle.std.specs.Result.{result_ok}
@@ -31,13 +31,14 @@ abbrev pub without_zeros : List ℕ → List ℕ
 without_zeros [] = []
 without_zeros (digit ∷ digits) = if digit == 48 then without_zeros digits else digit ∷ digits
 
--- The day of these digits, as they stand in a name: a number below 2^32 and not 0.
+-- The day's number that these digits spell in a name: six digits, or more without a zero in front. None if they spell
+-- none, or if the number is 0 or isn't below 2^32.
 abbrev pub day_of : List ℕ → Option ℕ
 day_of digits =
     if length digits == 6 then result_ok (number 32 (without_zeros digits))
     else (if nat_lt 6 (length digits) then result_ok (number 32 digits) else None)
 
--- only a journal or an opening shows that there is a day
+-- whether a file with this ending shows that there is a day: a journal or an opening does
 abbrev pub shows_day : List ℕ → Bool
 shows_day ending = bytes_eq ending (ending_of part.Journal) || bytes_eq ending (ending_of part.Opening)
 
@@ -48,12 +49,13 @@ is_dot byte = byte == 46
 unfoldable pub day_named : List ℕ → Option ℕ
 day_named name = if shows_day (after_first is_dot name) then day_of (before_first is_dot name) else None
 
--- with which day a station goes on: the newest of its folder, the one behind that if a new day is wanted, or day 1
+-- with which day a station goes on: `With` the newest of its folder, or `Behind` the newest if a new day is asked for:
+-- with the day after it, unless the newest has no entry; `With` day 1 if the folder has no day
 abbrev pub going_on : Option Span → Bool → Going
 going_on None is_new = going.With 1
 going_on (Some span) is_new = if is_new then going.Behind span.newest else going.With span.newest
 
--- the oldest and the newest of the days before and of this one
+-- a folder's oldest and newest day once this day is added to the days that it had
 abbrev pub with_day : Option Span → ℕ → Span
 with_day None day = record { oldest = day; newest = day }
 with_day (Some span) day = record { oldest = min span.oldest day; newest = max span.newest day }
@@ -62,11 +64,12 @@ abbrev pub with_found : Option Span → Option ℕ → Option Span
 with_found span None = span
 with_found span (Some day) = Some (with_day span day)
 
--- the day after this one, up to the newest
+-- the day after this one, or None if that would be after the newest
 abbrev pub day_after : ℕ → ℕ → Option ℕ
 day_after day newest = if nat_lt day newest then Some (day + 1) else None
 
--- A site of this configuration begins this day with an opening of the day, and has the second configuration then.
+-- A site with the configuration `config` begins day `day` with an opening of that day, and then has the configuration
+-- `begun`.
 pub record BeginsDay (config : ConfigValue) (day : ℕ) (begun : ConfigValue) : Type 0 where
   pub file : OpeningFile
   pub good : IsOpeningFile file

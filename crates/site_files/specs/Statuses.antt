@@ -1,6 +1,6 @@
 -- Definitions: with which status a job stops, and with which a file of a site is refused (this profile). Status 0 says
--- that the job was done, 1 that the input was refused, 2 that the words name no job that can be done, and 3 that a device
--- failed, or memory or reads ran out.
+-- that the job was done, 1 that the input was refused, 2 that the words name no job that can be done, and 3 that a
+-- device failed, or memory or reads ran out.
 use Rattle.std.specs.Prelude.{◌≡◌, ◌⊎◌, ℕ, ⊤, Bool, true, false, Result, Ok, Err, if◌then◌else◌}
 use Rattle.site_core.specs.declared.opening.OpeningFault.{OpeningFault}
 use Rattle.site_core.specs.declared.opening.OpeningFault.TheVariants as fault
@@ -13,16 +13,17 @@ use Rattle.days.specs.declared.beginning.Unfit.TheVariants as unfit
 use Rattle.site_files.specs.declared.stop.Stop.{Stop}
 use Rattle.site_files.specs.declared.stop.Stop.TheVariants as stop
 
--- the status of a job whose text was printed, or couldn't be
+-- a job's exit status after a print: the given status if the print succeeded, or 3 if it failed
 abbrev pub once_printed : {T E : Type 0} → Result T E → ℕ → ℕ
 once_printed (Ok printed) status = status
 once_printed (Err error) status = 3
 
--- The job ends with this status, or with 3 since standard output can't be written.
+-- The job's exit status, the second number, is the first one, or 3 because standard output can't be written or memory
+-- ran out.
 abbrev pub EndsWith : ℕ → ℕ → Type 0
 EndsWith status told = (told ≡ status) ⊎ (told ≡ 3)
 
--- nothing was printed yet
+-- The stop is `Failed`: its error isn't printed yet.
 abbrev pub IsFailed : Stop → Type 0
 IsFailed (stop.Said status) = ⊥
 IsFailed (stop.Failed error) = ⊤
@@ -32,12 +33,13 @@ abbrev pub Says : ℕ → Stop → Type 0
 Says status (stop.Said told) = EndsWith status told
 Says status (stop.Failed error) = ⊥
 
--- The same, or memory ran out before the reason could be printed.
+-- The reason was printed, and the job ends with this status or with 3. Or the stop is `Failed`: its error isn't printed
+-- yet.
 abbrev pub SaysOrFails : ℕ → Stop → Type 0
 SaysOrFails status (stop.Said told) = EndsWith status told
 SaysOrFails status (stop.Failed error) = ⊤
 
--- The job ends with status 3: that was printed already, or it is the status of an error that isn't printed yet.
+-- The stop is `Said` with status 3, or `Failed`, whose error isn't printed yet and ends the job with status 3.
 abbrev pub Fails : Stop → Type 0
 Fails (stop.Said told) = told ≡ 3
 Fails (stop.Failed error) = ⊤
@@ -60,13 +62,14 @@ abbrev pub unfit_status : Unfit → ℕ
 unfit_status (unfit.Misfit misfit) = 1
 unfit_status (unfit.Fault fault) = opening_status fault
 
--- the status for a day that leaves no opening
+-- the status for a day that can't leave an opening
 abbrev pub uncarried_status : Uncarried → ℕ
 uncarried_status uncarried.LastDay = 1
 uncarried_status (uncarried.Fault fault) = opening_status fault
 
--- The text of an opening is refused: with status 1, or with 3 where memory ran out. A refused program is explained
--- first, and that takes memory.
+-- What the job's stop can be if the text of an opening has this flaw: `Said` with status 1, or with 3 because standard
+-- output can't be written or memory ran out. For a refused program it can also be `Failed`: memory can run out while
+-- that is printed.
 abbrev pub RefusesOpening : OpeningFlaw → Stop → Type 0
 RefusesOpening (flaw.BadLine line) told = Says 1 told
 RefusesOpening (flaw.CutLine line) told = Says 1 told

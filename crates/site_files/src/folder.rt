@@ -1,6 +1,6 @@
 //! The folder of a station's days. A day has up to three files there: its journal, such as `000002.journal`, the
-//! opening that it begins with, and the configuration of its site. Their names have the day's number in six digits or
-//! more.
+//! opening that the day begins with, and the configuration of its site. Each of these names has the day's number in six
+//! digits or more.
 ghost use Rattle.std.specs.Prelude.{◌≡◌, true, false, IfOk, IfErr, string_bytes};
 ghost use Rattle.site_files.specs.Asked.{is_input};
 ghost use Rattle.site_files.specs.Statuses.{Fails};
@@ -50,8 +50,8 @@ pub struct Folder<'a> {
 }
 
 impl<'a> Folder<'a> {
-    /// Returns the folder that an argument names. If it names standard input, prints that; the error has the exit
-    /// status.
+    /// Returns the folder that an argument names. If the argument is `-`, which is standard input, prints that a folder
+    /// is needed; the error has the exit status.
     pub fn named(rt: &HostRuntime, word: &'a str) -> Result<Folder<'a>, Stop>
         ensures folder { IfOk result (λ folder. folder.path.now ≡ word.now) }
         ensures input { IfErr result (λ stop. (is_input word.now ≡ true) × (stop ≡ Stop.Said 2)) }
@@ -74,7 +74,7 @@ impl<'a> Folder<'a> {
     }
 
     /// Returns whether the folder has the file `part` of this day. If that can't be found out, prints why; the error
-    /// has the exit status.
+    /// `Said` has the exit status. The error `Failed` means that memory ran out, which isn't printed yet.
     pub fn has(self, rt: &HostRuntime, day: u32, part: Part) -> Result<bool, Stop>
         ensures { IfErr result Fails }
     {
@@ -86,7 +86,8 @@ impl<'a> Folder<'a> {
     }
 
     /// Returns whether the folder has the file `part` of this day, and the file isn't empty. If that can't be found
-    /// out, prints why; the error has the exit status.
+    /// out, prints why; the error `Said` has the exit status. The error `Failed` means that memory ran out, which isn't
+    /// printed yet.
     pub(crate) fn has_bytes(self, rt: &HostRuntime, day: u32, part: Part) -> Result<bool, Stop>
         ensures { IfErr result Fails }
     {
@@ -98,8 +99,8 @@ impl<'a> Folder<'a> {
         }
     }
 
-    /// Returns the oldest and the newest day that has a journal or an opening, or `None` if there is none. If the
-    /// folder can't be read, prints why; the error has the exit status.
+    /// Returns the oldest and the newest of the days that have a journal or an opening in the folder, or `None` if
+    /// there is no such day. If the folder can't be read, prints why; the error has the exit status.
     pub fn span(self, rt: &HostRuntime) -> Result<Option<Span>, Stop>
         ensures { IfErr result Fails }
     {
@@ -109,9 +110,10 @@ impl<'a> Folder<'a> {
         }
     }
 
-    /// Writes `bytes` as the file `part` of this day: they are written and synced under another name, and the file is
-    /// then renamed. So even if the program is stopped meanwhile, either the whole new file is there, or what was there
-    /// before. If that fails, prints why; the error has the exit status.
+    /// Writes `bytes` as the file `part` of this day: writes and syncs them under another name, renames that file, and
+    /// syncs the folder. So even if the program is stopped meanwhile, the folder has either the whole new file or what
+    /// was there before. If that fails, prints why; the error `Said` has the exit status. The error `Failed` means that
+    /// memory ran out, which isn't printed yet.
     pub fn put(self, rt: &HostRuntime, day: u32, part: Part, bytes: &[u8]) -> Result<(), Stop>
         ensures { IfErr result Fails }
     {
@@ -119,7 +121,11 @@ impl<'a> Folder<'a> {
         let beside = format!(in rt.alloc(); "{path}.new")?;
         match put_synced(rt, self.path, &beside, &path, bytes) {
             Ok(()) => Ok(()),
-            Err(error) => Err(Stop::Said(cannot_use(rt, &path, &error))),
+            Err(error) => {
+                // What was written of it is of no use. If it can't be removed, the next call overwrites it.
+                let _ = fs::remove_file(rt, &beside);
+                Err(Stop::Said(cannot_use(rt, &path, &error)))
+            }
         }
     }
 }
@@ -153,7 +159,8 @@ fn span_of(rt: &HostRuntime, folder: &str) -> io::Result<Option<Span>> {
     Ok(span)
 }
 
-/// Returns the oldest and the newest day of a folder that has the days in `span` and also a file with this name.
+/// Adds to `span` the day whose journal or opening has this name, and returns the result. Returns `span` as it is for
+/// any other name.
 fn with_name(span: Option<Span>, name: &str) -> Option<Span>
     ensures { result ≡ with_found span (day_named name.now) }
 {
@@ -222,7 +229,7 @@ fn without_zeros(digits: &[u8]) -> &[u8]
     &[]
 }
 
-/// Returns the day after this one, or `None` after the newest.
+/// Returns the day after `day`, or `None` if that would be after `newest`.
 pub fn day_after(day: u32, newest: u32) -> Option<u32>
     ensures { result ≡ day_after day newest }
 {

@@ -18,7 +18,7 @@ pub use faults::Place;
 pub use files::{Outlet, Source};
 pub use folder::{Folder, Part, Span, day_after};
 pub use kept::Kept;
-pub use newest::{Given, Newest};
+pub use newest::Newest;
 pub use opening::Day;
 pub use settings::SiteFiles;
 pub use statuses::{DONE, FAILED, REFUSED, USAGE};

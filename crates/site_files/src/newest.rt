@@ -55,7 +55,8 @@ pub fn read_given<'a>(rt: &HostRuntime, word: &'a str) -> Result<Given<'a>, Stop
 /// `is_new_day` and the newest day has an entry, closes that day first, and returns the next one. `given` says how the
 /// day is served. The configuration in `given` is used for a day that has none in the folder, or whose journal is
 /// missing or empty. If the day goes on with another configuration, prints that. If a file can't be used or is refused,
-/// or if the day to close isn't the newest any more, prints why; the error has the exit status.
+/// or if the day to close isn't the newest any more, prints why; the error `Said` has the exit status. The error
+/// `Failed` means that memory ran out, which isn't printed yet.
 pub fn newest_day(
     rt: &HostRuntime,
     folder: Folder<'_>,
@@ -95,8 +96,8 @@ pub fn newest_day(
     }
 }
 
-/// Prints on standard error that a day goes on with the configuration that the folder has for it, `kept`, if that isn't
-/// the one in `given`. Prints nothing if there is no `kept`. The error is that memory ran out.
+/// If `kept`, the configuration that the folder has for a day, isn't the one in `given`, prints on standard error that
+/// the day goes on with `kept`. Prints nothing if `kept` is `None`. The error is that memory ran out.
 fn tell_other(
     rt: &HostRuntime,
     folder: Folder<'_>,
@@ -143,7 +144,7 @@ fn going_on(span: Option<Span>, is_new_day: bool) -> Going
 /// day. If `is_new_day` and the newest day has an entry, closes that day first, and returns the number of the next one.
 /// The configuration in `given` is used if the folder has none for the day to close, or if that day's journal is
 /// missing or empty. If a file can't be used or is refused, or if the day to close isn't the newest any more, prints
-/// why; the error has the exit status.
+/// why; the error `Said` has the exit status. The error `Failed` means that memory ran out, which isn't printed yet.
 fn number_of(
     rt: &HostRuntime,
     folder: Folder<'_>,
@@ -166,7 +167,8 @@ fn number_of(
 }
 
 /// Returns the configuration that a folder has for a day, or `None` if it has none. If the file can't be read or is
-/// refused, prints why; the error has the exit status.
+/// refused, prints why; the error `Said` has the exit status. The error `Failed` means that memory ran out, which isn't
+/// printed yet.
 pub fn kept_config(rt: &HostRuntime, folder: Folder<'_>, day: u32) -> Result<Option<Config>, Stop>
     ensures { IfErr result (SaysOrFails 1) }
 {
@@ -183,7 +185,8 @@ pub fn kept_config(rt: &HostRuntime, folder: Folder<'_>, day: u32) -> Result<Opt
 
 /// Returns the configuration with which a day goes on. Returns `None` if the folder has no configuration for the day,
 /// or if the day's journal is missing or empty: such a day can still begin with another configuration. If a file can't
-/// be used or is refused, prints why; the error has the exit status.
+/// be used or is refused, prints why; the error `Said` has the exit status. The error `Failed` means that memory ran
+/// out, which isn't printed yet.
 fn settled_config(rt: &HostRuntime, folder: Folder<'_>, day: u32) -> Result<Option<Config>, Stop>
     ensures { IfErr result (SaysOrFails 1) }
 {
@@ -195,8 +198,8 @@ fn settled_config(rt: &HostRuntime, folder: Folder<'_>, day: u32) -> Result<Opti
 }
 
 /// Returns `config` with the opening in it that the folder has for this day. Returns `config` as it is for day 1, which
-/// has no opening. If the opening is missing, is another day's or is refused, prints why; the error has the exit
-/// status.
+/// has no opening. If the opening is missing, can't be read, is refused or belongs to another day, prints why; the
+/// error `Said` has the exit status. The error `Failed` means that memory ran out, which isn't printed yet.
 fn begin_day(
     rt: &HostRuntime,
     folder: Folder<'_>,
@@ -225,8 +228,8 @@ fn begin_day(
 /// The message for a day that has no opening.
 pub const UNOPENED: &str = "the day has no opening";
 
-/// Prints that a day doesn't follow the one before (O1): why on standard error, and the day on standard output. Returns
-/// the exit status.
+/// Prints that a day doesn't follow the one before: `words`, which say why, on standard error, and the fault's number,
+/// O1, with the day's number on standard output. Returns the exit status.
 pub fn refuse_link<D: Display>(rt: &HostRuntime, place: Place<'_>, day: u32, words: &D) -> u8
     ensures { EndsWith 1 result }
 {
@@ -252,7 +255,8 @@ impl Display for OfDay {
 /// Closes a day, unless it has no entry: syncs the day's journal, and writes the opening of the next day. Returns the
 /// number of the day that is then the newest. `config` is the configuration of the day's site, without an opening.
 /// `unkept` is the configuration's text, if closing the day must also write it into the folder. If a file can't be used
-/// or is refused, or if the next day has begun already, prints why; the error has the exit status.
+/// or is refused, or if the next day has begun already, prints why; the error `Said` has the exit status. The error
+/// `Failed` means that memory ran out, which isn't printed yet.
 fn close_day(
     rt: &HostRuntime,
     folder: Folder<'_>,
@@ -270,10 +274,11 @@ fn close_day(
     put_close(rt, folder, number, &path, &closing, unkept)
 }
 
-/// Finishes the close of a day, unless the day has no entry: writes the text of its configuration, `unkept`, if there
-/// is one, then syncs the day's journal, whose path is `journal`, and then writes the opening of the next day. Returns
-/// the number of the day that is then the newest. If that fails, or the next day has begun already, prints why; the
-/// error has the exit status.
+/// Finishes the close of a day, unless the day has no entry. First checks that the next day hasn't begun. Then writes
+/// `unkept`, the text of the day's configuration, unless that is `None`. Then syncs the day's journal, whose path is
+/// `journal`, and writes the opening of the next day. Returns the number of the day that is then the newest. If one of
+/// these steps fails, prints why; the error `Said` has the exit status. The error `Failed` means that memory ran out,
+/// which isn't printed yet.
 fn put_close(
     rt: &HostRuntime,
     folder: Folder<'_>,
@@ -300,8 +305,8 @@ fn put_close(
     leave(rt, folder, number, &closing.closed)
 }
 
-/// Writes the opening that a day leaves for the next one, and returns the next one's number. If that fails, prints why;
-/// the error has the exit status.
+/// Writes the opening that a day leaves for the next one, and returns the number of the next one. If that fails, prints
+/// why; the error `Said` has the exit status. The error `Failed` means that memory ran out, which isn't printed yet.
 fn leave(rt: &HostRuntime, folder: Folder<'_>, number: u32, closed: &Closed) -> Result<u32, Stop>
     ensures next { IfOk result (λ next. next ≡ number + 1) }
     ensures refused { IfErr result (SaysOrFails 1) }
@@ -318,9 +323,10 @@ fn leave(rt: &HostRuntime, folder: Folder<'_>, number: u32, closed: &Closed) -> 
     Ok(opening.day)
 }
 
-/// Returns an error if the day after this one has begun, or if that can't be found out, and prints why. A caller that
-/// has locked this day's journal and gets no error knows that this day stays the newest until the lock is released: to
-/// begin the next day, a process locks the same journal.
+/// Checks that the day after this one hasn't begun. If it has, or if that can't be found out, prints why; the error
+/// `Said` has the exit status. The error `Failed` means that memory ran out, which isn't printed yet. If a caller has
+/// locked this day's journal and gets no error, this day stays the newest until the lock is released: to begin the next
+/// day, a process locks the same journal.
 pub fn check_newest(rt: &HostRuntime, folder: Folder<'_>, number: u32) -> Result<(), Stop>
     ensures { IfErr result Fails }
 {

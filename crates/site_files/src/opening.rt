@@ -45,8 +45,9 @@ pub(crate) struct Begun {
     pub number: u32,
 }
 
-/// Returns the configuration of a site that begins with the opening in the file that an argument names. If the opening
-/// can't be read, is refused or doesn't fit the configuration, prints why; the error has the exit status.
+/// Returns the configuration of a site that begins with the opening in the file that an argument names, and the day's
+/// number. If the opening can't be read, is refused or doesn't fit the configuration, prints why; the error `Said` has
+/// the exit status. The error `Failed` means that memory ran out, which isn't printed yet.
 pub(crate) fn begin_with(rt: &HostRuntime, word: &str, config: Config) -> Result<Begun, Stop>
     ensures begun { IfOk result (λ begun. BeginsDay config begun.number begun.config) }
     ensures refused { IfErr result (SaysOrFails 1) }
@@ -75,8 +76,8 @@ pub fn opening_bytes(rt: &HostRuntime, word: &str) -> Result<Vec<u8>, Stop>
     }
 }
 
-/// Reads the opening in the file that an argument names. If it can't be read or is refused, prints why; the error has
-/// the exit status.
+/// Reads the opening in the file that an argument names. If it can't be read or is refused, prints why; the error
+/// `Said` has the exit status. The error `Failed` means that memory ran out, which isn't printed yet.
 fn opening_in(rt: &HostRuntime, word: &str) -> Result<OpeningFile, Stop>
     ensures good { IfOk result IsOpeningFile }
     ensures refused { IfErr result (SaysOrFails 1) }
@@ -90,7 +91,8 @@ fn opening_in(rt: &HostRuntime, word: &str) -> Result<OpeningFile, Stop>
 
 /// Prints why the text of an opening is refused: the line, the words and the fault's number (J1, J2 or F2) on standard
 /// error, and the fault's number and the line's number on standard output, for F2 with the program's V fault too. If
-/// memory ran out, prints only that, on standard error. The result has the exit status.
+/// `flaw` is that memory ran out, prints only that, on standard error. The result `Said` has the exit status. The
+/// result `Failed` means that memory ran out, which isn't printed yet.
 pub fn refuse_opening(rt: &HostRuntime, word: &str, text: &[u8], flaw: OpeningFlaw) -> Stop
     ensures { RefusesOpening flaw result }
 {
@@ -136,8 +138,9 @@ fn refuse_line(rt: &HostRuntime, word: &str, line: u32, words: &str, code: &str)
     Stop::Said(once_printed(rt, println!(rt; "{code} {line}"), REFUSED))
 }
 
-/// Prints why the verifier refuses the program in a line of an opening. The result has the exit status. `text` is the
-/// opening's text, and `line` is counted from 1.
+/// Prints why the verifier refuses the program in a line of an opening. `text` is the opening's text, and `line` is the
+/// line's number, counted from 1. The result `Said` has the exit status. The result `Failed` means that memory ran out,
+/// which isn't printed yet.
 fn refuse_rule(rt: &HostRuntime, word: &str, text: &[u8], line: u32, refusal: Refusal) -> Stop
     ensures { SaysOrFails 1 result }
 {
@@ -150,7 +153,8 @@ fn refuse_rule(rt: &HostRuntime, word: &str, text: &[u8], line: u32, refusal: Re
     }
 }
 
-/// Prints on standard error the slot of the program in a line of an opening, and why the verifier refuses it.
+/// Prints on standard error the slot of the program in a line of an opening, and why the verifier refuses it. `line` is
+/// the line's bytes, and `number` its number, counted from 1.
 fn explain_rule(
     rt: &HostRuntime,
     word: &str,

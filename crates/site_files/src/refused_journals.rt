@@ -45,7 +45,8 @@ fn tell_unread(rt: &HostRuntime, word: &str, fault: JournalFault, failure: Optio
     }
 }
 
-/// Returns `failure`, the system's error of a failed read, if a failed read is why a journal can't be read.
+/// Returns `failure`, the system's error of a failed read, if `fault` is that a read failed. Returns `None` for other
+/// faults.
 fn device_error(fault: JournalFault, failure: Option<&io::Error>) -> Option<&io::Error>
     ensures { result ≡ device_error fault failure.entry }
 {
@@ -66,7 +67,8 @@ fn line_in(fault: JournalFault) -> Option<u32>
 }
 
 /// Prints on standard error why a journal can't be read. For a fault of its text, also prints the fault (`J1 LINE` or
-/// `J2`) on standard output. The result has the exit status.
+/// `J2`) on standard output. `failure` is the system's error of the last failed read, if one failed. The result `Said`
+/// has the exit status. The result `Failed` means that memory ran out, which isn't printed yet.
 pub fn tell_journal_fault(
     rt: &HostRuntime,
     word: &str,

@@ -48,7 +48,8 @@ impl<'a> SiteFiles<'a> {
 }
 
 /// Reads the configuration of a site, and then its opening, if it has one. If one of them can't be read or is refused,
-/// or if both are standard input, prints why; the error has the exit status.
+/// or if both are standard input, prints why; the error `Said` has the exit status. The error `Failed` means that
+/// memory ran out, which isn't printed yet.
 pub fn day_of(rt: &HostRuntime, site: SiteFiles<'_>) -> Result<Day, Stop>
     ensures twice { IsTrue (is_input site.entry.config.now && may_be_input (option_map (λ w. w.now) site.entry.opening))
         → result ≡ Err (Stop.Said 2) }
@@ -72,7 +73,8 @@ pub fn day_of(rt: &HostRuntime, site: SiteFiles<'_>) -> Result<Day, Stop>
 }
 
 /// Returns `config`, with the site's opening in it if the site has one, and the day's number, which is 1 without an
-/// opening. If the opening can't be read or is refused, prints why; the error has the exit status.
+/// opening. If the opening can't be read or is refused, prints why; the error `Said` has the exit status. The error
+/// `Failed` means that memory ran out, which isn't printed yet.
 fn begun_by(rt: &HostRuntime, site: SiteFiles<'_>, config: Config) -> Result<Begun, Stop>
     ensures first { site.entry.opening ≡ None → result ≡ Ok (record { config = config; number = 1 }) }
     ensures opened { IsSome site.entry.opening → IfOk result (λ begun. BeginsDay config begun.number begun.config) }
@@ -95,7 +97,8 @@ fn refuse_twice(rt: &HostRuntime) -> Stop
     Stop::Said(USAGE)
 }
 
-/// Reads the settings in the text of a configuration. If it is refused, prints why; the error has the exit status.
+/// Reads the settings in `text`, the text of a configuration. If the text is refused, prints why; the error has the
+/// exit status. `word` names the configuration's file.
 pub fn settings_in(rt: &HostRuntime, word: &str, text: &[u8]) -> Result<Settings, Stop>
     ensures read { IfOk result (λ settings. config_of text.now ≡ Ok (told settings)) }
     ensures refused { IfErr result (Says 1) }
@@ -107,7 +110,8 @@ pub fn settings_in(rt: &HostRuntime, word: &str, text: &[u8]) -> Result<Settings
 }
 
 /// Reads the configuration of a site, and its opening, if it has one, and opens the file that `other` names. If one of
-/// them can't be read or is refused, or if two are standard input, prints why; the error has the exit status.
+/// them can't be read or is refused, or if two are standard input, prints why; the error `Said` has the exit status.
+/// The error `Failed` means that memory ran out, which isn't printed yet.
 pub fn day_and(rt: &HostRuntime, site: SiteFiles<'_>, other: &str) -> Result<(Day, Source), Stop>
     ensures twice { IsTrue (reads_twice site.entry.config.now (option_map (λ w. w.now) site.entry.opening) other.now)
         → result ≡ Err (Stop.Said 2) }

@@ -24,7 +24,7 @@ pub record Gains (before now : PassView) (moment : ℕ) (act : Act) (a : Answere
   pub amount : now.amount ≡ before.amount + 1
   pub receipts : now.receipts ≡ before.receipts ++ receipt_of moment act a ∷ []
 
--- Some legal history of this configuration ends with the entry of this number, of this event and with this reply.
+-- Some legal history of this configuration ends with an entry that has this number, pass, moment, act and reply.
 pub record FitsIn (config : ConfigValue) (pass moment : ℕ) (act : Act) (a : Answered) : Type 0 where
   pub before : List Entry
   pub last : Entry

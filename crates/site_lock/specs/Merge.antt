@@ -12,13 +12,15 @@ Matches id r e = (e.number ≡ r.number) × (e.pass ≡ id) × (e.moment ≡ r.m
 abbrev pub IsEntryOf : List Entry → ℕ → Receipt → Type 0
 IsEntryOf history id r = (0 < r.number) × IsSomeAnd (slice_get history (r.number - 1)) (λ e. Matches id r e)
 
--- each receipt agrees with the entry of its number, and has a greater number than the one before it
+-- Each receipt agrees with the entry of its number, and has a greater number than the receipt before it. The first has
+-- a number above `last`.
 abbrev pub StandsFrom : List Entry → ℕ → ℕ → List Receipt → Type 0
 StandsFrom history id last [] = Unit {0}
 StandsFrom history id last (r ∷ rs) = (last < r.number) × IsEntryOf history id r × StandsFrom history id r.number rs
 
--- the first receipt that disagrees with its entry, or whose number isn't above that of the receipt before it, has this
--- number
+-- Some receipt is wrong, and the first wrong one has this number. A receipt is wrong if no entry has its number, if it
+-- disagrees with that entry, or if its number isn't above that of the receipt before it (for the first receipt, above
+-- `last`).
 abbrev pub FailsFrom : List Entry → ℕ → ℕ → List Receipt → ℕ → Type 0
 FailsFrom history id last [] n = ⊥
 FailsFrom history id last (r ∷ rs) n =
@@ -33,7 +35,7 @@ HasNumber receipts n = Any (λ r. r.number ≡ n) receipts
 abbrev pub Covers : Entry → PassView → Type 0
 Covers e p = (p.id ≡ e.pass) × HasNumber p.receipts e.number
 
--- the entry is in the receipts of its pass
+-- the entry's pass is one of these passes, and has a receipt of the entry's number
 abbrev pub Covered : List PassView → Entry → Type 0
 Covered passes e = Any (Covers e) passes
 

@@ -14,7 +14,7 @@ pub enum CloseRefusal {
     /// wrong, as `check::fault_since` says. Or the entry is one of this pass and has no receipt, such as the entry at
     /// which a journal failed.
     NotInHistory(u32, u32),
-    /// C3: the site has another configuration than the forecourt was made for.
+    /// C3: the site has another configuration than the forecourt was made for. `Forecourt::finish` never returns it.
     OtherConfig,
 }
 

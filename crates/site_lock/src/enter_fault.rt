@@ -1,7 +1,7 @@
-//! The reasons why an event has no answer at a site, with or without a journal.
+//! The reasons why a site didn't answer an event.
 use site_core::CallFault;
 
-/// Why an event has no answer at a site, with or without a journal.
+/// Why a site didn't answer an event. `Journal` comes only at a site that keeps a journal.
 #[derive(Clone, Copy)]
 pub enum EnterFault {
     /// The event wasn't entered: the history is full (S29), or memory ran out (S31).

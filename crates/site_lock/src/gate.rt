@@ -3,7 +3,8 @@ ghost use Rattle.std.specs.Prelude.{◌≡◌};
 
 use site_core::{Draft, Ready};
 
-/// Runs drafts while its caller doesn't hold the lock. A gate counts its calls in 64 bits, and the count wraps.
+/// What runs a draft while the caller doesn't hold the site's lock. A gate counts its calls in 64 bits, and the count
+/// wraps.
 pub trait Gate {
     ghost use Rattle.std.specs.Prelude.{◌≡◌, ℕ};
     ghost use Rattle.till_request.specs.Count.{RoseBy};

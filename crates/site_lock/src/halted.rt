@@ -100,8 +100,8 @@ impl<L: SiteLedger, J: Journal> Halted<L, J> {
     }
 
     /// Returns the journal. Since the forecourt was made, the journal took the text of all entries that were answered.
-    /// If it failed, it then also took the first n bytes of one more line, where n is a number from 0 to the length of
-    /// the line.
+    /// If the journal failed, it also took the first n bytes of the last entry's line, where n is a number from 0 to
+    /// the length of that line.
     pub fn into_journal(self) -> J
         ensures written { J.written result ≡ self.locked_site.written }
         ensures stands { IsHalted J.may_fail self }

@@ -7,9 +7,9 @@ use std::marker::{Brand, Model};
 use std::sync::ledger::{Ledger, Share};
 use till_request::{Act, Reply};
 
-/// The ledger of a forecourt's answered calls, for proofs alone. It has one part for each pass, and it says which
-/// configuration the site has, from which history the forecourt starts, and which bytes the journal has then, if they
-/// are known.
+/// The ledger of a forecourt's answered calls, for proofs alone. It has one part for each pass. It also names the
+/// site's configuration, the history that the forecourt starts from, and the bytes that the journal had taken before
+/// the start, if they are known.
 ///
 /// A forecourt is made, used and closed in one function that is generic over its ledger. So the passes of one forecourt
 /// have another type than those of another, and code that mixes them doesn't compile. At run time the ledger is
@@ -98,7 +98,8 @@ impl<L: SiteLedger> Pass<L> {
         self.id
     }
 
-    /// Returns the receipts, the oldest first. The contract says that they are as many as the share counts.
+    /// Returns the receipts, the oldest first. The contract says that they are as many as the answered calls that the
+    /// pass's share of the ledger counts.
     pub fn receipts(&self) -> &[Receipt]
         ensures receipts { result.now ≡ self.now.receipts }
         ensures counted { self.now.amount ≡ length self.now.receipts }

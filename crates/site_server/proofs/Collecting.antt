@@ -57,7 +57,7 @@ module _ (may_fail : Type 0) (workers : List Worker) (connections : ℕ) (from :
   abbrev pub plan : Plan
   plan = record { from = from; may_fail = may_fail; roles = roles_of workers; connections = connections }
 
-  -- each of the tasks has the result of its worker; the first of them is the worker with pass b + 1
+  -- each of the tasks has the result of its worker; the first task is that of the worker with pass b + 1
   abbrev pub AllBack : ℕ → List (Option (PassView × ℕ)) → Type 0
   AllBack b [] = Unit {0}
   AllBack b (None ∷ tasks) = ⊥

@@ -21,7 +21,7 @@ module _ (config : ConfigValue) (may_fail : Type 0) (role : Role) {I O D : Type 
   dropped s t rest (inl same) = inl same
   dropped s t rest (inr d) = inr (d.0, d.1.0, d.1.1, d.1.3)
 
-  -- the desk answers that the journal failed only if it may
+  -- the desk answers that the journal failed only if `may_fail` holds
   failing : (s t : ℕ × PassView) (rest : List ℕ) → DropsFor (desk_drops (pass_answers config may_fail) tells role) error.Journal s t rest → may_fail
   failing s t rest d = let P : Answer → Type 0 = λ a. DeskAnswers config may_fail s.1 t.1 d.3.0 d.3.1 a in (subst P d.3.3 d.3.6).1
 

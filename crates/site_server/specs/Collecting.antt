@@ -1,4 +1,4 @@
--- Promises: what the workers' tasks hold, before they serve and after it.
+-- Promises: what the workers' tasks hold, before the workers serve and after that.
 use Rattle.std.specs.Prelude.{◌≡◌, ℕ, ◌+◌, ◌<◌, List, [], ◌∷◌, length, slice_get, slice_index_or, Option, Some, None}
 use Rattle.site_core.specs.Limits.{ConfigValue}
 use Rattle.site_lock.specs.Passes.{PassView, new_pass}
@@ -13,11 +13,12 @@ AreWaiting workers tasks =
     × ((k : ℕ) (d : Option (PassView × Worker)) → k < length workers
     → (worker : Worker) × (slice_get workers k ≡ Some worker) × (slice_index_or tasks k d ≡ Some (new_pass (k + 1), worker)))
 
--- the tasks wait for the workers of some crew
+-- the tasks are those of some crew, and have not run yet
 abbrev pub HasCrew : List (Option (PassView × Worker)) → Type 0
 HasCrew tasks = (workers : List Worker) × IsCrew (length workers) × AreWaiting workers tasks
 
--- the task now holds the pass that it held before, which has served its connections in the role of the task's worker
+-- If the task held a pass and a worker, it now holds the same pass, which has served this number of connections in the
+-- worker's role.
 abbrev pub RunsWorker : ConfigValue → Type 0 → ℕ → Option (PassView × Worker) → Option (PassView × ℕ) → Type 0
 RunsWorker config may_fail connections None after = Unit {0}
 RunsWorker config may_fail connections (Some w) None = ⊥

@@ -30,14 +30,15 @@ abbrev pub all_clean : List (PassView × ℕ) → ℕ
 all_clean [] = 0
 all_clean (d ∷ done) = d.1 + all_clean done
 
--- Each pass served its connections in its role. All of them together had `clean` connections that ended without a SessionFault.
+-- Each pass served its connections in its role. Of all these connections `clean` ended without a SessionFault.
 pub record HaveWorked (plan : Plan) (passes : List PassView) (clean : ℕ) : Type 0 where
   pub done : List (PassView × ℕ)
   pub passes_are : passes ≡ map (λ (d : PassView × ℕ). d.0) done
   pub each : HandsBack plan done
   pub counted : clean ≡ all_clean done
 
--- The result of the tasks of some workers: these are all passes of a forecourt with this opening, each after its work.
+-- If the tasks were those of some workers and had not run yet, then `passes` are all passes of a forecourt with this
+-- opening, each after its work, as `HaveWorked` says.
 abbrev pub WorksOff : Opened → Type 0 → ℕ → List (Option (PassView × Worker)) → List PassView → ℕ → Type 0
 WorksOff from may_fail connections tasks passes clean =
     (workers : List Worker) → AreWaiting workers tasks

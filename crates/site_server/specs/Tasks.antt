@@ -30,8 +30,8 @@ DropsOne config may_fail role s s' =
     (s' ≡ s) ⊎ ((why : HandlerError) × (line : List ℕ) × IsLine line × desk_drops (pass_answers config may_fail) tells role why s line s')
 
 -- One connection. Either it couldn't be opened, or lines of this role were answered one after another. In the second
--- case at most one more line was handled, without an answer. The session's fault is that the journal failed only if it
--- may.
+-- case at most one more line was handled, without an answer. Only if `may_fail` holds can the session's fault be that
+-- the journal failed.
 abbrev pub Talked : ConfigValue → Type 0 → Role → Outcome → ℕ × PassView → ℕ × PassView → Type 0
 Talked config may_fail role None s s' = s' ≡ s
 Talked config may_fail role (Some result) s s' =

@@ -31,7 +31,7 @@ pub struct Crew {
     ghost few: { IsCrew (length workers.items) },
 }
 
-/// Returns how many workers these doors have in all, at most 2^32 - 1.
+/// Returns how many workers these doors have in all, or 2^32 - 1 if they have more.
 fn count_workers(doors: &[OpenDoor]) -> u32
     ensures { result ≡ min (length (all_posts doors.now)) (2 ^ 32 - 1) }
 {
@@ -41,7 +41,8 @@ fn count_workers(doors: &[OpenDoor]) -> u32
     door.workers.saturating_add(count_workers(rest))
 }
 
-/// Appends the workers of a door.
+/// Appends the workers of a door to `workers`. The error is that memory ran out: then some of them may have been
+/// appended.
 fn push_workers(alloc: Global, workers: &mut Vec<Worker>, door: OpenDoor) -> Result<(), AllocError>
     ensures { IfOk result (λ _. posts_of workers.new.items ≡ posts_of workers.old.items ++ posts_at door) }
 {
@@ -58,7 +59,7 @@ fn push_workers(alloc: Global, workers: &mut Vec<Worker>, door: OpenDoor) -> Res
     Ok(())
 }
 
-/// Makes the workers of these doors, in their order.
+/// Makes the workers of these doors, in their order. The error is that memory ran out.
 fn workers_of(alloc: Global, doors: Vec<OpenDoor>) -> Result<Vec<Worker>, AllocError>
     ensures { IfOk result (λ workers. posts_of workers.items ≡ all_posts doors.items) }
 {

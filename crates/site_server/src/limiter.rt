@@ -37,9 +37,10 @@ impl Limiter {
         }
     }
 
-    /// Decides whether a line is let through that comes in the second with the number `second`. If the line before came
-    /// in a second with another number, a new second begins. Returns how many lines were held back since the last one
-    /// that was let through, at most 2^64 - 1, or `None` if this line is held back itself.
+    /// Decides whether a line that comes in the second with the number `second` is let through: the first ten lines of
+    /// a second are. If the line before came in a second with another number, a new second begins. Returns how many
+    /// lines were held back since the last one that was let through, at most 2^64 - 1, or `None` if this line is held
+    /// back itself.
     pub fn admit(&mut self, second: u64) -> Option<u64>
         ensures admitted { result ≡ admitted self.old second }
         ensures after { self.new ≡ after_line self.old second }

@@ -60,8 +60,8 @@ pub enum ServeFault {
     /// The journal failed, so the act of the last entry was never answered.
     Journal,
     /// The close was refused because the workers' receipts differ from the site's history (C2). By the contract of
-    /// `Serving::run` it is never refused for a missing pass (C1), or because the site's configuration isn't the one
-    /// that the forecourt was made for (C3).
+    /// `Serving::run` the reason is never a missing pass (C1), or another configuration than the one that the forecourt
+    /// was made for (C3).
     NotClosed(CloseRefusal),
 }
 
@@ -171,7 +171,8 @@ struct Returned<L: SiteLedger> {
 }
 
 /// Runs the tasks of all workers at once, and moves their passes into `passes`, which must be empty and have room for
-/// all of them. Then asks the watcher to stop looking at the site.
+/// all of them. `tasks` must be those of a whole crew, none of which has run yet. At the end asks the watcher to stop
+/// looking at the site.
 fn work_all<
     L: SiteLedger + Send + Sync,
     J: Journal + Send,

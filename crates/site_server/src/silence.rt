@@ -8,7 +8,8 @@ use std::io::{self, ErrorKind, Read};
 use till_request::Role;
 
 /// The reading half of a connection. If its peer sends nothing for `idle_seconds`, that is reported to an operator, and
-/// the input ends as if the peer had closed it. If `idle_seconds` is 0, the peer may be silent for any time.
+/// the input ends as if the peer had closed the connection. If `idle_seconds` is 0, the peer may be silent for any
+/// time.
 #[derive(Drop)]
 pub struct Hearing<'a, N: Notices> {
     pub(crate) stream: Stream,

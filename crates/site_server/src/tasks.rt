@@ -56,8 +56,8 @@ fn collect_pass<L: SiteLedger>(task: &mut WorkerTask<L>, passes: &mut Vec<Pass<L
 }
 
 /// Moves the passes of those tasks that are finished into `passes`, which must have room for as many passes as there
-/// are tasks. Returns the number of all connections of the finished tasks whose sessions ended without a
-/// `SessionFault`.
+/// are tasks. Returns how many sessions of the finished tasks ended without a `SessionFault`, in all. This number must
+/// be below 2^64.
 pub fn collect_passes<L: SiteLedger>(tasks: &mut [WorkerTask<L>], passes: &mut Vec<Pass<L>>) -> u64
     requires room { vec_len passes.old + length tasks.old ≤ vec_capacity passes.old }
     requires few { clean_in (map (λ p. p.done) tasks.old) < 2 ^ 64 }

@@ -1,8 +1,7 @@
 //! The workers of a served site.
-ghost use Rattle.std.specs.Prelude.{◌≡◌, ℕ};
-ghost use Rattle.line_session.specs.Serving.{Serves, SitsAtDesk, Visits};
+ghost use Rattle.std.specs.Prelude.{◌≡◌};
 ghost use Rattle.site_server.specs.Collecting.{RunsWorker};
-ghost use Rattle.site_server.specs.Tasks.{Worked, pass_answers, tells};
+ghost use Rattle.site_server.specs.Tasks.{Worked};
 
 use crate::doors::SocketDoors;
 use crate::notices::Notices;
@@ -57,12 +56,14 @@ impl<L: SiteLedger, J: Journal, N: Notices, A: Release, R: Wait + Clock> Workers
             number,
             self.idle_seconds,
         );
-        task.done = Some(self.serve_held(pass, role, doors));
+        task.done = Some(self.serve(pass, role, doors));
         self.notices.left(role, number);
     }
 
-    /// Serves connections like `serve`, and returns the same. Each answer waits until `release` allows it to be sent.
-    fn serve_held<S: Doors + Drop>(&self, pass: Pass<L>, role: Role, doors: S) -> (Pass<L>, u64)
+    /// Serves the connections of a role with one pass. Rules run without the site's lock, except after two stale runs.
+    /// Each answer waits until `release` allows it to be sent. Returns the pass, with the receipts that it gained, and
+    /// the number of connections whose sessions ended without a `SessionFault`.
+    fn serve<S: Doors + Drop>(&self, pass: Pass<L>, role: Role, doors: S) -> (Pass<L>, u64)
         ensures worked { Worked L.config J.may_fail role self.now.connections result.1 pass result.0 }
         ensures id { result.0.id ≡ pass.id }
     {
@@ -70,28 +71,13 @@ impl<L: SiteLedger, J: Journal, N: Notices, A: Release, R: Wait + Clock> Workers
             doors,
             release: self.release,
         };
-        self.serve(pass, role, &mut doors)
-    }
-
-    /// Serves the connections of a role with one pass. Rules run without the site's lock, except after two stale runs.
-    /// Returns the pass, with the receipts that it gained, and the number of connections whose sessions ended without a
-    /// `SessionFault`.
-    fn serve<S: Doors>(&self, pass: Pass<L>, role: Role, doors: &mut S) -> (Pass<L>, u64)
-        ensures served { (moment : ℕ)
-            × Serves (Visits S.opens S.fails S.told
-            (SitsAtDesk (pass_answers L.config J.may_fail) tells role S.In.remaining S.In.reads S.In.failures
-            S.Out.written S.Out.failures))
-            self.now.connections result.1 doors.old (0, pass) doors.new (moment, result.0) }
-        ensures worked { Worked L.config J.may_fail role self.now.connections result.1 pass result.0 }
-        ensures id { result.0.id ≡ pass.id }
-    {
         let mut clock = MachineClock::new(self.rt);
         let gate = Straight { calls: 0 };
         let mut desk = PassDesk::new(self.rt, self.alloc, &self.forecourt, pass, gate);
         let clean = worker(
             self.alloc,
             role,
-            doors,
+            &mut doors,
             &mut clock,
             &mut desk,
             self.connections,

@@ -170,7 +170,8 @@ mask_at mask k at len p is here =
     let from : 64 * k + p % 64 ≡ p = omega (arith, here) in
     (λ e. subst (Within at len) from (it.0 e), λ w. it.1 (subst (Within at len) (sym from) w))
 
--- the words stand for the set `old` and, of `len` places from `at` on, those that are in the first k words
+-- exactly these places are marked in the words: those of the set `old`, and those below 64 k among the `len` places
+-- from `at` on
 abbrev pub IsTaken : List ℕ → List Bool → ℕ → ℕ → ℕ → Type 0
 IsTaken words old at len k = (p : ℕ) → IsMarked words p ↔ (Has old p ⊎ (Within at len p × (p < 64 * k)))
 
@@ -222,7 +223,8 @@ without_is a mask i small l =
     let none = none_left (bit_at mask i) (bit_at-lt mask i) in
     (λ e. let h = both.0 e in (h.0, none.0 (sym other ∙ h.1)), λ h. both.1 (h.0, other ∙ none.1 h.1))
 
--- the words stand for the set `old` without those of `len` places from `at` on that are in the first k words
+-- exactly these places are marked in the words: those of the set `old`, except the ones below 64 k among the `len`
+-- places from `at` on
 abbrev pub IsFreed : List ℕ → List Bool → ℕ → ℕ → ℕ → Type 0
 IsFreed words old at len k = (p : ℕ) → IsMarked words p ↔ (Has old p × (Within at len p → 64 * k ≤ p))
 
@@ -309,7 +311,7 @@ met_all words old other others k many l e met p =
 
 -- ---- whether `len` places from `at` on are in the set
 
--- of `len` places from `at` on, all that are in the first k words are in the set
+-- of the `len` places from `at` on, each one below 64 k is marked in the words
 abbrev pub IsHeld : List ℕ → ℕ → ℕ → ℕ → Type 0
 IsHeld words at len k = (p : ℕ) → Within at len p → p < 64 * k → IsMarked words p
 

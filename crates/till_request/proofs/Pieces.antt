@@ -78,7 +78,8 @@ ends_nowhere there line room l e h o =
     beyond there line room l e (omega (arith, o))
     (no_lf_less (length there) (room + 1) there (omega (arith, o)) (subst (λ l. HasNoLf l) (sym (take_all (length there) there (omega arith))) h))
 
--- if bytes without an LF were removed from the block, and the line has room for them but wasn't kept, `LosesPart` holds
+-- if at least one byte and no LF was removed from the block, and the line with the removed bytes has more than `place`
+-- bytes but at most 8,400, `LosesPart` holds
 pub part_lost : (there line left : List ℕ) (count place : ℕ) → IsLine line → HasNoLf (take count there) → count ≤ length there
     → count ≤ 8400 - length line → 0 < count → place < length line + count → left ≡ drop count there → LosesPart there line place left
 part_lost there line left count place l h long room some full rest = (

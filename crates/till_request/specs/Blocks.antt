@@ -29,8 +29,8 @@ LineGrows there line left grown Ended = (bytes : List ℕ) × (there ≡ bytes +
 LineGrows there line left grown TooLong = (bytes : List ℕ) × (there ≡ bytes ++ left) × HasNoLf (line ++ bytes) × (length (line ++ bytes) ≡ 8401)
 LineGrows there line left grown More = (left ≡ []) × (grown ≡ line ++ there) × IsLine grown
 
--- at least one byte that belongs to the line was removed from the block and is lost, since the line had no place for
--- the removed bytes in `room` bytes
+-- At least one byte was removed from the block and is lost. The removed bytes belong to the line, and the line with
+-- them is longer than `room`.
 abbrev pub LosesPart : List ℕ → List ℕ → ℕ → List ℕ → Type 0
 LosesPart there line room left =
     (bytes : List ℕ) × (there ≡ bytes ++ left) × IsLine (line ++ bytes) × (0 < length bytes) × (room < length (line ++ bytes))
@@ -46,6 +46,6 @@ Belongs bytes room count =
 abbrev pub GivesHeld : List ℕ → List ℕ → List ℕ → List ℕ → ℕ → Type 0
 GivesHeld there line left grown count = (bytes : List ℕ) × (there ≡ bytes ++ left) × (grown ≡ line ++ bytes) × IsLine grown × (length bytes ≡ count)
 
--- no more bytes can be moved from the block to the line: the line has 8,400, or the block is empty, or an LF comes next
+-- no more bytes can be moved from the block to the line: the line has 8,400 bytes, the block is empty, or an LF is next
 abbrev pub CannotGoOn : List ℕ → List ℕ → Type 0
 CannotGoOn left grown = (length grown ≡ 8400) ⊎ (left ≡ []) ⊎ ((rest : List ℕ) × (left ≡ 10 ∷ rest))

@@ -122,11 +122,11 @@ part_fits Value word = is_some_word word
 abbrev pub fits : List Part → List (List ℕ) → Bool
 fits parts ws = pointwise part_fits parts ws
 
--- the role may send lines of this form, and the words have it
+-- the role may send lines of this form, and the words have this form
 abbrev pub suits : Role → List (List ℕ) → Form → Bool
 suits role ws form = allows role (sender form) && fits (template form) ws
 
--- the words have the form of a load, and the role may send it; to read any other line needs no memory
+-- the words have the form of a load, and the role may send loads; only the reading of such words needs memory
 abbrev pub IsLoad : Role → List (List ℕ) → Type 0
 IsLoad role ws = (layout : Layout) × (suits role ws (forms.Load layout) ≡ true)
 
@@ -225,7 +225,8 @@ load_of layout slot mask hex = do
   bytes' ← bytes_from (decode_of hex)
   Ok (acts.Load slot' mask' layout bytes')
 
--- Reads the words of a line as the act of this form. Words that don't have the form are a bad line.
+-- Reads the words of a line as the act of this form. If they aren't as many as the form has, they are a bad line. The
+-- fixed words aren't compared here.
 abbrev pub act_in : Form → List (List ℕ) → Result Act LineFault
 act_in (forms.Amount verb) (k0 ∷ till ∷ k1 ∷ point ∷ amount ∷ []) = amount_of verb till point amount
 act_in (forms.Point verb) (k0 ∷ till ∷ k1 ∷ point ∷ []) = point_of verb till point

@@ -1,6 +1,7 @@
 -- Promises: which bytes are read from an input that is read line by line: it had the bytes `old`, and then has `new`.
--- IsLine and Takes are also definitions. A line has no LF and at most 8,400 bytes. With one byte more it is too long.
--- If the input ends after at least one byte and without an LF, the line is cut.
+-- None stands for bytes that aren't known. IsLine and Takes are also definitions. A line has no LF and at most 8,400
+-- bytes. With one byte more it is too long. If the input ends after at least one byte and without an LF, the line is
+-- cut.
 use Rattle.std.specs.Prelude.{◌≡◌, ◌≢◌, ◌⊎◌, ℕ, ◌+◌, ◌<◌, ◌≤◌, List, [], ◌∷◌, ◌++◌, length, Option, Some, None, Result, Ok, Err, Bool, true, false}
 use Rattle.std.specs.List.{AllByRecursion}
 use Rattle.std.specs.Io.KnownBytes.{Consumes, IsAtEnd}
@@ -42,15 +43,16 @@ TakesPart old new = (bytes : List ℕ) × Consumes old new bytes × IsLine bytes
 abbrev pub TakesBytes : Option (List ℕ) → Option (List ℕ) → Type 0
 TakesBytes old new = (bytes : List ℕ) × Consumes old new bytes × IsLine bytes × (0 < length bytes)
 
--- Bytes come next in the input that belong to the line, at least one, and the line has no place for them in `room`
--- bytes. `before` reads of one byte were allowed, and `after` of them are left: the bytes are at most as many as were
--- allowed, and at least as many as were made.
+-- One or more bytes that belong to the line come next in the input `old`, and the line with these bytes is longer than
+-- `room`. `before` reads of one byte were allowed, and `after` of them are left. The bytes are at most as many as the
+-- reads that were allowed, and at least as many as the reads that were made.
 abbrev pub LacksRoom : Option (List ℕ) → List ℕ → ℕ → ℕ → ℕ → Type 0
 LacksRoom old line room before after =
     (bytes : List ℕ) × (rest : Option (List ℕ)) × Consumes old rest bytes × IsLine (line ++ bytes) × (0 < length bytes)
     × (room < length (line ++ bytes)) × (before ≤ after + length bytes) × (length bytes ≤ before)
 
--- memory ran out: in the middle of a line, whose bytes had no place, or behind a whole line with its LF, which is a load
+-- What was read if memory ran out. Either it is zero or more bytes of a line, and there was no memory for the line's
+-- bytes; or it is a whole line with its LF, and the line has the form of a load, which the role may send.
 abbrev pub TakesUpTo : Option (List ℕ) → Option (List ℕ) → Role → ℕ → ℕ → Type 0
 TakesUpTo old new role before after =
     (TakesPart old new × LacksRoom old [] 0 before after)
@@ -65,7 +67,7 @@ abbrev pub GoesOn : Option (List ℕ) → Option (List ℕ) → List ℕ → Lis
 GoesOn old new line grown None = TakesHeld old new line grown × IsAtEnd new
 GoesOn old new line grown (Some byte) = (bytes : List ℕ) × Consumes old new (bytes ++ byte ∷ []) × (grown ≡ line ++ bytes) × IsLine grown
 
--- zero or more bytes were read that belong to the line; whether the line has them isn't stated
+-- zero or more bytes were read that belong to the line; whether they were appended to it isn't stated
 abbrev pub GoesPart : Option (List ℕ) → Option (List ℕ) → List ℕ → Type 0
 GoesPart old new line = (bytes : List ℕ) × Consumes old new bytes × IsLine (line ++ bytes)
 
@@ -121,7 +123,7 @@ is_read_fault (Err reading.ReadsSpent) = false
 is_read_fault (Err (reading.Line fault)) = false
 is_read_fault (Ok x) = false
 
--- the fault of reading a line that a fault of its input becomes
+-- a fault of an input, as a fault of reading a line from it
 abbrev pub read_fault : InputFault → LineReadFault
 read_fault input.Read = reading.Read
 read_fault input.ReadsSpent = reading.ReadsSpent

@@ -37,8 +37,9 @@ pub trait LineIn {
 
     /// Moves bytes out of the source's own buffer to the end of `line`: at most `left` bytes, only bytes before the
     /// next LF, and only until `line` has 8,400 bytes. Each byte counts as a read of one byte and subtracts 1 from
-    /// `left`. A source without a buffer moves nothing. The error is that memory ran out: the room of `line` is too
-    /// small and can't grow. Nothing was moved then.
+    /// `left`, the number of reads that are still allowed. At the call, `line` must have at most 8,400 bytes and no LF.
+    /// A source without a buffer moves nothing. The error is that memory ran out: the room of `line` is too small and
+    /// can't grow. Nothing was moved then.
     fn read_held(&mut self, line: &mut Vec<u8>, left: &mut u32) -> Result<(), AllocError>
         requires { IsLine line.old.items }
         ensures taken { OnOk result

@@ -1,5 +1,5 @@
-//! Sources and sinks: lists in memory, which can be made to return or accept few bytes at a time and to fail, and the
-//! readers and writers of `std`.
+//! Sources and sinks. Some are lists in memory, which can be made to return or accept few bytes at a time, or to fail.
+//! The others use the readers and writers of `std`, or read ahead from another source.
 ghost use Rattle.std.specs.Prelude.{◌≡◌, ◌↔◌, ◌<◌, ◌≤◌, ◌-◌, ◌^◌};
 ghost use Rattle.std.specs.Prelude.{min, [], Some, IfOk, IsTrue, is_err, drop, take, length, true, false, ℕ};
 ghost use Rattle.std.specs.Io.KnownBytes.{ReadConsumes, WriteAppends, prepend_known};
@@ -56,7 +56,7 @@ impl MemoryIn {
 }
 
 /// Returns the greatest number of bytes that call number `call`, counted from 0, can move: `sizes[call]`, or `each` if
-/// `sizes` has no such index; but 1 if this is 0.
+/// `sizes` has no such index; but at least 1.
 fn size_at(sizes: &[usize], each: usize, call: u64) -> usize
     ensures { result ≡ piece_size sizes.now each call }
 {
@@ -79,7 +79,8 @@ fn after_one(good: Option<u64>) -> Option<u64>
     }
 }
 
-/// Copies bytes from the beginning of `from` to the beginning of `buffer`, at most `most`, and returns how many.
+/// Copies bytes from the beginning of `from` to the beginning of `buffer`, at most `most`, and returns how many. `most`
+/// must be at least 1.
 fn give(from: &[u8], most: usize, buffer: &mut [u8]) -> usize
     requires { 0 < most }
     ensures count { result ≡ min (min (length from.now) (length buffer.new)) most }

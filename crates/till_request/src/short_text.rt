@@ -15,7 +15,7 @@ const SHORT: usize = 192;
 /// A text of at most 192 bytes. An answer's line has at most 174.
 pub type ShortText = ArrayString<SHORT>;
 
-/// Appends a number in decimal digits to a text.
+/// Appends a number in decimal digits to `text`, which must have room for 20 more bytes.
 fn put_number(text: &mut ShortText, number: u64)
     requires { length text.old.bytes + 20 ≤ SHORT }
     ensures text { text.new.bytes ≡ text.old.bytes ++ decimal number }
@@ -25,7 +25,7 @@ fn put_number(text: &mut ShortText, number: u64)
     text.push_str(digits.format(number));
 }
 
-/// Appends a space and a word to a text.
+/// Appends a space and a word to `text`, which must have room for both.
 pub(crate) fn put_word(text: &mut ShortText, word: &str)
     requires { length text.old.bytes + length word.now + 1 ≤ SHORT }
     ensures text { text.new.bytes ≡ with_words text.old.bytes (word.now ∷ []) }
@@ -35,7 +35,7 @@ pub(crate) fn put_word(text: &mut ShortText, word: &str)
     text.push_str(word);
 }
 
-/// Appends a space and a number in decimal digits to a text.
+/// Appends a space and a number in decimal digits to `text`, which must have room for 21 more bytes.
 pub(crate) fn put_word_number(text: &mut ShortText, number: u64)
     requires { length text.old.bytes + 21 ≤ SHORT }
     ensures text { text.new.bytes ≡ with_words text.old.bytes (decimal number ∷ []) }
@@ -45,7 +45,8 @@ pub(crate) fn put_word_number(text: &mut ShortText, number: u64)
     put_number(text, number);
 }
 
-/// Appends a space and a refusal's number with an S before it, such as `S22`, to a text.
+/// Appends a space and a refusal's number with an S before it, such as `S22`, to `text`, which must have room for 22
+/// more bytes.
 fn put_refusal(text: &mut ShortText, number: u32)
     requires { length text.old.bytes + 22 ≤ SHORT }
     ensures text { text.new.bytes ≡ with_words text.old.bytes ((83 ∷ decimal number) ∷ []) }
@@ -55,7 +56,8 @@ fn put_refusal(text: &mut ShortText, number: u32)
     put_number(text, u64::from(number));
 }
 
-/// Appends an order's words to a text, with a space before each word, the first too.
+/// Appends an order's words to `text`, with a space before each word, the first too. The text must have room for 31
+/// more bytes.
 fn put_order(text: &mut ShortText, order: Order)
     requires { length text.old.bytes + 31 ≤ SHORT }
     ensures text { text.new.bytes ≡ with_words text.old.bytes (order_words order) }
@@ -72,7 +74,8 @@ fn put_order(text: &mut ShortText, order: Order)
     }
 }
 
-/// Appends a reply's words to a text, with a space before each word, the first too.
+/// Appends a reply's words to `text`, with a space before each word, the first too. The text must have room for 153
+/// more bytes.
 pub fn put_reply(text: &mut ShortText, reply: &Reply)
     requires { length text.old.bytes + 153 ≤ SHORT }
     ensures text { text.new.bytes ≡ with_words text.old.bytes (reply_words reply.now) }
@@ -134,7 +137,8 @@ pub(crate) fn fault_word(fault: LineFault) -> &'static str
     }
 }
 
-/// Appends a space and a number that a program's refusal names, such as its unit, to a text; nothing for `None`.
+/// Appends a space and a number that a program's refusal names, such as a unit's, to `text`; nothing for `None`. The
+/// text must have room for 21 more bytes.
 fn put_part(text: &mut ShortText, part: Option<u32>)
     requires { length text.old.bytes + 21 ≤ SHORT }
     ensures text { text.new.bytes ≡ with_words text.old.bytes (map decimal (option_to_list part)) }
@@ -145,9 +149,9 @@ fn put_part(text: &mut ShortText, part: Option<u32>)
     }
 }
 
-/// Writes the answer to a refused program, without an LF, into an empty text: the refusal's number with a V before it;
-/// then `unit`, the unit that the refusal names; then `part`, the register or the argument that it names. `unit` and
-/// `part` have a space before them, and each is left out if it is `None`.
+/// Writes the answer to a refused program, without an LF, into `text`, which must be empty. It is the refusal's number
+/// with a V before it; then `unit`, the unit that the refusal names; then `part`, the register or the argument that the
+/// refusal names. `unit` and `part` have a space before them, and each is left out if it is `None`.
 fn put_program(text: &mut ShortText, number: u32, unit: Option<u32>, part: Option<u32>)
     requires { text.old.bytes ≡ [] }
     ensures text { text.new.bytes ≡ answer_text (Answer.Program number unit part) }
@@ -159,7 +163,7 @@ fn put_program(text: &mut ShortText, number: u32, unit: Option<u32>, part: Optio
     put_part(text, part);
 }
 
-/// Writes an entry's number, a space and its reply, without an LF, into an empty text.
+/// Writes an entry's number, a space and its reply, without an LF, into `text`, which must be empty.
 #[tactic(auto, using(crate::proofs::Short::entered))]
 fn put_entered(text: &mut ShortText, number: u32, reply: &Reply)
     requires { text.old.bytes ≡ [] }
@@ -170,7 +174,7 @@ fn put_entered(text: &mut ShortText, number: u32, reply: &Reply)
     put_reply(text, reply);
 }
 
-/// Writes an answer, without an LF, into an empty text.
+/// Writes an answer, without an LF, into `text`, which must be empty.
 pub(crate) fn put_answer(text: &mut ShortText, answer: &Answer)
     requires { text.old.bytes ≡ [] }
     ensures text { text.new.bytes ≡ answer_text answer.now }
@@ -186,7 +190,7 @@ pub(crate) fn put_answer(text: &mut ShortText, answer: &Answer)
     }
 }
 
-/// Writes an answer with its LF into an empty text.
+/// Writes an answer with its LF into `text`, which must be empty.
 pub(crate) fn put_line(text: &mut ShortText, answer: &Answer)
     requires { text.old.bytes ≡ [] }
     ensures { text.new.bytes ≡ answer_line answer.now }

@@ -45,7 +45,7 @@ fn words_of(request: Request) -> (Keyword, u32, Option<u64>)
     }
 }
 
-/// Appends a request's words, with a space between them, to a text.
+/// Appends a request's words, with a space between them, to `text`, which must have room for 50 more bytes.
 fn put_request(text: &mut ShortText, request: Request)
     requires { length text.old.bytes + 50 ≤ 192 }
     ensures { text.new.bytes ≡ text.old.bytes ++ request_text request }
@@ -71,7 +71,7 @@ impl fmt::Display for Request {
     }
 }
 
-/// Writes the line of a till's request, without its LF, into an empty text.
+/// Writes the line of a till's request, without its LF, into `text`, which must be empty.
 pub fn put_till_line(text: &mut ShortText, till: u32, request: Request)
     requires { text.old.bytes ≡ [] }
     ensures { text.new.bytes ≡ spelling (Act.Till till request) }
@@ -97,7 +97,7 @@ fn verb_of(event: DispenserEvent) -> Keyword
     }
 }
 
-/// Writes the line of a dispenser's event, without its LF, into an empty text.
+/// Writes the line of a dispenser's event, without its LF, into `text`, which must be empty.
 pub fn put_dispenser_line(text: &mut ShortText, point: u32, event: DispenserEvent)
     requires { text.old.bytes ≡ [] }
     ensures { text.new.bytes ≡ spelling (Act.Dispenser point event) }

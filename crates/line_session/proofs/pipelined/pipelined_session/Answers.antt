@@ -1,7 +1,7 @@
 use Rattle.till_request.proofs.Taken.{on_err_always}
 use Rattle.line_session.specs.Session.{desk_says, desk_drops, desk_takes}
-use Rattle.line_session.proofs.Buffered.{breaks_off, ends_out, ends_part, stops_off, stops_out, stops_part}
-use Rattle.line_session.proofs.pipelined.Progress.answer_all.Goals as goal
+use Rattle.line_session.proofs.Buffered.{breaks_off, ends_part, stops_off, stops_out, stops_part}
+use Rattle.line_session.proofs.pipelined.pipelined_session.Goals as goal
 
 pub returns-in_err-flush-in-Ok-clause-broken : goal.returns-in_err-flush-in-Ok-clause-broken
 returns-in_err-flush-in-Ok-clause-broken g c =
@@ -24,17 +24,13 @@ returns-in_err-flush-in-Err-clause-broken g c =
     on_err_always _ (stops_part (desk_says g.D.Desk.step g.C.Clock.tick c.args.role) (desk_drops g.D.Desk.step g.C.Clock.tick c.args.role) (desk_takes c.args.role) c.in-Err.fault
     _ _ _ _ _ _ _ _ (c.in-Err.ensures.stopped no.1) c.in_err-flush-in-Err.ensures.err)
 
-pub returns-in_ok-flush-in-Err-clause-broken : goal.returns-in_ok-flush-in-Err-clause-broken
-returns-in_ok-flush-in-Err-clause-broken g c =
+pub returns-clause-broken : goal.returns-clause-broken
+returns-clause-broken g c =
     let no = c.device_failed.ensures.no c.if-device_failed.false in
     (stops_out (desk_says g.D.Desk.step g.C.Clock.tick c.args.role) (desk_drops g.D.Desk.step g.C.Clock.tick c.args.role) (desk_takes c.args.role) c.in-Err.fault
     _ _ _ _ _ _ _ _ (c.in-Err.ensures.stopped no.1) c.in_ok-flush-in-Err.ensures.ok).0
 
-pub returns-in_ok-flush-in-Err-clause-stopped : goal.returns-in_ok-flush-in-Err-clause-stopped
-returns-in_ok-flush-in-Err-clause-stopped g c = λ other.
+pub returns-clause-stopped : goal.returns-clause-stopped
+returns-clause-stopped g c = λ other.
     stops_out (desk_says g.D.Desk.step g.C.Clock.tick c.args.role) (desk_drops g.D.Desk.step g.C.Clock.tick c.args.role) (desk_takes c.args.role) c.in-Err.fault
     _ _ _ _ _ _ _ _ (c.in-Err.ensures.stopped other) c.in_ok-flush-in-Err.ensures.ok
-
-pub returns-in_ok-flush-in-Ok-clause-said : goal.returns-in_ok-flush-in-Ok-clause-said
-returns-in_ok-flush-in-Ok-clause-said g c =
-    ends_out (desk_says g.D.Desk.step g.C.Clock.tick c.args.role) _ _ _ _ _ _ _ _ _ _ c.in-Ok.ensures.said c.in_ok-flush-in-Ok.ensures.ok
