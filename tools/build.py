@@ -22,8 +22,7 @@ from concurrent.futures import FIRST_COMPLETED, ThreadPoolExecutor, wait
 
 MOST_JOBS = 4  # processes that one crate's proof can use well
 LINES_LIKE = {"interp": 2200, "site_lock": 4000}  # for proofs that take much longer than others of so many lines
-# Processes, with four processors: what comes after these crates waits for them.
-AT_LEAST = {"decision_journal": 2, "job_texts": 2, "site_files": 2, "file_jobs": 4}
+AT_LEAST = {"job_texts": 2, "site_files": 2}  # processes, with four processors: the end waits for these crates
 MEMORY = 4_500_000_000  # bytes for each crate that is proved at the same time
 TARGET = "x86_64-unknown-linux-gnu"
 C_LIBRARIES = ("libos_c.a", "liblibc_c.a")  # what the kit's libraries of the system are linked with
