@@ -1,4 +1,4 @@
-//! Looking at a site while it is served.
+//! What looks at a petrol station's site while it is served: its page port, if it has one.
 use page_port::{Connections, PagePort};
 use site_server::{Forecourt, Journal, SiteLedger, Watcher};
 use std::sync::Wait;

@@ -19,8 +19,8 @@ Made {G} makes before (run ∷ runs) now = (mid : G) × makes before run mid × 
 abbrev pub IsRunFor : ℕ → ℕ → Request → ReadyValue → Type 0
 IsRunFor till moment request run = (run.draft.till ≡ till) × (run.draft.moment ≡ moment) × (run.draft.request ≡ request)
 
--- The answer is that of the run: at some site of this configuration the run wasn't stale, and was committed with this
--- number and reply. So the entry's run has the draft's version and the program's answer.
+-- The answer `a` is that of the run: at some site of this configuration the run wasn't stale, and its commit made an
+-- entry with the number and the reply of `a`, with the version of the run's draft, and with its program's answer.
 pub record IsAnswerOf (config : ConfigValue) (pass : ℕ) (run : ReadyValue) (a : Answered) : Type 0 where
   pub site : SiteValue
   pub after : SiteValue

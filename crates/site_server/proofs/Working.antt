@@ -1,4 +1,4 @@
--- If a worker served connections at its doors, then its pass served as many, and as many of them ended without fault.
+-- How many connections a worker served, and how many of them ended without a fault, is also what its pass served.
 use Rattle.std.proofs.Common.{◌≡◌, ◌≢◌, ℕ, List, [], ◌∷◌, Option, Some, None, Result, Ok, Err, refl, subst, inl, inr}
 use Rattle.till_request.specs.declared.act.Answer.{Answer}
 use Rattle.till_request.specs.declared.act.Role.{Role}
