@@ -110,7 +110,7 @@ static const char *widths[] = {"Bits32", "Bits64"};
 static const char *names[] = {"narrow", "full"};
 
 int main(void) {
-    puts("-- Closed examples: each operator and condition at edge values. The expected values are C's: tools/edges.c wrote this file.");
+    puts("-- Closed examples: each operator and condition at edge values. The expected values are C's: tools/edges.c wrote this\n-- file.");
     puts("use Rattle.std.specs.Prelude.{◌≡◌, refl, ℕ, ℤ, pos, Bool, true, false, List, [], ◌∷◌, map}");
     puts("use Rattle.bpf_model.specs.declared.instruction.Width.{Width}");
     puts("use Rattle.bpf_model.specs.declared.instruction.Width.TheVariants.{Bits32, Bits64}");
@@ -120,7 +120,7 @@ int main(void) {
     puts("use Rattle.bpf_model.specs.declared.instruction.Condition.{Condition}");
     puts("use Rattle.bpf_model.specs.declared.instruction.Condition.TheVariants.{Jeq, Jgt, Jge, Jset, Jne, Jsgt, Jsge, Jlt, Jle, Jslt, Jsle}");
     puts("use Rattle.bpf_model.specs.Arithmetic.{alu, holds, swapped}\n");
-    printf("-- the operands, dst first\nabbrev pairs : List (ℕ × ℕ)\npairs =\n    ");
+    printf("-- the pairs of operands that each operator and condition is tried on, dst first\nabbrev pairs : List (ℕ × ℕ)\npairs =\n    ");
     for (int i = 0; i < COUNT; i++) printf("(%" PRIu64 ", %" PRIu64 ") ∷ ", pairs[i][0], pairs[i][1]);
     puts("[]\n");
     puts("abbrev results : Operator → Width → ℤ → List ℕ\nresults op w offset = map (λ p. alu op w offset p.0 p.1) pairs\n");

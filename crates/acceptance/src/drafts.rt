@@ -1,4 +1,5 @@
-//! Tests of decisions that are run outside the site, with changes of the site between the draft and the commit.
+//! Tests of decisions whose rule is run outside the site. The site changes between the draft, on which the rule is run,
+//! and the commit, which enters the decision.
 use fuelling_point::DispenserEvent;
 use reg_types::Layout;
 use reg_types::verifier::verify;
@@ -17,7 +18,7 @@ struct Rule {
     layout: Layout,
 }
 
-/// A program that grants what is asked.
+/// A program that answers the amount that the request asks for.
 const ASKED: Rule = Rule {
     bytes: &[0x79, 0x10, 0x18, 0, 0, 0, 0, 0, 0x95, 0, 0, 0, 0, 0, 0, 0],
     mask: 0,
@@ -52,18 +53,18 @@ const OPEN: Does = Does::Till(1, Request::OpenPoint(1));
 
 const OPEN_SECOND: Does = Does::Till(2, Request::OpenPoint(2));
 
-/// The events that load a program which grants what is asked, and open point 1.
+/// The events that load the program `ASKED` into slot 0 and open point 1.
 const OPENED: &[Does] = &[Does::Load(0, ASKED), OPEN];
 
 const RELEASE: Request = Request::Release(1, 8000);
 
-/// A case: the events before a decision, the request of till 1, and the events between its draft and its commit. `told`
-/// is the expected result: the entry's number and reply, or why the decision is stale.
+/// A case: the events before the draft, the request of till 1, and the events between the draft and the commit.
+/// `commit_result` is what the commit must return: the entry's number and reply, or why the decision is stale.
 struct Row {
     before: &'static [Does],
     asked: Request,
     between: &'static [Does],
-    told: Result<(u32, Reply), Why>,
+    commit_result: Result<(u32, Reply), Why>,
 }
 
 const ROWS: [Row; 8] = [
@@ -72,7 +73,7 @@ const ROWS: [Row; 8] = [
         before: OPENED,
         asked: RELEASE,
         between: &[Does::Till(2, Request::Show(1))],
-        told: Ok((4, Reply::Granted(8000, 1))),
+        commit_result: Ok((4, Reply::Granted(8000, 1))),
     },
     // The preset at the time of the commit bounds the release.
     Row {
@@ -82,49 +83,49 @@ const ROWS: [Row; 8] = [
             Does::Load(1, ASKED),
             Does::Till(2, Request::Preset(1, 3000)),
         ],
-        told: Ok((5, Reply::Granted(3000, 1))),
+        commit_result: Ok((5, Reply::Granted(3000, 1))),
     },
     Row {
         before: OPENED,
         asked: RELEASE,
         between: &[Does::Load(0, ONE)],
-        told: Err(Why::Version(Some(2))),
+        commit_result: Err(Why::Version(Some(2))),
     },
     Row {
         before: OPENED,
         asked: RELEASE,
         between: &[Does::Disp(1, DispenserEvent::Up(1))],
-        told: Err(Why::Context(12)),
+        commit_result: Err(Why::Context(12)),
     },
-    // The context of the second layout has the number of open points, so opening one changes it.
+    // The context of the second layout has the number of open points, so opening a point changes the context.
     Row {
         before: &[Does::Load(0, ONE), OPEN],
         asked: RELEASE,
         between: &[OPEN_SECOND],
-        told: Err(Why::Context(72)),
+        commit_result: Err(Why::Context(72)),
     },
     Row {
         before: OPENED,
         asked: RELEASE,
         between: &[OPEN_SECOND],
-        told: Err(Why::PointDiffers(2)),
+        commit_result: Err(Why::PointDiffers(2)),
     },
     Row {
         before: OPENED,
         asked: RELEASE,
         between: &[Does::Load(2, ASKED), Does::Till(2, Request::Price(2, 1899))],
-        told: Err(Why::PriceDiffers(2)),
+        commit_result: Err(Why::PriceDiffers(2)),
     },
     Row {
         before: &[Does::Load(1, COUNTED), OPEN, OPEN_SECOND],
         asked: Request::Preset(1, 100),
         between: &[Does::Till(2, Request::Preset(2, 100))],
-        told: Err(Why::Counter(0, 1)),
+        commit_result: Err(Why::Counter(0, 1)),
     },
 ];
 
 /// Makes a configuration with two tills and two points, and counter 0 with bound 2. Slot 0 decides releases, slot 1
-/// presets, and slot 2 prices.
+/// presets, and slot 2 prices. Returns `None` if memory ran out or the configuration isn't valid.
 fn config(alloc: Global) -> Option<Config> {
     let points = vec![in alloc; (0, 1), (0, 1)].ok()?;
     let mut counters = [(0, 0); 32];
@@ -159,7 +160,7 @@ fn events(alloc: Global, all: &[Does]) -> Option<Vec<Event>> {
     Some(events)
 }
 
-/// Makes a new site, and applies these events to it.
+/// Makes a new site, and applies these events to it. Returns `None` if memory ran out or a program is refused.
 fn played(alloc: Global, all: &[Does]) -> Option<Site> {
     let config = config(alloc)?;
     let (site, _results) = Site::run(alloc, config, events(alloc, all)?).ok()?;
@@ -173,7 +174,8 @@ fn decide(site: &Site, request: Request) -> Option<Ready> {
     }
 }
 
-/// Commits a decision with pass 2, and returns the entry's number and reply, or why the decision is stale.
+/// Commits a decision with pass 2, and returns the entry's number and reply, or why the decision is stale. Returns
+/// `None` if the commit fails.
 fn commit(site: &mut Site, ready: Ready) -> Option<Result<(u32, Reply), Why>> {
     match site.commit(2, ready).ok()? {
         Commit::Done(answered) => Some(Ok((answered.number, answered.reply))),
@@ -188,23 +190,23 @@ fn enter(alloc: Global, site: &mut Site, all: &[Does]) -> Option<()> {
     Some(())
 }
 
-/// Makes and runs the draft of a case, applies the case's events `between`, and commits the run.
+/// Makes the draft for the request `row.asked`, runs the rule on the draft, applies the events `row.between`, and
+/// commits the decision. Returns the result of the commit, or `None` if a step fails.
 fn late(alloc: Global, site: &mut Site, row: &Row) -> Option<Result<(u32, Reply), Why>> {
     let ready = decide(site, row.asked)?;
     enter(alloc, site, row.between)?;
     commit(site, ready)
 }
 
-fn told(alloc: Global, row: &Row) -> Option<Result<(u32, Reply), Why>> {
+fn commit_result(alloc: Global, row: &Row) -> Option<Result<(u32, Reply), Why>> {
     let mut site = played(alloc, row.before)?;
     late(alloc, &mut site, row)
 }
 
-/// Returns the place, counted from 0, of the first case whose result isn't the expected one, or `None` if there is
-/// none.
+/// Returns the index in `ROWS` of the first case whose result isn't the expected one, or `None` if there is none.
 fn first_unlike(alloc: Global) -> Option<usize> {
     for (place, row) in ROWS.iter().enumerate() {
-        if told(alloc, row) != Some(row.told) {
+        if commit_result(alloc, row) != Some(row.commit_result) {
             return Some(place);
         }
     }

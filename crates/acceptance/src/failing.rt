@@ -20,9 +20,9 @@ use till_request::devices::{MemoryIn, MemoryOut};
 
 /// A clock that always gives moment 0.
 #[derive(Drop)]
-struct Still;
+struct FixedClock;
 
-impl Clock for Still {
+impl Clock for FixedClock {
     ghost tick = { λ _ _ _. Unit {0} };
 
     fn now(&mut self) -> u64 {
@@ -30,19 +30,19 @@ impl Clock for Still {
     }
 }
 
-/// The outcome of a session: how it ended, how many reads and writes failed, and how many receipts its pass got. Also
-/// how many answers were written, and whether the output is a beginning of the expected answers.
+/// The outcome of a session: how it ended, how many reads and writes failed, how many receipts (records of an answered
+/// call) its pass got, how many answers were written, and whether the output is a beginning of the expected answers.
 #[derive(Clone, Copy, PartialEq)]
-struct Seen {
+struct SessionOutcome {
     ended: Result<Ended, SessionFault>,
     failed: (u64, u64),
     entries: usize,
     lines: usize,
-    is_front: bool,
+    is_beginning: bool,
 }
 
 /// The outcome of a session without a fault: all 14 lines are entered and answered.
-const WHOLE: Seen = Seen {
+const WHOLE: SessionOutcome = SessionOutcome {
     ended: Ok(Ended {
         lines: 14,
         cut: None,
@@ -50,10 +50,10 @@ const WHOLE: Seen = Seen {
     failed: (0, 0),
     entries: 14,
     lines: 14,
-    is_front: true,
+    is_beginning: true,
 };
 
-/// Returns how many LF there are in these bytes.
+/// Returns how many of these bytes are LFs.
 fn lines_in(bytes: &[u8]) -> usize {
     let mut lines = 0usize;
     for byte in bytes {
@@ -64,7 +64,8 @@ fn lines_in(bytes: &[u8]) -> usize {
     lines
 }
 
-/// Runs a session with these devices at a desk with this pass, and returns its outcome.
+/// Runs a session over `input` and `output`, and returns its outcome. The session's lines go to a desk that calls
+/// `forecourt` with `pass`.
 fn seen_at<L: SiteLedger, R: Wait>(
     rt: &R,
     alloc: Global,
@@ -72,8 +73,8 @@ fn seen_at<L: SiteLedger, R: Wait>(
     pass: Pass<L>,
     mut input: MemoryIn,
     mut output: MemoryOut,
-) -> Seen {
-    let mut clock = Still;
+) -> SessionOutcome {
+    let mut clock = FixedClock;
     let mut desk = PassDesk::new(rt, alloc, forecourt, pass, Straight { calls: 0 });
     let ended = session(
         alloc,
@@ -83,26 +84,26 @@ fn seen_at<L: SiteLedger, R: Wait>(
         &mut clock,
         &mut desk,
     );
-    Seen {
+    SessionOutcome {
         ended,
         failed: (input.failures, output.failures),
         entries: desk.into_pass().receipts().len(),
         lines: lines_in(&output.bytes),
-        is_front: ANSWERS.as_bytes().starts_with(&output.bytes),
+        is_beginning: ANSWERS.as_bytes().starts_with(&output.bytes),
     }
 }
 
-/// Runs a session with these devices at the desk of a new forecourt, and returns its outcome. `blank` and `config` must
-/// be those of the ledger `L`, which must be new, and `blank` must have one part. Returns `None` if the forecourt can't
-/// be started.
-fn sat<L: SiteLedger, R: Wait>(
+/// Runs a session over `input` and `output` at a new forecourt with the ledger `L`. Returns the outcome, or `None` if
+/// the forecourt can't be started. `L` must be new and have one part. `blank` must have the name and the number of
+/// parts of `L`, and `config` must be the configuration of `L`.
+fn run_on_new_site<L: SiteLedger, R: Wait>(
     rt: &R,
     alloc: Global,
     blank: Blank,
     config: Config,
     input: MemoryIn,
     output: MemoryOut,
-) -> Option<Seen>
+) -> Option<SessionOutcome>
     requires name { blank.name ≡ L.name }
     requires parts { blank.parts ≡ L.parts }
     requires config { config ≡ L.config }
@@ -114,62 +115,65 @@ fn sat<L: SiteLedger, R: Wait>(
     Some(seen_at(rt, alloc, &forecourt, pass, input, output))
 }
 
-/// Makes an input that gives the lines of `DELIVERY`. Its first `good` reads succeed; `None` means all.
+/// Makes an input that gives the lines of `DELIVERY`. Only its first `good` reads succeed; all do if `good` is `None`.
+/// The error is that memory ran out.
 fn delivery(alloc: Global, good: Option<u64>) -> Result<MemoryIn, Fail> {
     let bytes = Vec::from_slice(alloc, DELIVERY.as_bytes())?;
     Ok(MemoryIn::new(bytes, Vec::new(alloc), good))
 }
 
-/// Makes an output that takes at most `each` bytes in a write. Its first `good` writes succeed; `None` means all.
+/// Makes an output that takes at most `each` bytes in a write. Only its first `good` writes succeed; all do if `good`
+/// is `None`.
 fn answers(alloc: Global, each: usize, good: Option<u64>) -> MemoryOut {
     let mut output = MemoryOut::new(alloc, Vec::new(alloc), good);
     output.each = each;
     output
 }
 
-fn sat_of<R: Wait>(
+fn run_with_brand<R: Wait>(
     rt: &R,
     alloc: Global,
     config: Config,
     input: MemoryIn,
     output: MemoryOut,
-) -> Option<Seen> {
-    sat::<Brand, R>(rt, alloc, Blank::new(1), config, input, output)
+) -> Option<SessionOutcome> {
+    run_on_new_site::<Brand, R>(rt, alloc, Blank::new(1), config, input, output)
 }
 
-/// Runs a session with these devices at a new site of two points, and returns its outcome.
+/// Runs a session over `input` and `output` at a new site of two points, and returns its outcome. The error is that
+/// memory ran out, or that the site couldn't be started.
 fn seen_by<R: Wait>(
     rt: &R,
     alloc: Global,
     input: MemoryIn,
     output: MemoryOut,
-) -> Result<Seen, Fail> {
-    let seen = sat_of(rt, alloc, station(alloc)?, input, output);
+) -> Result<SessionOutcome, Fail> {
+    let seen = run_with_brand(rt, alloc, station(alloc)?, input, output);
     Ok(seen.ok_or("a session")?)
 }
 
-fn seen_after_reads<R: Wait>(rt: &R, alloc: Global, good: u64) -> Result<Seen, Fail> {
+fn seen_after_reads<R: Wait>(rt: &R, alloc: Global, good: u64) -> Result<SessionOutcome, Fail> {
     let input = delivery(alloc, Some(good))?;
     seen_by(rt, alloc, input, answers(alloc, 4096, None))
 }
 
-/// Returns the outcome that a session must have if it fails with this fault after `entries` entries and `lines`
+/// Returns the outcome that a session must have if it fails with the fault `ended` after `entries` entries and `lines`
 /// answers.
-fn failed(ended: SessionFault, entries: usize, lines: usize) -> Seen {
+fn failed(ended: SessionFault, entries: usize, lines: usize) -> SessionOutcome {
     let failed = match ended {
         SessionFault::Write => (0, 1),
         _ => (1, 0),
     };
-    Seen {
+    SessionOutcome {
         ended: Err(ended),
         failed,
         entries,
         lines,
-        is_front: true,
+        is_beginning: true,
     }
 }
 
-/// Returns how many lines end in the first `place` bytes of the delivery.
+/// Returns how many whole lines are in the first `place` bytes of `DELIVERY`.
 fn lines_before(place: usize) -> usize {
     lines_in(
         DELIVERY
@@ -179,8 +183,8 @@ fn lines_before(place: usize) -> usize {
     )
 }
 
-/// Runs sessions whose first 0, 1, 2 and so on reads succeed. Returns the first of these numbers at which the outcome
-/// of the session is wrong, or `None` if none is wrong. In the last session no read fails.
+/// Runs sessions in which only the first k reads succeed, for k = 0, 1, 2 and so on, up to a k at which no read fails.
+/// Returns the first k at which the outcome is wrong, or `None`.
 fn unlike_after_reads<R: Wait>(rt: &R, alloc: Global) -> Result<Option<u64>, Fail> {
     for good in 0..DELIVERY.len().wrapping_add(2) {
         let lines = lines_before(good);
@@ -196,14 +200,14 @@ fn unlike_after_reads<R: Wait>(rt: &R, alloc: Global) -> Result<Option<u64>, Fai
     Ok(None)
 }
 
-fn seen_after_writes<R: Wait>(rt: &R, alloc: Global, good: u64) -> Result<Seen, Fail> {
+fn seen_after_writes<R: Wait>(rt: &R, alloc: Global, good: u64) -> Result<SessionOutcome, Fail> {
     let input = delivery(alloc, None)?;
     seen_by(rt, alloc, input, answers(alloc, 4, Some(good)))
 }
 
-/// Runs sessions whose first 0, 1, 2 and so on writes succeed. Returns the first of these numbers at which the outcome
-/// of the session is wrong, or `None` if none is wrong. If the write of an answer fails, the event that it answers must
-/// stay entered. A session makes more than 14 writes. If 99 successful writes are too few, returns 100.
+/// Runs sessions in which only the first k writes succeed, for k = 0, 1, 2 and so on, until one ends without a fault.
+/// Returns the first k at which the outcome is wrong, or `None`. If a write fails, one more event must be entered than
+/// whole answers are written. A session must take 15 to 99 writes; if 99 are too few, returns 100.
 fn unlike_after_writes<R: Wait>(rt: &R, alloc: Global) -> Result<Option<u64>, Fail> {
     for good in 0..100u64 {
         let seen = seen_after_writes(rt, alloc, good)?;
@@ -217,7 +221,8 @@ fn unlike_after_writes<R: Wait>(rt: &R, alloc: Global) -> Result<Option<u64>, Fa
     Ok(Some(100))
 }
 
-/// Makes an input that gives the journal, 50 bytes in a read. Its first `good` reads succeed.
+/// Makes an input that gives the bytes of `JOURNAL`, at most 50 in a read. Only its first `good` reads succeed. The
+/// error is that memory ran out.
 fn cut_journal(alloc: Global, good: u64) -> Result<MemoryIn, Fail> {
     let bytes = Vec::from_slice(alloc, JOURNAL.as_bytes())?;
     let mut input = MemoryIn::new(bytes, Vec::new(alloc), Some(good));
@@ -265,9 +270,9 @@ fn whole_read(reads: u64) -> Read {
     }
 }
 
-/// Reads the journal with 0, 1, 2 and so on successful reads. Returns the first of these numbers at which the result is
-/// wrong, or `None` if none is wrong. The whole journal takes more than 10 reads. If 99 successful reads are too few,
-/// returns 100.
+/// Reads `JOURNAL` from inputs of which only the first k reads succeed, for k = 0, 1, 2 and so on, until it is read
+/// whole. Returns the first k at which the result is wrong, or `None`. `JOURNAL` must take 11 to 99 reads; if 99 are
+/// too few, returns 100.
 fn unlike_after_journal_reads(alloc: Global) -> Result<Option<u64>, Fail> {
     for good in 0..100u64 {
         let read = read_after(alloc, good)?;
@@ -285,41 +290,42 @@ fn unlike_after_journal_reads(alloc: Global) -> Result<Option<u64>, Fail> {
 /// whether it is as long as the journal.
 #[derive(Clone, Copy, PartialEq)]
 struct Written {
-    told: Result<(), JournalFault>,
+    write_result: Result<(), JournalFault>,
     failures: u64,
-    is_front: bool,
+    is_beginning: bool,
     is_all: bool,
 }
 
-/// Writes entries to an output that takes 30 bytes in a write and whose first `good` writes succeed.
+/// Writes entries to an output that takes at most 30 bytes in a write. Only the output's first `good` writes succeed.
+/// Returns what happened.
 fn written_after(alloc: Global, entries: &[Entry], good: u64) -> Written {
     let mut output = answers(alloc, 30, Some(good));
-    let told = write_entries(alloc, entries, &mut output);
+    let write_result = write_entries(alloc, entries, &mut output);
     Written {
-        told,
+        write_result,
         failures: output.failures,
-        is_front: JOURNAL.as_bytes().starts_with(&output.bytes),
+        is_beginning: JOURNAL.as_bytes().starts_with(&output.bytes),
         is_all: output.bytes.len() == JOURNAL.len(),
     }
 }
 
 const WHOLE_JOURNAL: Written = Written {
-    told: Ok(()),
+    write_result: Ok(()),
     failures: 0,
-    is_front: true,
+    is_beginning: true,
     is_all: true,
 };
 
 const FRONT_OF_A_JOURNAL: Written = Written {
-    told: Err(JournalFault::Device),
+    write_result: Err(JournalFault::Device),
     failures: 1,
-    is_front: true,
+    is_beginning: true,
     is_all: false,
 };
 
-/// Writes the journal with 0, 1, 2 and so on successful writes. Returns the first of these numbers at which the result
-/// is wrong, or `None` if none is wrong. The whole journal takes more than 14 writes. If 199 successful writes are too
-/// few, returns 200.
+/// Writes `JOURNAL` to outputs of which only the first k writes succeed, for k = 0, 1, 2 and so on, until it is written
+/// whole. Returns the first k at which the result is wrong, or `None`. `JOURNAL` must take 15 to 199 writes; if 199 are
+/// too few, returns 200.
 fn unlike_after_journal_writes(alloc: Global) -> Result<Option<u64>, Fail> {
     let mut input = cut_journal(alloc, 1000)?;
     let entries = read_entries(alloc, &mut input).ok().ok_or("entries")?;
@@ -335,8 +341,8 @@ fn unlike_after_journal_writes(alloc: Global) -> Result<Option<u64>, Fail> {
     Ok(Some(200))
 }
 
-/// Tries the reads and the writes of a session and of a journal. Returns for each of the four the first number of
-/// successful calls at which the outcome is wrong, or `None` if there is none.
+/// Runs four tests: the reads of a session, its writes, the reads of a journal, and its writes. Returns for each test
+/// the first number of successful calls at which the outcome is wrong, or `None`.
 fn first_unlike<R: Wait>(rt: &R, alloc: Global) -> Result<[Option<u64>; 4], Fail> {
     let reads = unlike_after_reads(rt, alloc)?;
     let writes = unlike_after_writes(rt, alloc)?;

@@ -1,5 +1,5 @@
-//! Tests of calls that the commands of the program can't make: devices that fail at each call, random programs, drafts,
-//! and the reading of a single line.
+//! Tests that can't be run through the program's commands: of devices that fail at each call, of random programs, of
+//! drafts, and of the reading of a single line.
 #![tactic(auto)]
 
 #[cfg(test)]

@@ -20,7 +20,7 @@ impl Numbers {
         self.state.wrapping_mul(0x2545_F491_4F6C_DD1D)
     }
 
-    /// Returns one of these choices at random.
+    /// Returns one of these choices at random, or 0 if there are none.
     fn pick(&mut self, choices: &[u8]) -> u8 {
         let place = self.next() % 64;
         choices
@@ -184,7 +184,7 @@ const FORMS: [Form; 16] = [
     CALL,
 ];
 
-/// Returns a random unit of one of the forms.
+/// Returns a random unit (an instruction slot of eight bytes) of one of the forms.
 fn unit_of(numbers: &mut Numbers) -> [u8; 8] {
     let place = numbers.next() % 16;
     let form = &FORMS[place as usize];
@@ -200,7 +200,7 @@ fn unit_of(numbers: &mut Numbers) -> [u8; 8] {
     ]
 }
 
-/// Returns 1 to 64 units of random bytes.
+/// Returns 1 to 64 units (of eight bytes each) of random bytes. The error is that memory ran out.
 fn noise(alloc: Global, numbers: &mut Numbers) -> Result<Vec<u8>, AllocError> {
     let mut bytes = Vec::new(alloc);
     for _ in 0..=numbers.next() % 64 {
@@ -210,7 +210,7 @@ fn noise(alloc: Global, numbers: &mut Numbers) -> Result<Vec<u8>, AllocError> {
 }
 
 /// Returns 1 to 64 units that look like a program: first numbers for R0, R6 and R7, then random units, and EXIT at the
-/// end.
+/// end. The error is that memory ran out.
 fn likeness(alloc: Global, numbers: &mut Numbers) -> Result<Vec<u8>, AllocError> {
     let mut bytes = Vec::new(alloc);
     let longest = numbers.next() % 64;
@@ -247,7 +247,7 @@ fn judged(alloc: Global, bytes: &[u8]) -> Option<Verdict> {
             Some(Verdict::Answered(run(&program, &Context::One([1; 64]), &world(), &mut counters)))
         }
         Err(refusal) => {
-            let (number, _, _) = refusal.shown()?;
+            let (number, _, _) = refusal.fault_numbers()?;
             Some(Verdict::Refused(number))
         }
     }

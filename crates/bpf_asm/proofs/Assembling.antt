@@ -25,7 +25,7 @@ use Rattle.bpf_model.specs.declared.instruction.Unit.{Unit as ProgramUnit}
 use Rattle.bpf_model.specs.declared.instruction.Unit.TheVariants.{First, Second}
 use Rattle.bpf_model.specs.declared.instruction.UnitFault.{UnitFault}
 use Rattle.bpf_model.specs.declared.instruction.UnitFault.TheVariants.{Field, Register as BadRegister}
-use Rattle.bpf_model.specs.Reading.{form_of, first_fault, has_right_fields, has_right_registers, half_wide, is_wide}
+use Rattle.bpf_model.specs.Reading.{form_of, first_fault, has_valid_fields, has_valid_registers, half_wide, is_wide}
 use Rattle.bpf_decode.specs.Making.{IsInstruction, AreUnits}
 use Rattle.bpf_asm.specs.declared.AsmFault.{AsmFault}
 use Rattle.bpf_asm.specs.declared.AsmFault.TheVariants.{BadLine, BadLabel, OutOfRange, Length, OutOfMemory}
@@ -40,23 +40,23 @@ use Rattle.bpf_asm.specs.Lex.{Text}
 use Rattle.bpf_asm.specs.Program.{Row, row_of, with_row, rows_of, fits_size, fits, target_fits, statement_fits, line_fits, row_fault, or_fault}
 use Rattle.bpf_asm.specs.Program.{first_line_fault, source_bit, operator_code, condition_code, size_code, arithmetic_class, jump_class, opcode_of, signed}
 use Rattle.bpf_asm.specs.Program.{size_or_zero, int_of, inst_of, low_half, high_half, line_len_of, units_in, Definition, defining, labels_from, place_found}
-use Rattle.bpf_asm.specs.Program.{place_of, jump_inst, statement_units, line_units, units_from, spelled, AreRight, AreWithin, length_fault, label_fault}
+use Rattle.bpf_asm.specs.Program.{place_of, jump_inst, statement_units, line_units, units_from, spelled, AreInRange, AreWithin, length_fault, label_fault}
 use Rattle.bpf_asm.specs.Program.{rows_fault, fault_of, assembled_with, assembled, cut, IsFault}
-use Rattle.bpf_asm.specs.Sound.{IsOf, IsSoundForm, IsJump, IsSound, AreSound}
+use Rattle.bpf_asm.specs.Sound.{IsNarrowForm, IsSoundForm, IsJump, IsSound, AreSound}
 
 -- ---- rows in range
 
-by_fits : (n : ℕ) (r : Row) (rows : List Row) (b : Bool) → line_fits r.says ≡ b → (rest : Option AsmFault) → or_fault (cond b None (Some (OutOfRange n))) rest
-    ≡ None → (rest ≡ None → AreRight rows) → AreRight (r ∷ rows)
+by_fits : (n : ℕ) (r : Row) (rows : List Row) (b : Bool) → line_fits r.parsed ≡ b → (rest : Option AsmFault) → or_fault (cond b None (Some (OutOfRange n))) rest
+    ≡ None → (rest ≡ None → AreInRange rows) → AreInRange (r ∷ rows)
 by_fits n r rows true fits rest e more = (fits, more e)
 by_fits n r rows false fits rest e more = absurd (cc)
 
-by_row : (n : ℕ) (o : Option Row) (rows : List Row) (rest : Option AsmFault) → or_fault (row_fault n o) rest ≡ None → (rest ≡ None → AreRight rows)
-    → AreRight (with_row o rows)
+by_row : (n : ℕ) (o : Option Row) (rows : List Row) (rest : Option AsmFault) → or_fault (row_fault n o) rest ≡ None → (rest ≡ None → AreInRange rows)
+    → AreInRange (with_row o rows)
 by_row n None rows rest e more = absurd (cc)
-by_row n (Some r) rows rest e more = by_fits n r rows (line_fits r.says) refl rest e more
+by_row n (Some r) rows rest e more = by_fits n r rows (line_fits r.parsed) refl rest e more
 
-pub rows_right : (n : ℕ) (lines : List Text) → first_line_fault n lines ≡ None → AreRight (rows_of lines)
+pub rows_right : (n : ℕ) (lines : List Text) → first_line_fault n lines ≡ None → AreInRange (rows_of lines)
 rows_right n [] e = tt
 rows_right n (text ∷ lines) e = by_row n (row_of text) (rows_of lines) (first_line_fault (n + 1) lines) e (rows_right (n + 1) lines)
 
@@ -66,7 +66,7 @@ found_by : (b : Bool) (place n : ℕ) (o : Option ℕ) → place ≤ n → size_
 found_by true place n o g h = g
 found_by false place n o g h = h
 
-defining_within : (says : Line) (label : Text) (at n : ℕ) (more : List Definition) → at ≤ n → AreWithin n more → AreWithin n (defining says label at more)
+defining_within : (parsed : Line) (label : Text) (at n : ℕ) (more : List Definition) → at ≤ n → AreWithin n more → AreWithin n (defining parsed label at more)
 defining_within line.Label label at n more g h = λ name. found_by (bytes_eq label name) at n (place_found more name) g (h name)
 defining_within line.Empty label at n more g h = h
 defining_within (line.Statement s) label at n more g h = h
@@ -74,8 +74,8 @@ defining_within (line.Statement s) label at n more g h = h
 labels_within : (at n : ℕ) (rows : List Row) → at + units_in rows ≤ n → AreWithin n (labels_from at rows)
 labels_within at n [] h = λ name. omega arith
 labels_within at n (r ∷ rows) h =
-    defining_within r.says r.label at n (labels_from (at + line_len_of r.says) rows) (omega arith)
-    (labels_within (at + line_len_of r.says) n rows (omega arith))
+    defining_within r.parsed r.label at n (labels_from (at + line_len_of r.parsed) rows) (omega arith)
+    (labels_within (at + line_len_of r.parsed) n rows (omega arith))
 
 pub places_within : (rows : List Row) → units_in rows ≤ 512 → AreWithin 512 (labels_from 0 rows)
 places_within rows h = labels_within 0 512 rows (omega arith)
@@ -163,7 +163,7 @@ passes false b o e f g = absurd (cc)
 register_small : (n : ℕ) → nat_le n 10 ≡ true → n < 16
 register_small n h = let l : n ≤ 10 = grind (arith, nat_tests) in omega arith
 
-is_instruction : (f : Form) (i : Inst) → i.opcode ≡ opcode_of f → IsOf f i.dst i.src → has_right_fields f i ≡ true → has_right_registers f i ≡ true
+is_instruction : (f : Form) (i : Inst) → i.opcode ≡ opcode_of f → IsNarrowForm f i.dst i.src → has_valid_fields f i ≡ true → has_valid_registers f i ≡ true
     → FitsSigned w16 i.offset → FitsSigned w32 i.imm → IsInstruction i
 is_instruction f i op h fields registers offset imm =
     record {
@@ -173,7 +173,7 @@ is_instruction f i op h fields registers offset imm =
       offset = offset;
       imm = imm;
       sound = ap (λ o. first_fault (form_of o) i false) op ∙ ap (λ o. first_fault o i false) h.form_is
-          ∙ passes (has_right_fields f i) (has_right_registers f i) (half_wide f false) fields registers (not_half f);
+          ∙ passes (has_valid_fields f i) (has_valid_registers f i) (half_wide f false) fields registers (not_half f);
     }
 
 -- ---- numbers in range
@@ -213,7 +213,7 @@ plain_units f p rest h offset imm more = (
   subst (λ b. AreUnits (not b) rest) (sym (ap is_wide h.is_of.form_is ∙ h.is_of.narrow)) more,
 )
 
-jump_is : (f : Form) (p : Fields) (z : ℤ) → IsOf f p.dst p.src → IsOf f (jump_inst f p z).dst (jump_inst f p z).src
+jump_is : (f : Form) (p : Fields) (z : ℤ) → IsNarrowForm f p.dst p.src → IsNarrowForm f (jump_inst f p z).dst (jump_inst f p z).src
 jump_is form.Ja32 p z h = h
 jump_is (form.Arithmetic op w s) p z h = h
 jump_is form.Wide p z h = h
@@ -308,19 +308,20 @@ module _ (labels : List Definition) (within : AreWithin 512 labels) where
       (long_fits p.imm (and_left (fits (2 ^ 31) p.imm) (target_fits f (Distance v)) fit)) in
       jump_units f p (int_of v) rest h r.0 r.1 more
 
-  line_is : (at : ℕ) (name : Text) (says : Line) (rest : List ProgramUnit) → at ≤ 512 → line_fits says ≡ true → IsSound says → AreUnits true rest
-      → AreUnits true (line_units labels at name says ++ rest)
+  line_is : (at : ℕ) (name : Text) (parsed : Line) (rest : List ProgramUnit) → at ≤ 512 → line_fits parsed ≡ true → IsSound parsed → AreUnits true rest
+      → AreUnits true (line_units labels at name parsed ++ rest)
   line_is at name line.Empty rest l fit h more = more
   line_is at name line.Label rest l fit h more = more
   line_is at name (line.Statement s) rest l fit h more = statement_is at name s rest l fit h more
 
-  units_are : (at : ℕ) (rows : List Row) → at + units_in rows ≤ 512 → AreRight rows → AreSound rows → AreUnits true (units_from labels at rows)
+  units_are : (at : ℕ) (rows : List Row) → at + units_in rows ≤ 512 → AreInRange rows → AreSound rows → AreUnits true (units_from labels at rows)
   units_are at [] l fit h = tt
-  units_are at (r ∷ rows) l fit h = line_is at r.label r.says (units_from labels (at + line_len_of r.says) rows) (omega arith) fit.0 h.0
-      (units_are (at + line_len_of r.says) rows (omega arith) fit.1 h.1)
+  units_are at (r ∷ rows) l fit h = line_is at r.label r.parsed (units_from labels (at + line_len_of r.parsed) rows) (omega arith) fit.0 h.0
+      (units_are (at + line_len_of r.parsed) rows (omega arith) fit.1 h.1)
 
--- rows in range, of at most 512 units, give instructions without a fault, each wide load with its second unit
-pub spelled_units : (rows : List Row) → units_in rows ≤ 512 → AreRight rows → AreSound rows → AreUnits true (spelled rows)
+-- the units of sound rows whose numbers are in range, if they are at most 512, are instructions without a fault, each
+-- wide load with its second unit
+pub spelled_units : (rows : List Row) → units_in rows ≤ 512 → AreInRange rows → AreSound rows → AreUnits true (spelled rows)
 spelled_units rows l fit h = units_are (labels_from 0 rows) (places_within rows l) 0 rows (omega arith) fit h
 
 statement_length : (labels : List Definition) (at : ℕ) (name : Text) (s : Statement) (rest : List ProgramUnit)
@@ -329,16 +330,16 @@ statement_length labels at name (Plain f p) rest = omega arith
 statement_length labels at name (Wide dst n) rest = omega arith
 statement_length labels at name (Jump f p t) rest = omega arith
 
-line_length : (labels : List Definition) (at : ℕ) (name : Text) (says : Line) (rest : List ProgramUnit) → length (line_units labels at name says ++ rest)
-    ≡ line_len_of says + length rest
+line_length : (labels : List Definition) (at : ℕ) (name : Text) (parsed : Line) (rest : List ProgramUnit) → length (line_units labels at name parsed ++ rest)
+    ≡ line_len_of parsed + length rest
 line_length labels at name line.Empty rest = omega arith
 line_length labels at name line.Label rest = omega arith
 line_length labels at name (line.Statement s) rest = statement_length labels at name s rest
 
 pub units_length : (labels : List Definition) (at : ℕ) (rows : List Row) → length (units_from labels at rows) ≡ units_in rows
 units_length labels at [] = refl
-units_length labels at (r ∷ rows) = line_length labels at r.label r.says (units_from labels (at + line_len_of r.says) rows) ∙ ap
-    (λ n. line_len_of r.says + n) (units_length labels (at + line_len_of r.says) rows)
+units_length labels at (r ∷ rows) = line_length labels at r.label r.parsed (units_from labels (at + line_len_of r.parsed) rows) ∙ ap
+    (λ n. line_len_of r.parsed + n) (units_length labels (at + line_len_of r.parsed) rows)
 
 -- ---- faults
 
@@ -352,45 +353,12 @@ is_fault OutOfMemory = tt
 pub fault_is : (o : Option AsmFault) (f : AsmFault) → o ≡ Some f → IsFault o f
 fault_is o f e = subst (λ p. IsFault p f) (sym e) (is_fault f)
 
--- if f is the fault that the first check finds, then it is the fault of both checks together
-pub line_refused : (o r : Option AsmFault) (f : AsmFault) → IsFault o f → IsFault (or_fault o r) f
-line_refused o r (BadLine n) h = ap (λ p. or_fault p r) h
-line_refused o r (BadLabel n) h = ap (λ p. or_fault p r) h
-line_refused o r (OutOfRange n) h = ap (λ p. or_fault p r) h
-line_refused o r Length h = ap (λ p. or_fault p r) h
-line_refused o r OutOfMemory h = tt
-
-pub text_refused : (text : Text) (lines : List Text) (f : AsmFault) → lines ≡ cut text → IsFault (first_line_fault 1 lines) f → IsFault (fault_of (cut text)) f
-text_refused text lines f e h = subst (λ l. IsFault (fault_of l) f) e (line_refused (first_line_fault 1 lines) (rows_fault (rows_of lines)) f h)
-
-pub rows_refused : (text : Text) (lines : List Text) (rows : List Row) (f : AsmFault) → lines ≡ cut text → rows ≡ rows_of lines
-    → first_line_fault 1 lines ≡ None → IsFault (rows_fault rows) f → IsFault (fault_of (cut text)) f
-rows_refused text lines rows f e r none h =
-    subst (λ l. IsFault (fault_of l) f) e
-    (subst (λ o. IsFault o f) (sym (ap (λ o. or_fault o (rows_fault (rows_of lines))) none)) (subst (λ x. IsFault (rows_fault x) f) r h))
-
-spelled_lines : (lines : List Text) (rows : List Row) (code : List ProgramUnit) → rows ≡ rows_of lines → first_line_fault 1 lines ≡ None
-    → rows_fault rows ≡ None → code ≡ spelled rows → assembled_with lines (fault_of lines) ≡ Ok code
-spelled_lines lines rows code r none sound is =
-    ap (assembled_with lines) (ap (λ o. or_fault o (rows_fault (rows_of lines))) none ∙ ap rows_fault (sym r) ∙ sound)
-    ∙ ap (λ x. Ok (spelled x)) (sym r) ∙ ap Ok (sym is)
-
-pub text_spells : (text : Text) (lines : List Text) (rows : List Row) (code : List ProgramUnit) → lines ≡ cut text → rows ≡ rows_of lines
-    → first_line_fault 1 lines ≡ None → rows_fault rows ≡ None → code ≡ spelled rows → assembled text ≡ Ok code
-text_spells text lines rows code e r none sound is = subst (λ l. assembled_with l (fault_of l) ≡ Ok code) e (spelled_lines lines rows code r none sound is)
-
 length_by : (rows : List Row) (n : ℕ) (b : Bool) → n ≡ units_in rows → b ≡ (nat_le 1 n && nat_le n 512)
     → length_fault (units_in rows) ≡ cond b None (Some Length)
 length_by rows n b e f = ap (λ x. cond x None (Some Length)) (ap (λ m. nat_le 1 m && nat_le m 512) (sym e) ∙ sym f)
 
 pub wrong_length : (rows : List Row) (n : ℕ) (b : Bool) → n ≡ units_in rows → b ≡ (nat_le 1 n && nat_le n 512) → b ≡ false → rows_fault rows ≡ Some Length
 wrong_length rows n b e f g = ap (λ o. or_fault o (label_fault (labels_from 0 rows) 1 [] rows)) (length_by rows n b e f ∙ ap (λ x. cond x None (Some Length)) g)
-
-pub label_wrong : (rows : List Row) (n : ℕ) (b : Bool) (labels : List Definition) (found : Option AsmFault) → n ≡ units_in rows
-    → b ≡ (nat_le 1 n && nat_le n 512) → b ≡ true → labels ≡ labels_from 0 rows → found ≡ label_fault labels 1 [] rows → rows_fault rows ≡ found
-label_wrong rows n b labels found e f g l h =
-    ap (λ o. or_fault o (label_fault (labels_from 0 rows) 1 [] rows)) (length_by rows n b e f ∙ ap (λ x. cond x None (Some Length)) g)
-    ∙ ap (λ x. label_fault x 1 [] rows) (sym l) ∙ sym h
 
 pub right_count : (rows : List Row) (n : ℕ) (b : Bool) → n ≡ units_in rows → b ≡ (nat_le 1 n && nat_le n 512) → b ≡ true
     → (0 < units_in rows) × (units_in rows ≤ 512)

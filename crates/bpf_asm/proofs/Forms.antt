@@ -37,12 +37,12 @@ use Rattle.bpf_asm.specs.Lex.{Text, token_len, continues_word, kind_of}
 use Rattle.bpf_asm.specs.Grammar.{Tokens, plus, minus, exactly, fields, plain, line_of, is_same, when, statement, no_fields, first_some, operand, swap, extend}
 use Rattle.bpf_asm.specs.Grammar.{extension, guarded, load_form, load_with}
 use Rattle.bpf_asm.specs.Text.{Piece, Next, After, token_of, register_text, operator_text, condition_text, size_text, signed_size_text, number, distance, shift}
-use Rattle.bpf_asm.specs.Text.{place, swap_text, upper}
+use Rattle.bpf_asm.specs.Text.{place, swap_text, wide_value}
 use Rattle.bpf_asm.specs.Program.{fits, inst_of, int_of, low_half, high_half}
 use Rattle.bpf_asm.proofs.Again.{stops, body, IsFront, lit, number_front, register_front, decimal_digits, digits_continue, prefix_front, digit_code}
 use Rattle.bpf_asm.proofs.Again.{number_kind, register_by, minus_token, plus_token}
 use Rattle.bpf_asm.proofs.LineText.{clean, clean_append, decimal_clean, AreGood}
-use Rattle.bpf_asm.proofs.ReadBack.{SaysOf}
+use Rattle.bpf_asm.proofs.ReadBack.{ParsesAs}
 
 -- ---- numbers
 
@@ -125,8 +125,8 @@ register_kind Bits32 n l = narrow_by n (up_to_ten n l)
 
 -- ---- operators and conditions
 
--- before a blank, the text t is split off as one token, which is k; t is also clean, so it neither ends a line nor
--- begins a comment
+-- With a blank after it, the text t is split off as one token, and this token is k. The text is clean: it neither ends
+-- a line nor begins a comment.
 pub record IsWritten (t : Text) (k : Token) : Type 0 where
   pub front : (u : Text) → IsFront t (32 ∷ u)
   pub plain_text : clean t ≡ true
@@ -223,11 +223,11 @@ short_number n l = grind (arith, nat_tests)
 pub number_line : (op : Operator) (n : ℕ) (w : Width) (d : ℕ) (z high : ℤ) → IsWritten (operator_text op (pos n)) (Assign op n) → n ≤ 32 → d ≤ 10
     → FitsSigned w32 z → statement (Register w d ∷ Assign op n ∷ number_tokens z [])
     ≡ Some (Plain (form.Arithmetic op w source.Immediate) (fields d 0 (exactly n) (value_of z)))
-    → SaysOf (Next (register_text w d) ∷ After (operator_text op (pos n)) ∷ number z []) false (inst_of (form.Arithmetic op w source.Immediate) d 0 (pos n) z)
+    → ParsesAs (Next (register_text w d) ∷ After (operator_text op (pos n)) ∷ number z []) false (inst_of (form.Arithmetic op w source.Immediate) d 0 (pos n) z)
     high
 number_line op n w d (pos k) high o small l h m =
     record {
-      says = Plain (form.Arithmetic op w source.Immediate) (fields d 0 (exactly n) (value_of (pos k)));
+      parsed = Plain (form.Arithmetic op w source.Immediate) (fields d 0 (exactly n) (value_of (pos k)));
       good = (register_good w d _ l refl, register_clean w d l, (o.front _, o.plain_text, number_good (pos k) [] h tt tt));
       means = line_by _ (Register w d ∷ Assign op n ∷ number_tokens (pos k) []) _
           (λ j. register_kind w d l j ∷ o.kind j ∷ number_kinds (pos k) [] h j) (ap (option_map line.Statement) m);
@@ -238,7 +238,7 @@ number_line op n w d (pos k) high o small l h m =
     }
 number_line op n w d (negsuc k) high o small l h m =
     record {
-      says = Plain (form.Arithmetic op w source.Immediate) (fields d 0 (exactly n) (value_of (negsuc k)));
+      parsed = Plain (form.Arithmetic op w source.Immediate) (fields d 0 (exactly n) (value_of (negsuc k)));
       good = (register_good w d _ l refl, register_clean w d l, (o.front _, o.plain_text, number_good (negsuc k) [] h tt tt));
       means = line_by _ (Register w d ∷ Assign op n ∷ number_tokens (negsuc k) []) _ (λ j. register_kind w d l j ∷ o.kind j ∷ number_kinds (negsuc k) [] h j)
           (ap (option_map line.Statement) m);
@@ -250,11 +250,11 @@ number_line op n w d (negsuc k) high o small l h m =
 
 pub register_line : (op : Operator) (n : ℕ) (w : Width) (d s : ℕ) (high : ℤ) → IsWritten (operator_text op (pos n)) (Assign op n) → n ≤ 32 → d ≤ 10 → s ≤ 10
     → statement (Register w d ∷ Assign op n ∷ Register w s ∷ []) ≡ Some (Plain (form.Arithmetic op w source.Register) (fields d s (exactly n) (exactly 0)))
-    → SaysOf (Next (register_text w d) ∷ After (operator_text op (pos n)) ∷ After (register_text w s) ∷ []) false
+    → ParsesAs (Next (register_text w d) ∷ After (operator_text op (pos n)) ∷ After (register_text w s) ∷ []) false
     (inst_of (form.Arithmetic op w source.Register) d s (pos n) (pos 0)) high
 register_line op n w d s high o small l r m =
     record {
-      says = Plain (form.Arithmetic op w source.Register) (fields d s (exactly n) (exactly 0));
+      parsed = Plain (form.Arithmetic op w source.Register) (fields d s (exactly n) (exactly 0));
       good = (register_good w d _ l refl, register_clean w d l, (o.front _, o.plain_text, (register_good w s [] r tt, register_clean w s r, tt)));
       means = line_by _ (Register w d ∷ Assign op n ∷ Register w s ∷ []) _
           (λ j. register_kind w d l j ∷ o.kind j ∷ register_kind w s r j ∷ []) (ap (option_map line.Statement) m);
@@ -345,11 +345,11 @@ minus_register Bits64 n u = lit (codes "-") (register_text Bits64 n ++ u) (omega
 minus_register Bits32 n u = lit (codes "-") (register_text Bits32 n ++ u) (omega arith) refl refl
 
 pub negation_line : (w : Width) (d : ℕ) (high : ℤ) → d ≤ 10
-    → SaysOf (Next (register_text w d) ∷ After (codes "=") ∷ After (codes "-") ∷ Next (register_text w d) ∷ []) false
+    → ParsesAs (Next (register_text w d) ∷ After (codes "=") ∷ After (codes "-") ∷ Next (register_text w d) ∷ []) false
     (inst_of (form.Arithmetic operator.Neg w source.Immediate) d 0 (pos 0) (pos 0)) high
 negation_line w d high l =
     record {
-      says = Plain (form.Arithmetic operator.Neg w source.Immediate) (fields d 0 (exactly 0) (exactly 0));
+      parsed = Plain (form.Arithmetic operator.Neg w source.Immediate) (fields d 0 (exactly 0) (exactly 0));
       good = (
         register_good w d _ l refl,
         register_clean w d l,
@@ -419,11 +419,11 @@ pub low_bits : (n : ℕ) → n ≤ 64 → fits (2 ^ 31) (exactly n) ≡ true
 low_bits n l = grind (arith, nat_tests)
 
 pub swap_line : (w : Width) (s : Source) (bits d : ℕ) (high : ℤ) → IsWritten (swap_text w s (pos bits)) (Swap w s bits) → bits ≤ 64 → d ≤ 10
-    → SaysOf (Next (register_text Bits64 d) ∷ After (codes "=") ∷ After (swap_text w s (pos bits)) ∷ After (register_text Bits64 d) ∷ []) false
+    → ParsesAs (Next (register_text Bits64 d) ∷ After (codes "=") ∷ After (swap_text w s (pos bits)) ∷ After (register_text Bits64 d) ∷ []) false
     (inst_of (form.Arithmetic operator.SwapBytes w s) d 0 (pos 0) (pos bits)) high
 swap_line w s bits d high o few l =
     record {
-      says = Plain (form.Arithmetic operator.SwapBytes w s) (fields d 0 (exactly 0) (exactly bits));
+      parsed = Plain (form.Arithmetic operator.SwapBytes w s) (fields d 0 (exactly 0) (exactly bits));
       good = (
         register_good Bits64 d _ l refl,
         register_clean Bits64 d l,
@@ -443,11 +443,11 @@ swap_line w s bits d high o few l =
 
 pub extension8_line : (w : Width) (d s : ℕ) (high : ℤ)
     → extend w d s (extension w Byte) ≡ Some (plain (form.Arithmetic operator.Mov w source.Register) d s (exactly 8) (exactly 0)) → d ≤ 10 → s ≤ 10
-    → SaysOf (Next (register_text w d) ∷ After (codes "=") ∷ After (codes "(") ∷ Next (codes "s8") ∷ Next (codes ")") ∷ Next (register_text w s) ∷ []) false
+    → ParsesAs (Next (register_text w d) ∷ After (codes "=") ∷ After (codes "(") ∷ Next (codes "s8") ∷ Next (codes ")") ∷ Next (register_text w s) ∷ []) false
     (inst_of (form.Arithmetic operator.Mov w source.Register) d s (pos 8) (pos 0)) high
 extension8_line w d s high e l r =
     record {
-      says = Plain (form.Arithmetic operator.Mov w source.Register) (fields d s (exactly 8) (exactly 0));
+      parsed = Plain (form.Arithmetic operator.Mov w source.Register) (fields d s (exactly 8) (exactly 0));
       good = (
         register_good w d _ l refl,
         register_clean w d l,
@@ -478,11 +478,11 @@ extension8_line w d s high e l r =
 
 pub extension16_line : (w : Width) (d s : ℕ) (high : ℤ)
     → extend w d s (extension w Half) ≡ Some (plain (form.Arithmetic operator.Mov w source.Register) d s (exactly 16) (exactly 0)) → d ≤ 10 → s ≤ 10
-    → SaysOf (Next (register_text w d) ∷ After (codes "=") ∷ After (codes "(") ∷ Next (codes "s16") ∷ Next (codes ")") ∷ Next (register_text w s) ∷ []) false
+    → ParsesAs (Next (register_text w d) ∷ After (codes "=") ∷ After (codes "(") ∷ Next (codes "s16") ∷ Next (codes ")") ∷ Next (register_text w s) ∷ []) false
     (inst_of (form.Arithmetic operator.Mov w source.Register) d s (pos 16) (pos 0)) high
 extension16_line w d s high e l r =
     record {
-      says = Plain (form.Arithmetic operator.Mov w source.Register) (fields d s (exactly 16) (exactly 0));
+      parsed = Plain (form.Arithmetic operator.Mov w source.Register) (fields d s (exactly 16) (exactly 0));
       good = (
         register_good w d _ l refl,
         register_clean w d l,
@@ -513,11 +513,11 @@ extension16_line w d s high e l r =
 
 pub extension32_line : (w : Width) (d s : ℕ) (high : ℤ)
     → extend w d s (extension w Word) ≡ Some (plain (form.Arithmetic operator.Mov w source.Register) d s (exactly 32) (exactly 0)) → d ≤ 10 → s ≤ 10
-    → SaysOf (Next (register_text w d) ∷ After (codes "=") ∷ After (codes "(") ∷ Next (codes "s32") ∷ Next (codes ")") ∷ Next (register_text w s) ∷ []) false
+    → ParsesAs (Next (register_text w d) ∷ After (codes "=") ∷ After (codes "(") ∷ Next (codes "s32") ∷ Next (codes ")") ∷ Next (register_text w s) ∷ []) false
     (inst_of (form.Arithmetic operator.Mov w source.Register) d s (pos 32) (pos 0)) high
 extension32_line w d s high e l r =
     record {
-      says = Plain (form.Arithmetic operator.Mov w source.Register) (fields d s (exactly 32) (exactly 0));
+      parsed = Plain (form.Arithmetic operator.Mov w source.Register) (fields d s (exactly 32) (exactly 0));
       good = (
         register_good w d _ l refl,
         register_clean w d l,
@@ -558,31 +558,31 @@ pub unsigned_small : (z : ℤ) → FitsSigned w32 z → cast_unsigned w32 z < 2 
 unsigned_small z h = let f = Fits-of_z {w = w32} {z = z} h in omega (arith, f)
 
 pub wide_line : (d : ℕ) (imm high : ℤ) → FitsSigned w32 imm → FitsSigned w32 high → d ≤ 10
-    → SaysOf (Next (register_text Bits64 d) ∷ After (codes "=") ∷ After (decimal (upper imm high)) ∷ After (codes "ll") ∷ []) true
+    → ParsesAs (Next (register_text Bits64 d) ∷ After (codes "=") ∷ After (decimal (wide_value imm high)) ∷ After (codes "ll") ∷ []) true
     (inst_of form.Wide d 0 (pos 0) imm) high
 wide_line d imm high f g l =
     let a = cast_unsigned w32 imm in
     let b = cast_unsigned w32 high in
-    let small : upper imm high < 2 ^ 64 = let x = unsigned_small imm f in let y = unsigned_small high g in omega arith in
-    let low : low_half (upper imm high) ≡ imm = ap (cast_signed w32) (wide_low a b (unsigned_small imm f)) ∙ to_z-of_z w32 imm f in
-    let top : high_half (upper imm high) ≡ high = ap (cast_signed w32) (wide_high a b (unsigned_small imm f) (unsigned_small high g)) ∙ to_z-of_z w32 high g in
+    let small : wide_value imm high < 2 ^ 64 = let x = unsigned_small imm f in let y = unsigned_small high g in omega arith in
+    let low : low_half (wide_value imm high) ≡ imm = ap (cast_signed w32) (wide_low a b (unsigned_small imm f)) ∙ to_z-of_z w32 imm f in
+    let top : high_half (wide_value imm high) ≡ high = ap (cast_signed w32) (wide_high a b (unsigned_small imm f) (unsigned_small high g)) ∙ to_z-of_z w32 high g in
     record {
-      says = Wide d (Some (upper imm high));
+      parsed = Wide d (Some (wide_value imm high));
       good = (
         register_good Bits64 d _ l refl,
         register_clean Bits64 d l,
         (
           move_written.front _,
           refl,
-          (number_front (upper imm high) _ small refl, decimal_clean (upper imm high) small, (lit (codes "ll") [] (omega arith) refl refl, refl, tt)),
+          (number_front (wide_value imm high) _ small refl, decimal_clean (wide_value imm high) small, (lit (codes "ll") [] (omega arith) refl refl, refl, tt)),
         ),
       );
-      means = line_by _ (Register Bits64 d ∷ Assign operator.Mov 0 ∷ Number (Some (upper imm high)) ∷ Long ∷ []) _
-          (λ j. register_kind Bits64 d l j ∷ Assign operator.Mov 0 ∷ number_kind (upper imm high) small j ∷ Long ∷ []) refl;
+      means = line_by _ (Register Bits64 d ∷ Assign operator.Mov 0 ∷ Number (Some (wide_value imm high)) ∷ Long ∷ []) _
+          (λ j. register_kind Bits64 d l j ∷ Assign operator.Mov 0 ∷ number_kind (wide_value imm high) small j ∷ Long ∷ []) refl;
       fits = refl;
       no_label = refl;
       len = refl;
-      units = λ ls at name. ap (λ z. First (inst_of form.Wide d 0 (pos 0) z) ∷ Second (high_half (upper imm high)) ∷ []) low ∙ ap
+      units = λ ls at name. ap (λ z. First (inst_of form.Wide d 0 (pos 0) z) ∷ Second (high_half (wide_value imm high)) ∷ []) low ∙ ap
           (λ z. First (inst_of form.Wide d 0 (pos 0) imm) ∷ Second z ∷ []) top;
     }
 
@@ -612,7 +612,8 @@ pub shift_stops : (z : ℤ) (ps : List Piece) → stops continues_word (body (sh
 shift_stops (pos n) ps = refl
 shift_stops (negsuc n) ps = refl
 
--- the text t of a SIZE is split off as one token between `(` and a blank, and its token is k
+-- The text t of a SIZE, between `(` and a blank, is split off as one token, and this token is k. The text is clean: it
+-- neither ends a line nor begins a comment.
 pub record IsSize (t : Text) (k : Token) : Type 0 where
   pub front : (u : Text) → IsFront t (32 ∷ u)
   pub open_front : (u : Text) → IsFront (codes "(") (t ++ u)
@@ -702,10 +703,10 @@ load_means f k d b (pos n) e = ap (λ o. option_map line.Statement (first_some (
 load_means f k d b (negsuc n) e = ap (λ o. option_map line.Statement (first_some (load_with d o (Some (b, minus (Some (suc n)), []))) None)) e
 
 pub load_line : (f : Form) (t : Text) (k : Token) (d b : ℕ) (z high : ℤ) → IsSize t k → load_form k ≡ Some f → is_wide (Some f) ≡ false → d ≤ 10 → b ≤ 10
-    → FitsSigned w16 z → SaysOf (Next (register_text Bits64 d) ∷ After (codes "=") ∷ After (codes "*") ∷ place t b z []) false (inst_of f d b z (pos 0)) high
+    → FitsSigned w16 z → ParsesAs (Next (register_text Bits64 d) ∷ After (codes "=") ∷ After (codes "*") ∷ place t b z []) false (inst_of f d b z (pos 0)) high
 load_line f t k d b z high o e narrow l r h =
     record {
-      says = Plain f (fields d b (value_of z) (exactly 0));
+      parsed = Plain f (fields d b (value_of z) (exactly 0));
       good = (
         register_good Bits64 d _ l refl,
         register_clean Bits64 d l,
@@ -744,11 +745,11 @@ equals_number (pos n) = move_written.front _
 equals_number (negsuc n) = move_written.front _
 
 pub register_store_line : (n : Size) (b s : ℕ) (z high : ℤ) → b ≤ 10 → s ≤ 10 → FitsSigned w16 z
-    → SaysOf (Next (codes "*") ∷ place (size_text n) b z (After (codes "=") ∷ After (register_text Bits64 s) ∷ [])) false
+    → ParsesAs (Next (codes "*") ∷ place (size_text n) b z (After (codes "=") ∷ After (register_text Bits64 s) ∷ [])) false
     (inst_of (form.StoreRegister n) b s z (pos 0)) high
 register_store_line n b s z high l r h =
     record {
-      says = Plain (form.StoreRegister n) (fields b s (value_of z) (exactly 0));
+      parsed = Plain (form.StoreRegister n) (fields b s (value_of z) (exactly 0));
       good = (
         lit (codes "*") _ (omega arith) refl refl,
         refl,
@@ -768,10 +769,10 @@ register_store_line n b s z high l r h =
     }
 
 pub number_store_line : (n : Size) (b : ℕ) (z v high : ℤ) → b ≤ 10 → FitsSigned w16 z → FitsSigned w32 v
-    → SaysOf (Next (codes "*") ∷ place (size_text n) b z (After (codes "=") ∷ number v [])) false (inst_of (form.StoreImmediate n) b 0 z v) high
+    → ParsesAs (Next (codes "*") ∷ place (size_text n) b z (After (codes "=") ∷ number v [])) false (inst_of (form.StoreImmediate n) b 0 z v) high
 number_store_line n b z v high l h g =
     record {
-      says = Plain (form.StoreImmediate n) (fields b 0 (value_of z) (value_of v));
+      parsed = Plain (form.StoreImmediate n) (fields b 0 (value_of z) (value_of v));
       good = (
         lit (codes "*") _ (omega arith) refl refl,
         refl,
@@ -842,10 +843,10 @@ pub gotol_means : (z : ℤ) → line_of (GotoLong ∷ sign_tokens z []) ≡ Some
 gotol_means (pos n) = refl
 gotol_means (negsuc n) = refl
 
-pub goto_line : (z high : ℤ) → FitsSigned w16 z → SaysOf (Next (codes "goto") ∷ distance z []) false (inst_of form.Ja 0 0 z (pos 0)) high
+pub goto_line : (z high : ℤ) → FitsSigned w16 z → ParsesAs (Next (codes "goto") ∷ distance z []) false (inst_of form.Ja 0 0 z (pos 0)) high
 goto_line z high h =
     record {
-      says = Jump form.Ja no_fields (Distance (value_of z));
+      parsed = Jump form.Ja no_fields (Distance (value_of z));
       good = (before_distance (codes "goto") Goto z goto_written, refl, distance_good z (wider z h));
       means = line_by _ (Goto ∷ sign_tokens z []) _ (ap (λ l. Goto ∷ l) (distance_kinds z (wider z h))) (goto_means z);
       fits = in_range16 z h;
@@ -854,10 +855,10 @@ goto_line z high h =
       units = λ ls at name. ap (λ x. First (inst_of form.Ja 0 0 x (pos 0)) ∷ []) (int_back z);
     }
 
-pub gotol_line : (z high : ℤ) → FitsSigned w32 z → SaysOf (Next (codes "gotol") ∷ distance z []) false (inst_of form.Ja32 0 0 (pos 0) z) high
+pub gotol_line : (z high : ℤ) → FitsSigned w32 z → ParsesAs (Next (codes "gotol") ∷ distance z []) false (inst_of form.Ja32 0 0 (pos 0) z) high
 gotol_line z high h =
     record {
-      says = Jump form.Ja32 no_fields (Distance (value_of z));
+      parsed = Jump form.Ja32 no_fields (Distance (value_of z));
       good = (before_distance (codes "gotol") GotoLong z gotol_written, refl, distance_good z h);
       means = line_by _ (GotoLong ∷ sign_tokens z []) _ (ap (λ l. GotoLong ∷ l) (distance_kinds z h)) (gotol_means z);
       fits = in_range32 z h;
@@ -883,12 +884,12 @@ branch_number_means c w d (negsuc m) (pos n) = refl
 branch_number_means c w d (negsuc m) (negsuc n) = refl
 
 pub branch_register_line : (c : Condition) (w : Width) (d s : ℕ) (z high : ℤ) → d ≤ 10 → s ≤ 10 → FitsSigned w16 z
-    → SaysOf (Next (codes "if") ∷ After (register_text w d) ∷ After (condition_text c) ∷ After (register_text w s) ∷ After (codes "goto") ∷ distance z []) false
+    → ParsesAs (Next (codes "if") ∷ After (register_text w d) ∷ After (condition_text c) ∷ After (register_text w s) ∷ After (codes "goto") ∷ distance z []) false
     (inst_of (form.Branch c w source.Register) d s z (pos 0)) high
 branch_register_line c w d s z high l r h =
     let o = condition_written c in
     record {
-      says = Jump (form.Branch c w source.Register) (fields d s (exactly 0) (exactly 0)) (Distance (value_of z));
+      parsed = Jump (form.Branch c w source.Register) (fields d s (exactly 0) (exactly 0)) (Distance (value_of z));
       good = (
         lit (codes "if") _ (omega arith) refl refl,
         refl,
@@ -911,12 +912,12 @@ branch_register_line c w d s z high l r h =
     }
 
 pub branch_number_line : (c : Condition) (w : Width) (d : ℕ) (v z high : ℤ) → d ≤ 10 → FitsSigned w32 v → FitsSigned w16 z
-    → SaysOf (Next (codes "if") ∷ After (register_text w d) ∷ After (condition_text c) ∷ number v (After (codes "goto") ∷ distance z [])) false
+    → ParsesAs (Next (codes "if") ∷ After (register_text w d) ∷ After (condition_text c) ∷ number v (After (codes "goto") ∷ distance z [])) false
     (inst_of (form.Branch c w source.Immediate) d 0 z v) high
 branch_number_line c w d v z high l g h =
     let o = condition_written c in
     record {
-      says = Jump (form.Branch c w source.Immediate) (fields d 0 (exactly 0) (value_of v)) (Distance (value_of z));
+      parsed = Jump (form.Branch c w source.Immediate) (fields d 0 (exactly 0) (value_of v)) (Distance (value_of z));
       good = (
         lit (codes "if") _ (omega arith) refl refl,
         refl,
@@ -945,10 +946,10 @@ pub call_means : (v : ℤ) → line_of (Call ∷ number_tokens v []) ≡ Some (l
 call_means (pos n) = refl
 call_means (negsuc n) = refl
 
-pub call_line : (v high : ℤ) → FitsSigned w32 v → SaysOf (Next (codes "call") ∷ number v []) false (inst_of form.Call 0 0 (pos 0) v) high
+pub call_line : (v high : ℤ) → FitsSigned w32 v → ParsesAs (Next (codes "call") ∷ number v []) false (inst_of form.Call 0 0 (pos 0) v) high
 call_line v high h =
     record {
-      says = Plain form.Call (fields 0 0 (exactly 0) (value_of v));
+      parsed = Plain form.Call (fields 0 0 (exactly 0) (value_of v));
       good = (before_number (codes "call") Call v [] call_written, refl, number_good v [] h tt tt);
       means = line_by _ (Call ∷ number_tokens v []) _ (ap (λ l. Call ∷ l) (number_kinds v [] h)) (call_means v);
       fits = in_range32 v h;
@@ -957,10 +958,10 @@ call_line v high h =
       units = λ ls at name. ap (λ x. First (inst_of form.Call 0 0 (pos 0) x) ∷ []) (int_back v);
     }
 
-pub exit_line : (high : ℤ) → SaysOf (Next (codes "exit") ∷ []) false (inst_of form.Exit 0 0 (pos 0) (pos 0)) high
+pub exit_line : (high : ℤ) → ParsesAs (Next (codes "exit") ∷ []) false (inst_of form.Exit 0 0 (pos 0) (pos 0)) high
 exit_line high =
     record {
-      says = Plain form.Exit (fields 0 0 (exactly 0) (exactly 0));
+      parsed = Plain form.Exit (fields 0 0 (exactly 0) (exactly 0));
       good = (lit (codes "exit") [] (omega arith) refl refl, refl, tt);
       means = refl;
       fits = refl;

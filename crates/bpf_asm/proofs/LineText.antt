@@ -17,7 +17,7 @@ use Rattle.bpf_asm.proofs.Again.{body, IsFront, AreCut, cut_again, decimal_digit
 
 -- ---- texts without an end of line and without a comment
 
--- each byte is ASCII and above LF (10), and a slash comes only before `=`
+-- The text is clean: each byte is ASCII and above LF (10), and a slash comes only before `=`.
 abbrev pub clean : Text → Bool
 clean [] = true
 clean (b ∷ t) = (nat_lt 10 b && nat_lt b 128) && (not (b == 47) || (slice_index t 0 == 61)) && clean t
@@ -64,7 +64,7 @@ code_clean (b ∷ t) h =
 no_end : (b : ℕ) → (nat_lt 10 b && nat_lt b 128) ≡ true → (b == 10) ≡ false
 no_end b h = let l : nat_lt 10 b ≡ true = and_left (nat_lt 10 b) (nat_lt b 128) h in grind (arith, nat_tests)
 
--- a clean text before a LF is one line
+-- a clean text and an LF after it are one line
 pub cut_clean : (t u : Text) → clean t ≡ true → cut (t ++ 10 ∷ u) ≡ t ∷ cut u
 cut_clean [] u h = refl
 cut_clean (b ∷ t) u h =
@@ -103,7 +103,8 @@ decimal_clean n small = digits_clean (decimal n) (decimal_digits n small)
 
 -- ---- lines of pieces
 
--- each piece's token is split off in front of the text of the pieces after it, and is clean
+-- The token of each piece is clean, and it is the first token of the text that the piece makes with the pieces after
+-- it.
 abbrev pub AreGood : List Piece → Type 0
 AreGood [] = ⊤
 AreGood (Next t ∷ ps) = IsFront t (body ps) × (clean t ≡ true) × AreGood ps
@@ -133,7 +134,7 @@ words_are ps g =
     ∙ ap split (take_all (length t) t (omega arith))
     ∙ cut_again ps (good_cut ps g)
 
--- the text of the pieces is parsed as the same line as their tokens
+-- if the tokens of the pieces are parsed as a line, then the text of the pieces is parsed as the same line
 pub line_says : (ps : List Piece) (l : Line) → AreGood ps → line_of (map kind_of (map token_of ps)) ≡ Some l
     → row_of (body ps) ≡ Some (row l (label_of l (map token_of ps)))
 line_says ps l g h = ap row_by (words_are ps g) ∙ ap (λ o. row_with o (map token_of ps)) h

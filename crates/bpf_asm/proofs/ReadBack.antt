@@ -14,41 +14,42 @@ use Rattle.bpf_asm.specs.declared.grammar.Statement.{Statement}
 use Rattle.bpf_asm.specs.declared.grammar.Line.TheVariants as line
 use Rattle.bpf_asm.specs.Lex.{Text, kind_of}
 use Rattle.bpf_asm.specs.Grammar.{line_of}
-use Rattle.bpf_asm.specs.Text.{Piece, token_of, pieces, instruction_text, canon, high_of}
+use Rattle.bpf_asm.specs.Text.{Piece, token_of, pieces, instruction_text, canonical_text, high_of}
 use Rattle.bpf_asm.specs.Program.{row, row_of, with_row, rows_of, last_word, statement_fits, row_fault, or_fault, first_line_fault, Definition, statement_len}
-use Rattle.bpf_asm.specs.Program.{units_in, labels_from, label_fault, goes_to_label, place_found, statement_units, units_from, length_fault, rows_fault}
+use Rattle.bpf_asm.specs.Program.{units_in, labels_from, label_fault, jumps_to_label, place_found, statement_units, units_from, length_fault, rows_fault}
 use Rattle.bpf_asm.specs.Program.{fault_of, assembled_with, assembled, cut}
 use Rattle.bpf_asm.proofs.Again.{body}
 use Rattle.bpf_asm.proofs.LineText.{AreGood, body_clean, cut_clean, line_body, line_says}
 
--- the units of an instruction: two of a wide load (true), one of any other
+-- the units of an instruction: two for a wide load (true), one for any other
 abbrev pub units_by : Bool → Inst → ℤ → List ProgramUnit
 units_by true i high = First i ∷ Second high ∷ []
 units_by false i high = First i ∷ []
 
--- the text of these pieces is parsed as the instruction i, its numbers are in range, and it names no label
-pub record SaysOf (ps : List Piece) (wide : Bool) (i : Inst) (high : ℤ) : Type 0 where
-  pub says : Statement
+-- The text of these pieces is parsed as the instruction i, its numbers are in range, and it names no label. If `wide`,
+-- i is a wide load, whose second unit has the number `high`.
+pub record ParsesAs (ps : List Piece) (wide : Bool) (i : Inst) (high : ℤ) : Type 0 where
+  pub parsed : Statement
   pub good : AreGood ps
-  pub means : line_of (map kind_of (map token_of ps)) ≡ Some (line.Statement says)
-  pub fits : statement_fits says ≡ true
-  pub no_label : goes_to_label says ≡ false
-  pub len : statement_len says ≡ length (units_by wide i high)
-  pub units : (labels : List Definition) (at : ℕ) (name : Text) → statement_units labels at name says ≡ units_by wide i high
+  pub means : line_of (map kind_of (map token_of ps)) ≡ Some (line.Statement parsed)
+  pub fits : statement_fits parsed ≡ true
+  pub no_label : jumps_to_label parsed ≡ false
+  pub len : statement_len parsed ≡ length (units_by wide i high)
+  pub units : (labels : List Definition) (at : ℕ) (name : Text) → statement_units labels at name parsed ≡ units_by wide i high
 
--- the canonical line of an instruction is parsed as this instruction
-abbrev pub Says : Form → Inst → ℤ → Type 0
-Says f i high = SaysOf (pieces f i high) (is_wide (Some f)) i high
+-- The canonical line of an instruction is parsed as this instruction.
+abbrev pub ParsesBack : Form → Inst → ℤ → Type 0
+ParsesBack f i high = ParsesAs (pieces f i high) (is_wide (Some f)) i high
 
-abbrev pub AllSay : Bool → List ProgramUnit → Type 0
-AllSay true [] = ⊤
-AllSay true (First i ∷ us) = (f : Form) × (form_of i.opcode ≡ Some f) × Says f i (high_of us) × AllSay (not (is_wide (Some f))) us
-AllSay true (Second v ∷ us) = ⊥
-AllSay false [] = ⊥
-AllSay false (First i ∷ us) = ⊥
-AllSay false (Second v ∷ us) = AllSay true us
+abbrev pub AllParseBack : Bool → List ProgramUnit → Type 0
+AllParseBack true [] = ⊤
+AllParseBack true (First i ∷ us) = (f : Form) × (form_of i.opcode ≡ Some f) × ParsesBack f i (high_of us) × AllParseBack (not (is_wide (Some f))) us
+AllParseBack true (Second v ∷ us) = ⊥
+AllParseBack false [] = ⊥
+AllParseBack false (First i ∷ us) = ⊥
+AllParseBack false (Second v ∷ us) = AllParseBack true us
 
--- the lines of the text have neither faults nor labels, and their units are `us`
+-- The lines of the text have neither faults nor labels, and their units are `us`.
 record Back (text : Text) (us : List ProgramUnit) : Type 0 where
   none : (n : ℕ) → first_line_fault n (cut text) ≡ None
   labels : (at : ℕ) → labels_from at (rows_of (cut text)) ≡ []
@@ -57,7 +58,7 @@ record Back (text : Text) (us : List ProgramUnit) : Type 0 where
   count : units_in (rows_of (cut text)) ≡ length us
 
 module _ (ps : List Piece) (s : Statement) (lab : Text) (more : Text) (us us' : List ProgramUnit) (clean_line : cut (body ps ++ 10 ∷ more) ≡ body ps ∷ cut more)
-    (said : row_of (body ps) ≡ Some (row (line.Statement s) lab)) (fits : statement_fits s ≡ true) (no_label : goes_to_label s ≡ false)
+    (said : row_of (body ps) ≡ Some (row (line.Statement s) lab)) (fits : statement_fits s ≡ true) (no_label : jumps_to_label s ≡ false)
     (here : (ls : List Definition) (at : ℕ) → statement_units ls at lab s ++ us ≡ us') (len : statement_len s + length us ≡ length us') (b : Back more us) where
   rows_are : rows_of (cut (body ps ++ 10 ∷ more)) ≡ row (line.Statement s) lab ∷ rows_of (cut more)
   rows_are = ap rows_of clean_line ∙ ap (λ o. with_row o (rows_of (cut more))) said
@@ -80,41 +81,41 @@ behind true us = us
 behind false [] = []
 behind false (u ∷ us) = us
 
-wide_behind : (us : List ProgramUnit) → AllSay false us → Second (high_of us) ∷ behind false us ≡ us
+wide_behind : (us : List ProgramUnit) → AllParseBack false us → Second (high_of us) ∷ behind false us ≡ us
 wide_behind [] h = absurd h
 wide_behind (First i ∷ us) h = absurd h
 wide_behind (Second v ∷ us) h = refl
 
-whole_units : (wide : Bool) (i : Inst) (us : List ProgramUnit) → AllSay (not wide) us → units_by wide i (high_of us) ++ behind (not wide) us ≡ First i ∷ us
+whole_units : (wide : Bool) (i : Inst) (us : List ProgramUnit) → AllParseBack (not wide) us → units_by wide i (high_of us) ++ behind (not wide) us ≡ First i ∷ us
 whole_units true i us h = ap (λ l. First i ∷ l) (wide_behind us h)
 whole_units false i us h = refl
 
-text_is : (f : Form) (i : Inst) (us : List ProgramUnit) → form_of i.opcode ≡ Some f → canon (First i ∷ us) ≡ body (pieces f i (high_of us)) ++ 10 ∷ canon us
+text_is : (f : Form) (i : Inst) (us : List ProgramUnit) → form_of i.opcode ≡ Some f → canonical_text (First i ∷ us) ≡ body (pieces f i (high_of us)) ++ 10 ∷ canonical_text us
 text_is f i us is =
     let ps = pieces f i (high_of us) in
-    ap (λ o. instruction_text o i (high_of us) ++ canon us) is
-    ∙ ap (λ t. t ++ canon us) (line_body ps)
-    ∙ append_assoc (body ps) (10 ∷ []) (canon us)
+    ap (λ o. instruction_text o i (high_of us) ++ canonical_text us) is
+    ∙ ap (λ t. t ++ canonical_text us) (line_body ps)
+    ∙ append_assoc (body ps) (10 ∷ []) (canonical_text us)
 
 lengths : (a b c : List ProgramUnit) → a ++ b ≡ c → length a + length b ≡ length c
 lengths a b c e = sym (length-append a b) ∙ ap length e
 
-one_back : (f : Form) (i : Inst) (us : List ProgramUnit) → form_of i.opcode ≡ Some f → Says f i (high_of us) → AllSay (not (is_wide (Some f))) us
-    → Back (canon us) (behind (not (is_wide (Some f))) us) → Back (canon (First i ∷ us)) (First i ∷ us)
+one_back : (f : Form) (i : Inst) (us : List ProgramUnit) → form_of i.opcode ≡ Some f → ParsesBack f i (high_of us) → AllParseBack (not (is_wide (Some f))) us
+    → Back (canonical_text us) (behind (not (is_wide (Some f))) us) → Back (canonical_text (First i ∷ us)) (First i ∷ us)
 one_back f i us is s rest b =
     let ps = pieces f i (high_of us) in
     let wide = is_wide (Some f) in
     let lab = last_word (map token_of ps) in
     let whole = whole_units wide i us rest in
-    let here : (ls : List Definition) (at : ℕ) → statement_units ls at lab s.says ++ behind (not wide) us ≡ First i ∷ us =
+    let here : (ls : List Definition) (at : ℕ) → statement_units ls at lab s.parsed ++ behind (not wide) us ≡ First i ∷ us =
     λ ls at. ap (λ l. l ++ behind (not wide) us) (s.units ls at lab) ∙ whole in
-    let len : statement_len s.says + length (behind (not wide) us) ≡ length (First i ∷ us) =
+    let len : statement_len s.parsed + length (behind (not wide) us) ≡ length (First i ∷ us) =
     ap (λ n. n + length (behind (not wide) us)) s.len ∙ lengths (units_by wide i (high_of us)) (behind (not wide) us) (First i ∷ us) whole in
     subst (λ t. Back t (First i ∷ us)) (sym (text_is f i us is))
-    (one_line ps s.says lab (canon us) (behind (not wide) us) (First i ∷ us) (cut_clean (body ps) (canon us) (body_clean ps s.good))
-    (line_says ps (line.Statement s.says) s.good s.means) s.fits s.no_label here len b)
+    (one_line ps s.parsed lab (canonical_text us) (behind (not wide) us) (First i ∷ us) (cut_clean (body ps) (canonical_text us) (body_clean ps s.good))
+    (line_says ps (line.Statement s.parsed) s.good s.means) s.fits s.no_label here len b)
 
-all_back : (first : Bool) (us : List ProgramUnit) → AllSay first us → Back (canon us) (behind first us)
+all_back : (first : Bool) (us : List ProgramUnit) → AllParseBack first us → Back (canonical_text us) (behind first us)
 all_back true [] h = record { none = λ n. refl; labels = λ at. refl; faultless = λ all n before. refl; units = λ ls at. refl; count = refl }
 all_back true (First i ∷ us) h = one_back h.0 i us h.1 h.2 h.3 (all_back (not (is_wide (Some h.0))) us h.3)
 all_back true (Second v ∷ us) h = absurd h
@@ -125,11 +126,12 @@ all_back false (Second v ∷ us) h = all_back true us h
 good_length : (n : ℕ) → 0 < n → n ≤ 512 → length_fault n ≡ None
 good_length n low high = grind (arith, nat_tests)
 
--- if the line of each instruction is parsed as this instruction, then the canonical text of 1 to 512 units assembles to them
-pub spells_again : (us : List ProgramUnit) → 0 < length us → length us ≤ 512 → AllSay true us → assembled (canon us) ≡ Ok us
+-- if the line of each instruction is parsed as this instruction, then the canonical text of 1 to 512 units assembles to
+-- them
+pub spells_again : (us : List ProgramUnit) → 0 < length us → length us ≤ 512 → AllParseBack true us → assembled (canonical_text us) ≡ Ok us
 spells_again us some few h =
     let b = all_back true us h in
-    let lines = cut (canon us) in
+    let lines = cut (canonical_text us) in
     let rows = rows_of lines in
     let sound : fault_of lines ≡ None =
     ap (λ o. or_fault o (rows_fault rows)) (b.none 1)

@@ -17,7 +17,7 @@ use Rattle.bpf_model.specs.declared.instruction.Size.{Size}
 use Rattle.bpf_model.specs.declared.instruction.Size.TheVariants.{Byte, Half, Word, Double}
 use Rattle.bpf_model.specs.declared.instruction.Form.{Form}
 use Rattle.bpf_model.specs.declared.instruction.Form.TheVariants as form
-use Rattle.bpf_model.specs.Reading.{form_of, has_form, has_right_fields, extends_from}
+use Rattle.bpf_model.specs.Reading.{form_of, has_form, has_valid_fields, extends_from}
 use Rattle.bpf_asm.specs.declared.token.Token.{Token}
 use Rattle.bpf_asm.specs.declared.token.Token.TheVariants.{Register, Number, Assign, Compare, Unsigned, Signed, Swap, If, Goto, GotoLong, Call, Exit, Long}
 use Rattle.bpf_asm.specs.declared.token.Token.TheVariants.{Open, Close, Star, Plus, Minus, Colon, Name}
@@ -162,7 +162,7 @@ register_store_opcode Double = refl
 
 -- ---- tokens
 
--- whether the operator can be followed by a register or a number alone, with this offset in the instruction
+-- In an instruction with the offset n, the operator can have a register or a number alone as its second operand.
 abbrev takes : Operator → ℕ → Bool
 takes operator.Add n = n == 0
 takes operator.Sub n = n == 0
@@ -209,7 +209,7 @@ alone a g = ap (λ x. x && true) g
 -- ---- instructions
 
 immediate_fields : (op : Operator) (n : ℕ) (w : Width) (dst : ℕ) (v : Value) → takes op n ≡ true
-    → has_right_fields (form.Arithmetic op w source.Immediate) (inst_of (form.Arithmetic op w source.Immediate) dst 0 (int_of (exactly n)) (int_of v)) ≡ true
+    → has_valid_fields (form.Arithmetic op w source.Immediate) (inst_of (form.Arithmetic op w source.Immediate) dst 0 (int_of (exactly n)) (int_of v)) ≡ true
 immediate_fields operator.Add n w dst v h = h
 immediate_fields operator.Sub n w dst v h = h
 immediate_fields operator.Mul n w dst v h = h
@@ -226,7 +226,7 @@ immediate_fields operator.Arsh n w dst v h = h
 immediate_fields operator.SwapBytes n w dst v h = absurd (cc)
 
 register_fields : (op : Operator) (n : ℕ) (w : Width) (dst src : ℕ) → takes op n ≡ true
-    → has_right_fields (form.Arithmetic op w source.Register) (inst_of (form.Arithmetic op w source.Register) dst src (int_of (exactly n)) (int_of (exactly 0)))
+    → has_valid_fields (form.Arithmetic op w source.Register) (inst_of (form.Arithmetic op w source.Register) dst src (int_of (exactly n)) (int_of (exactly 0)))
     ≡ true
 register_fields operator.Add n w dst src h = h
 register_fields operator.Sub n w dst src h = h
@@ -510,7 +510,7 @@ swap_plain w s bits dst f b d = record {
 }
 
 move_plain : (w : Width) (bits dst src : ℕ) → extends_from w source.Register (pos bits) ≡ true → nat_le dst 10 ≡ true → nat_le src 10 ≡ true
-    → has_right_fields (form.Arithmetic operator.Mov w source.Register) (inst_of (form.Arithmetic operator.Mov w source.Register) dst src (pos bits) (pos 0))
+    → has_valid_fields (form.Arithmetic operator.Mov w source.Register) (inst_of (form.Arithmetic operator.Mov w source.Register) dst src (pos bits) (pos 0))
     ≡ true → IsSoundForm (form.Arithmetic operator.Mov w source.Register) (fields dst src (exactly bits) (exactly 0))
 move_plain w bits dst src h d e f = record {
   is_of = record {
@@ -785,7 +785,7 @@ kinds_sound (text ∷ texts) = both (is_sound (kind_of text)) (list_all is_sound
 
 abbrev SoundRow : Option Row → Type 0
 SoundRow None = ⊤
-SoundRow (Some r) = IsSound r.says
+SoundRow (Some r) = IsSound r.parsed
 
 row_with_sound : (o : Option Line) (texts : List Text) → SoundLine o → SoundRow (row_with o texts)
 row_with_sound None texts h = tt
@@ -799,7 +799,7 @@ with_row_sound : (o : Option Row) (rows : List Row) → SoundRow o → AreSound 
 with_row_sound None rows g h = h
 with_row_sound (Some r) rows g h = (g, h)
 
--- each row of a text is an instruction of this profile, or takes no unit
+-- Each row of a text is an instruction of this profile, or it takes no unit.
 pub rows_sound : (lines : List Text) → AreSound (rows_of lines)
 rows_sound [] = tt
 rows_sound (text ∷ lines) = with_row_sound (row_of text) (rows_of lines) (row_by_sound (words_of text)) (rows_sound lines)

@@ -4,43 +4,44 @@ use Rattle.std.specs.List.{starts_with, ends_with}
 use Rattle.bpf_asm.specs.declared.AsmFault.{AsmFault}
 use Rattle.bpf_asm.specs.declared.AsmFault.TheVariants as fault
 use Rattle.bpf_asm.specs.declared.flaw.AsmFlaw.{AsmFlaw}
-use Rattle.bpf_asm.specs.declared.flaw.AsmFlaw.TheVariants.{ByteOrderMark, CarriageReturn, NoForm, LabelAgain, LabelMissing, OutOfRange, Length}
+use Rattle.bpf_asm.specs.declared.flaw.AsmFlaw.TheVariants.{ByteOrderMark, CarriageReturn, NoForm, DuplicateLabel, UndefinedLabel, OutOfRange, Length}
 use Rattle.bpf_asm.specs.declared.grammar.Statement.{Statement}
 use Rattle.bpf_asm.specs.declared.grammar.Line.TheVariants as line
 use Rattle.bpf_asm.specs.Lex.{Text}
 use Rattle.bpf_asm.specs.Program.{Row, cut, row, row_of}
 
--- the line of a text with this number, counted from 1; empty if there is none
+-- the line of a text that has this number, counted from 1; empty if the text has no such line
 abbrev pub line_at : Text → ℕ → Text
 line_at text number = unwrap_or (slice_get (cut text) (number - 1)) []
 
--- the bytes EF BB BF, which some editors write before a text
+-- The text begins with a byte order mark: the bytes EF BB BF, which some editors write first.
 abbrev pub begins_with_mark : Text → Bool
 begins_with_mark text = starts_with nat_eq text (239 ∷ 187 ∷ 191 ∷ [])
 
--- the last byte is a CR
+-- The text's last byte is a CR.
 abbrev pub ends_with_return : Text → Bool
 ends_with_return text = ends_with nat_eq text (13 ∷ [])
 
--- the line is the first, and the mark comes before it
+-- The line's number is 1, and the text begins with a byte order mark.
 abbrev pub is_marked : Text → ℕ → Bool
 is_marked text number = nat_eq number 1 && begins_with_mark text
 
--- the line can't be parsed, or it is empty: it neither defines a label nor names one
+-- The line can't be parsed (None), or it is empty. So it neither defines a label nor jumps to one.
 abbrev pub HasNoLabel : Option Row → Type 0
 HasNoLabel None = ⊤
-HasNoLabel (Some r) = r.says ≡ line.Empty
+HasNoLabel (Some r) = r.parsed ≡ line.Empty
 
--- The flaw explains the fault. It has the text of the line that the fault names, or the label that this line defines or
--- jumps to. For a line that can't be parsed it is the byte order mark before the line, else the CR at its end, else its
--- text.
+-- The flaw is the right one for this fault of the text. For a line that can't be parsed it is the byte order mark at
+-- the text's beginning, else the CR at the line's end, else it has the line. For a wrong label it has the label that
+-- the line defines, or the last token of the line's instruction, or the line itself if it has neither. For a number out
+-- of range it has the line. For the fault that memory ran out there is no flaw.
 abbrev pub Explains : Text → AsmFault → AsmFlaw → Type 0
 Explains text (fault.BadLine number) ByteOrderMark = is_marked text number ≡ true
 Explains text (fault.BadLine number) CarriageReturn = (is_marked text number ≡ false) × (ends_with_return (line_at text number) ≡ true)
 Explains text (fault.BadLine number) (NoForm words) =
     (is_marked text number ≡ false) × (ends_with_return (line_at text number) ≡ false) × (words.now ≡ line_at text number)
-Explains text (fault.BadLabel number) (LabelAgain name) = row_of (line_at text number) ≡ Some (row line.Label name.now)
-Explains text (fault.BadLabel number) (LabelMissing name) = (s : Statement) × (row_of (line_at text number) ≡ Some (row (line.Statement s) name.now))
+Explains text (fault.BadLabel number) (DuplicateLabel name) = row_of (line_at text number) ≡ Some (row line.Label name.now)
+Explains text (fault.BadLabel number) (UndefinedLabel name) = (s : Statement) × (row_of (line_at text number) ≡ Some (row (line.Statement s) name.now))
 Explains text (fault.BadLabel number) (NoForm words) = HasNoLabel (row_of (line_at text number)) × (words.now ≡ line_at text number)
 Explains text (fault.OutOfRange number) (OutOfRange words) = words.now ≡ line_at text number
 Explains text fault.Length Length = ⊤

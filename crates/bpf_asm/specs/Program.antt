@@ -50,11 +50,12 @@ abbrev pub line_len : Text → ℕ
 line_len [] = 0
 line_len (b ∷ text) = if b == 10 then 0 else suc (line_len text)
 
--- the texts of a line's tokens; None if a byte isn't ASCII or can't begin a token
+-- the texts of a line's tokens; None if a byte isn't ASCII, or if anything before the comment is neither a token nor a
+-- blank
 abbrev pub words_of : Text → Option (List Text)
 words_of text = if list_all (λ b. nat_lt b 128) text then split (take (code_len text) text) else None
 
--- the text of a line's first token, and of its last one; empty if the line has no tokens
+-- the text of the first of a line's tokens, and below that of the last one; empty if the line has no tokens
 abbrev pub first_word : List Text → Text
 first_word [] = []
 first_word (word ∷ words) = word
@@ -67,11 +68,11 @@ last_word (word ∷ other ∷ words) = last_word (other ∷ words)
 -- A parsed line with a label. For the definition of a label it is this label. For an instruction it is the last token,
 -- which for a jump to a label is that label.
 pub record Row : Type 0 where
-  pub says : Line
+  pub parsed : Line
   pub label : Text
 
 abbrev pub row : Line → Text → Row
-row says label = record { says = says; label = label }
+row parsed label = record { parsed = parsed; label = label }
 
 abbrev pub label_of : Line → List Text → Text
 label_of line.Empty words = []
@@ -100,7 +101,8 @@ rows_of (text ∷ lines) = with_row (row_of text) (rows_of lines)
 
 -- ---- ranges
 
--- the number is from minus `half` to `half` - 1
+-- The number is from minus `half` to `half` - 1. It is given by whether it is negative and by its absolute value. It
+-- isn't in the range if this is None, which stands for 2^64 or more.
 abbrev pub fits_size : ℕ → Bool → Option ℕ → Bool
 fits_size half negative None = false
 fits_size half true (Some n) = nat_le n half
@@ -124,16 +126,18 @@ line_fits line.Empty = true
 line_fits line.Label = true
 line_fits (line.Statement s) = statement_fits s
 
--- the fault of line `number` by itself: that it can't be parsed, or that a number in it is out of range
+-- the fault that line `number` has by itself: that it can't be parsed, or that a number in it is out of range; None if
+-- it has neither
 abbrev pub row_fault : ℕ → Option Row → Option AsmFault
 row_fault number None = Some (BadLine number)
-row_fault number (Some r) = if line_fits r.says then None else Some (OutOfRange number)
+row_fault number (Some r) = if line_fits r.parsed then None else Some (OutOfRange number)
 
 abbrev pub or_fault : Option AsmFault → Option AsmFault → Option AsmFault
 or_fault (Some f) other = Some f
 or_fault None other = other
 
--- the fault of the first line that can't be parsed or has a number out of range; the lines count from `number`
+-- the fault of the first line that can't be parsed or has a number out of range; the lines count from `number`; None if
+-- there is no such line
 abbrev pub first_line_fault : ℕ → List Text → Option AsmFault
 first_line_fault number [] = None
 first_line_fault number (text ∷ lines) = or_fault (row_fault number (row_of text)) (first_line_fault (number + 1) lines)
@@ -216,7 +220,7 @@ int_of v = signed v.negative (size_or_zero v.size)
 abbrev pub inst_of : Form → ℕ → ℕ → ℤ → ℤ → Inst
 inst_of f dst src offset imm = record { opcode = opcode_of f; dst = dst; src = src; offset = offset; imm = imm }
 
--- the low and the high half of a wide load's number
+-- the lower 32 bits of a wide load's number, and below the upper 32 bits, each as a signed number
 abbrev pub low_half : ℕ → ℤ
 low_half n = cast_signed w32 (n % 2 ^ 32)
 
@@ -236,7 +240,7 @@ line_len_of (line.Statement s) = statement_len s
 
 abbrev pub units_in : List Row → ℕ
 units_in [] = 0
-units_in (r ∷ rows) = line_len_of r.says + units_in rows
+units_in (r ∷ rows) = line_len_of r.parsed + units_in rows
 
 -- ---- labels
 
@@ -255,9 +259,9 @@ defining (line.Statement s) name at more = more
 -- the labels that the rows define, in their order, each with the unit that it names; the units count from `at`
 abbrev pub labels_from : ℕ → List Row → List Definition
 labels_from at [] = []
-labels_from at (r ∷ rows) = defining r.says r.label at (labels_from (at + line_len_of r.says) rows)
+labels_from at (r ∷ rows) = defining r.parsed r.label at (labels_from (at + line_len_of r.parsed) rows)
 
--- the unit that a label names, if the label is defined
+-- the unit that a label names; None if the label isn't defined
 abbrev pub place_found : List Definition → Text → Option ℕ
 place_found [] name = None
 place_found (d ∷ definitions) name = if bytes_eq d.name name then Some d.place else place_found definitions name
@@ -269,17 +273,17 @@ abbrev pub is_among : List Text → Text → Bool
 is_among [] name = false
 is_among (other ∷ names) name = bytes_eq other name || is_among names name
 
-abbrev pub goes_to_label : Statement → Bool
-goes_to_label (Jump f p Label) = true
-goes_to_label (Jump f p (Distance v)) = false
-goes_to_label (Plain f p) = false
-goes_to_label (Wide dst n) = false
+abbrev pub jumps_to_label : Statement → Bool
+jumps_to_label (Jump f p Label) = true
+jumps_to_label (Jump f p (Distance v)) = false
+jumps_to_label (Plain f p) = false
+jumps_to_label (Wide dst n) = false
 
--- whether a row defines a label that is among `before`, or jumps to a label that isn't in `all`
+-- The row defines a label that is among `before`, or it jumps to a label that isn't in `all`.
 abbrev pub is_wrong : List Definition → List Text → Line → Text → Bool
 is_wrong all before line.Empty name = false
 is_wrong all before line.Label name = is_among before name
-is_wrong all before (line.Statement s) name = goes_to_label s && not (is_some (place_found all name))
+is_wrong all before (line.Statement s) name = jumps_to_label s && not (is_some (place_found all name))
 
 abbrev pub with_name : Line → Text → List Text → List Text
 with_name line.Label name names = names ++ name ∷ []
@@ -287,16 +291,16 @@ with_name line.Empty name names = names
 with_name (line.Statement s) name names = names
 
 -- the fault of the first row that defines a label among `before` or of an earlier row, or jumps to a label that isn't
--- in `all`; the rows count from `number`
+-- in `all`; the rows count from `number`; None if there is no such row
 abbrev pub label_fault : List Definition → ℕ → List Text → List Row → Option AsmFault
 label_fault all number before [] = None
 label_fault all number before (r ∷ rows) =
-    if is_wrong all before r.says r.label then Some (BadLabel number)
-    else label_fault all (number + 1) (with_name r.says r.label before) rows
+    if is_wrong all before r.parsed r.label then Some (BadLabel number)
+    else label_fault all (number + 1) (with_name r.parsed r.label before) rows
 
 -- ---- programs
 
--- the distance of a jump at unit `at`; it counts units from the one after the jump
+-- the distance of a jump at unit `at`, in units from the unit after the jump
 abbrev pub distance_of : List Definition → ℕ → Text → Target → ℤ
 distance_of labels at name Label = pos (place_of labels name) -ℤ pos (at + 1)
 distance_of labels at name (Distance v) = int_of v
@@ -305,7 +309,7 @@ abbrev pub jump_inst : Form → Fields → ℤ → Inst
 jump_inst form.Ja32 p by = inst_of form.Ja32 p.dst p.src (pos 0) by
 jump_inst f p by = inst_of f p.dst p.src by (int_of p.imm)
 
--- the units of an instruction whose first unit is `at`
+-- the units of an instruction whose first unit has the number `at`
 abbrev pub statement_units : List Definition → ℕ → Text → Statement → List ProgramUnit
 statement_units labels at name (Plain f p) = First (inst_of f p.dst p.src (int_of p.offset) (int_of p.imm)) ∷ []
 statement_units labels at name (Wide dst n) =
@@ -319,12 +323,13 @@ line_units labels at name (line.Statement s) = statement_units labels at name s
 
 abbrev pub units_from : List Definition → ℕ → List Row → List ProgramUnit
 units_from labels at [] = []
-units_from labels at (r ∷ rows) = line_units labels at r.label r.says ++ units_from labels (at + line_len_of r.says) rows
+units_from labels at (r ∷ rows) = line_units labels at r.label r.parsed ++ units_from labels (at + line_len_of r.parsed) rows
 
 abbrev pub length_fault : ℕ → Option AsmFault
 length_fault n = if nat_le 1 n && nat_le n 512 then None else Some Length
 
--- the fault of rows in range: that they don't have 1 to 512 units, or else that of the first line with a wrong label
+-- the fault of rows whose numbers are in range: that they don't have 1 to 512 units, or else that of the first row with
+-- a wrong label; None if they have neither
 abbrev pub rows_fault : List Row → Option AsmFault
 rows_fault rows = or_fault (length_fault (units_in rows)) (label_fault (labels_from 0 rows) 1 [] rows)
 
@@ -342,10 +347,11 @@ abbrev pub assembled : Text → Result (List ProgramUnit) AsmFault
 assembled text = assembled_with (cut text) (fault_of (cut text))
 
 -- the text assembles to these units
-abbrev pub Spells : Text → List ProgramUnit → Type 0
-Spells text units = assembled text ≡ Ok units
+abbrev pub AssemblesTo : Text → List ProgramUnit → Type 0
+AssemblesTo text units = assembled text ≡ Ok units
 
--- the returned fault is the one that was found, or that memory ran out, which can happen for every text
+-- The returned fault is the one that was found (None if none was), or that memory ran out, which can happen for every
+-- text.
 abbrev pub IsFault : Option AsmFault → AsmFault → Type 0
 IsFault found OutOfMemory = ⊤
 IsFault found (BadLine n) = found ≡ Some (BadLine n)
@@ -357,11 +363,11 @@ IsFault found Length = found ≡ Some Length
 abbrev pub IsRefused : Text → AsmFault → Type 0
 IsRefused text fault = IsFault (fault_of (cut text)) fault
 
--- the numbers of each row are in range
-abbrev pub AreRight : List Row → Type 0
-AreRight [] = ⊤
-AreRight (r ∷ rows) = (line_fits r.says ≡ true) × AreRight rows
+-- The numbers of each row are in range.
+abbrev pub AreInRange : List Row → Type 0
+AreInRange [] = ⊤
+AreInRange (r ∷ rows) = (line_fits r.parsed ≡ true) × AreInRange rows
 
--- each label names a unit from 0 to n
+-- Each label names a unit from 0 to n.
 abbrev pub AreWithin : ℕ → List Definition → Type 0
 AreWithin n labels = (name : Text) → place_of labels name ≤ n

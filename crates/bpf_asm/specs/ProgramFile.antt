@@ -6,7 +6,7 @@ use Rattle.hex.specs.declared.error.FromHexError.{FromHexError}
 use Rattle.bpf_asm.specs.declared.program_file.ProgramFileFault.{ProgramFileFault}
 use Rattle.bpf_asm.specs.declared.program_file.ProgramFileFault.TheVariants.{TooLong, BadDigits, OutOfMemory}
 
--- a blank: space, tab, CR or LF
+-- The byte is a blank: a space, a tab, a CR or an LF.
 abbrev pub is_blank : ℕ → Bool
 is_blank b = (b == 32) || (b == 9) || (b == 13) || (b == 10)
 
@@ -19,7 +19,7 @@ unfoldable pub program_in : List ℕ → Result (List ℕ) ProgramFileFault
 program_in text =
     if nat_le (length text) 65536 then bytes_or_fault (decode_of (filter (λ b. not (is_blank b)) text)) else Err TooLong
 
--- a function may return this fault: it is that memory ran out, or `said`, the defined result, is the same fault
+-- A function can return this fault: it is that memory ran out, or it is the fault that `said`, the defined result, has.
 abbrev pub Fails : {B : Type 0} → ProgramFileFault → Result B ProgramFileFault → Type 0
 Fails OutOfMemory said = ⊤
 Fails fault said = said ≡ Err fault
@@ -29,13 +29,13 @@ Gives view (Ok x) said = said ≡ Ok (view x)
 Gives view (Err fault) said = Fails fault said
 
 -- the line of a unit: its bytes as 16 hexadecimal digits, and an LF
-abbrev pub line_at : List ℕ → ℕ → List ℕ
-line_at bytes unit = encode_lower (take 8 (drop (8 * unit) bytes)) ++ 10 ∷ []
+abbrev pub unit_line : List ℕ → ℕ → List ℕ
+unit_line bytes unit = encode_lower (take 8 (drop (8 * unit) bytes)) ++ 10 ∷ []
 
 -- the lines of the first n units
 abbrev pub lines_below : List ℕ → ℕ → List ℕ
 lines_below bytes zero = []
-lines_below bytes (suc unit) = lines_below bytes unit ++ line_at bytes unit
+lines_below bytes (suc unit) = lines_below bytes unit ++ unit_line bytes unit
 
 abbrev pub unit_lines : List ℕ → List ℕ
 unit_lines bytes = lines_below bytes (length bytes / 8)

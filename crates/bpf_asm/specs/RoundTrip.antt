@@ -2,9 +2,9 @@
 use Rattle.std.specs.Prelude.{◌≡◌, List}
 use Rattle.bpf_model.specs.declared.instruction.Unit.{Unit as ProgramUnit}
 use Rattle.bpf_decode.specs.Faults.{IsProgram}
-use Rattle.bpf_asm.specs.Program.{Spells}
-use Rattle.bpf_asm.specs.Text.{canon}
+use Rattle.bpf_asm.specs.Program.{AssemblesTo}
+use Rattle.bpf_asm.specs.Text.{canonical_text}
 
 -- the canonical text of a program assembles to the program, and to no other
 abbrev pub RoundTrip : Type 0
-RoundTrip = (code : List ProgramUnit) → IsProgram code → Spells (canon code) code × ((other : List ProgramUnit) → Spells (canon code) other → other ≡ code)
+RoundTrip = (code : List ProgramUnit) → IsProgram code → AssemblesTo (canonical_text code) code × ((other : List ProgramUnit) → AssemblesTo (canonical_text code) other → other ≡ code)

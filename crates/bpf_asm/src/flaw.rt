@@ -1,4 +1,4 @@
-// Flaws: the faults of an assembler text with their words, for people to read.
+// Flaws: the faults of an assembler text, each with what its message for people shows.
 
 ghost use Rattle.std.specs.Prelude.{◌≡◌, ◌-◌, ℕ, [], true, IfOk, IsOk, slice_get, unwrap_or, take};
 ghost use Rattle.bpf_asm.specs.Program as spec;
@@ -12,19 +12,21 @@ use crate::line::{cut, row_of};
 use std::alloc::{AllocError, Global};
 use std::fmt;
 
-/// A fault of an assembler text, with the line or the label that its message shows.
+/// A fault of an assembler text, with the line or the label that its message shows, if it shows one. `Display` writes
+/// the message.
 #[derive(Clone, Copy)]
 pub enum AsmFlaw<'a> {
-    /// A1: a byte order mark comes before the first line, which therefore can't be parsed.
+    /// A1: the text begins with a byte order mark, so its first line can't be parsed.
     ByteOrderMark,
-    /// A1: the line ends with a CR before its LF, and therefore can't be parsed.
+    /// A1: this line can't be parsed, and without its LF it ends with a CR.
     CarriageReturn,
-    /// A1: this line can't be parsed.
+    /// A1: this line can't be parsed. It isn't the first line of a text that begins with a byte order mark, and it
+    /// doesn't end with a CR.
     NoForm(&'a [u8]),
     /// A2: an earlier line defines this label too.
-    LabelAgain(&'a [u8]),
+    DuplicateLabel(&'a [u8]),
     /// A2: a jump names this label, and no line defines it.
-    LabelMissing(&'a [u8]),
+    UndefinedLabel(&'a [u8]),
     /// A3: a number in this line is out of range.
     OutOfRange(&'a [u8]),
     /// A4: the program doesn't have 1 to 512 units.
@@ -44,20 +46,24 @@ impl fmt::Display for AsmFlaw<'_> {
                 f.write_str("the line ends with CR LF, and LF alone ends a line")
             }
             AsmFlaw::NoForm(line) => write!(f, "no such form: {}", Beginning(line)),
-            AsmFlaw::LabelAgain(name) => {
+            AsmFlaw::DuplicateLabel(name) => {
                 write!(f, "the label '{}' stands on a line before", Beginning(name))
             }
-            AsmFlaw::LabelMissing(name) => write!(f, "no line has the label '{}'", Beginning(name)),
+            AsmFlaw::UndefinedLabel(name) => write!(
+                f,
+                "no line has the label '{}'",
+                Beginning(name)
+            ),
             AsmFlaw::OutOfRange(line) => write!(f, "a number out of range: {}", Beginning(line)),
             AsmFlaw::Length => f.write_str("a program has 1 to 512 units"),
         }
     }
 }
 
-/// How many bytes of a line or a label a message shows at most.
+/// The most bytes of a line or a label that a message shows.
 const MOST_SHOWN: usize = 80;
 
-/// A line or a label, of which the first 80 bytes are written, and ` ..` if there are more.
+/// A line or a label. `Display` writes its first 80 bytes, each as `write_byte` does, and then ` ..` if it has more.
 #[derive(Clone, Copy)]
 struct Beginning<'a>(&'a [u8]);
 
@@ -90,7 +96,8 @@ fn ending(line: &[u8]) -> &'static str
     if line.len() > MOST_SHOWN { " .." } else { "" }
 }
 
-/// Writes a printable ASCII character as it is, and any other byte as in `\x0d`.
+/// Writes a printable ASCII character as it is, and any other byte as in `\x0d`. The error is that the formatter
+/// failed.
 fn write_byte<W: fmt::Write>(f: &mut fmt::Formatter<W>, byte: u8) -> fmt::Result
     ensures { WritesOnOk W.write_str_gives f.old result (shown_byte byte) f.new }
 {
@@ -101,8 +108,8 @@ fn write_byte<W: fmt::Write>(f: &mut fmt::Formatter<W>, byte: u8) -> fmt::Result
     }
 }
 
-/// Returns the line of this number, counted from 1, without its LF, or an empty one if the text has fewer lines. The
-/// error is that memory ran out.
+/// Returns line `number` of a text, counted from 1, without its LF. Returns an empty line if the text has fewer lines.
+/// The error is that memory ran out.
 fn line_of(alloc: Global, text: &[u8], number: u64) -> Result<&[u8], AllocError>
     ensures { IfOk result (λ line. line.now ≡ line_at text.now number) }
 {
@@ -125,9 +132,9 @@ fn has_return(line: &[u8]) -> bool
     line.ends_with(b"\r")
 }
 
-/// Returns the flaw of line `number` for the fault that it can't be parsed (A1): `ByteOrderMark` for line 1 of a text
+/// Returns the flaw for the fault that line `number` can't be parsed (A1). It is `ByteOrderMark` for line 1 of a text
 /// that begins with a byte order mark, else `CarriageReturn` if the line ends with a CR, else `NoForm`. The error is
-/// that memory ran out. For a byte order mark no memory is taken.
+/// that memory ran out. `ByteOrderMark` needs no memory, so there is no error for it.
 fn formless<'a>(alloc: Global, text: &'a [u8], number: u64) -> Result<AsmFlaw<'a>, AllocError>
     ensures flaw { IfOk result (Explains text.now (AsmFault.BadLine number)) }
     ensures mark { is_marked text.now number ≡ true → IsOk result }
@@ -143,16 +150,16 @@ fn formless<'a>(alloc: Global, text: &'a [u8], number: u64) -> Result<AsmFlaw<'a
     }
 }
 
-/// Returns the flaw of line `number` for the fault that its label is wrong (A2): `LabelAgain` if the line defines a
-/// label, `LabelMissing` if it is an instruction, each with the label that `line::row_of` returns. A line that is empty
-/// or can't be parsed has no label, and its flaw is `NoForm`. The error is that memory ran out.
+/// Returns the flaw for the fault that line `number` has a wrong label (A2). It is `DuplicateLabel` if the line defines
+/// a label, and `UndefinedLabel` if it is an instruction, each with the label that `line::row_of` returns. If the line
+/// is empty or can't be parsed, it is `NoForm`. The error is that memory ran out.
 fn label_of<'a>(alloc: Global, text: &'a [u8], number: u64) -> Result<AsmFlaw<'a>, AllocError>
     ensures { IfOk result (Explains text.now (AsmFault.BadLabel number)) }
 {
     let line = line_of(alloc, text, number)?;
     match row_of(alloc, line)? {
-        Some((Line::Label, name)) => Ok(AsmFlaw::LabelAgain(name)),
-        Some((Line::Statement(_), name)) => Ok(AsmFlaw::LabelMissing(name)),
+        Some((Line::Label, name)) => Ok(AsmFlaw::DuplicateLabel(name)),
+        Some((Line::Statement(_), name)) => Ok(AsmFlaw::UndefinedLabel(name)),
         Some((Line::Empty, _)) | None => Ok(AsmFlaw::NoForm(line)),
     }
 }
@@ -164,9 +171,9 @@ fn out_of_range<'a>(alloc: Global, text: &'a [u8], number: u64) -> Result<AsmFla
     Ok(AsmFlaw::OutOfRange(line))
 }
 
-/// Returns the flaw for a fault that `assemble` returned for this text, with the line or the label that its message
-/// shows. The error is that memory ran out in this call, or that the fault is `OutOfMemory`. For a wrong length and for
-/// a byte order mark no memory is taken.
+/// Returns the flaw for a fault that `assemble` found in this text: the fault with the line or the label that its
+/// message shows. The error is that memory ran out in this call, or that `fault` is `OutOfMemory`. There is no error
+/// for `Length`, nor for a line 1 that can't be parsed and begins with a byte order mark.
 pub fn explain<'a>(
     alloc: Global,
     text: &'a [u8],

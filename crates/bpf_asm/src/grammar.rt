@@ -1,4 +1,4 @@
-// The grammar of the assembler: the instructions and labels that the tokens of a line mean.
+// The grammar of the assembler: how the tokens of a line are parsed as an instruction or as a label.
 
 ghost use Rattle.std.specs.Prelude.{◌≡◌, ◌∷◌, option_map};
 ghost use Rattle.bpf_asm.specs.Grammar as spec;
@@ -13,7 +13,7 @@ pub struct Value {
     pub size: Option<u64>,
 }
 
-/// The fields of an instruction, with numbers that can still be out of range.
+/// The fields of an instruction, as parsed. Its numbers aren't checked yet, so they can be out of range.
 #[derive(Clone, Copy)]
 pub struct Fields {
     pub dst: u8,
@@ -22,15 +22,17 @@ pub struct Fields {
     pub imm: Value,
 }
 
-/// The target of a jump: a label, which is the line's last token, or a distance, in units from the unit after the jump.
+/// The target of a jump. `Label` is the label that the line's last token names. `Distance` counts units (of 8 bytes)
+/// from the unit after the jump.
 #[derive(Clone, Copy)]
 pub enum Target {
     Label,
     Distance(Value),
 }
 
-/// A parsed instruction: a wide load with its register and number, a jump with its fields and target, or any other with
-/// its fields. The number of a wide load is `None` if it is above 2^64 - 1. A jump's fields don't have its distance.
+/// A parsed instruction. `Wide` is the load of a 64-bit number: the register's number, and the loaded number, or `None`
+/// if that is above 2^64 - 1. `Jump` is a jump, whose distance is in its target and not in its fields. `Plain` is any
+/// other instruction.
 #[derive(Clone, Copy)]
 pub enum Statement {
     Plain(Form, Fields),
@@ -38,8 +40,8 @@ pub enum Statement {
     Jump(Form, Fields, Target),
 }
 
-/// A parsed line, without its comment: an empty line, the definition of a label, or an instruction. The label's name is
-/// the line's first token.
+/// A parsed line, without its comment: an empty line, the definition of a label, or an instruction. It doesn't hold the
+/// label's name, which is the line's first token.
 #[derive(Clone, Copy)]
 pub enum Line {
     Empty,
@@ -114,9 +116,9 @@ fn is_word(token: Token) -> bool
     )
 }
 
-// Parses the tokens after `dst OPERATOR=`, or after `dst =` for MOV: a register of the same width, or a number, which
-// can have a `-` before it, and nothing more. Returns the instruction; `None` if the tokens aren't this. `offset` is
-// the instruction's offset field, as in `Token::Assign`.
+// Parses the tokens after `dst OPERATOR=`, or after `dst =` for MOV, and returns the instruction. Returns `None` unless
+// they are one register of the same width, or one number, with or without a `-` before it. `offset` is the
+// instruction's offset field, as in `Token::Assign`.
 fn operand(
     operator: Operator,
     offset: u64,
@@ -163,8 +165,8 @@ fn target_of(tokens: &[Token]) -> Option<Target>
     }
 }
 
-// Parses `(SIZE *)`, and returns SIZE, which can be any token, and the tokens after the `)`; `None` if the tokens don't
-// begin so.
+// Parses `(SIZE *)` at the start of the tokens. Returns SIZE, which can be any token, and the tokens after the `)`.
+// Returns `None` if the tokens don't begin with `(SIZE *)`.
 fn sized(tokens: &[Token]) -> Option<(Token, &[Token])>
     ensures { option_map (λ p. (p.0, p.1.now)) result ≡ spec.sized tokens.now }
 {
@@ -174,8 +176,8 @@ fn sized(tokens: &[Token]) -> Option<(Token, &[Token])>
     }
 }
 
-// Parses `(r2 + N)` or `(r2 - N)`, with any 64-bit register, and returns the register's number, N with its sign, and
-// the tokens after the `)`; `None` if the tokens don't begin so.
+// Parses `(r2 + N)` or `(r2 - N)` at the start of the tokens, where r2 can be any 64-bit register. Returns the
+// register's number, N with its sign, and the tokens after the `)`. Returns `None` if the tokens begin with neither.
 fn based(tokens: &[Token]) -> Option<(u8, Value, &[Token])>
     ensures { option_map (λ p. (p.0, p.1, p.2.now)) result ≡ spec.based tokens.now }
 {
@@ -224,7 +226,8 @@ fn load(dst: u8, tokens: &[Token]) -> Option<Statement>
     }
 }
 
-// Returns the number of bits of a sign extension; `None` if no instruction of this width extends this size.
+// Returns the number of bits of a sign extension from this size: 8, 16 or 32. Returns `None` if no instruction of this
+// width extends from this size.
 fn extension(width: Width, size: Size) -> Option<u64>
     ensures { result ≡ spec.extension width size }
 {
@@ -280,9 +283,9 @@ fn is_full(width: Width) -> bool
     matches!(width, Width::Bits64)
 }
 
-// Parses the tokens after `r1 = -` as NEG: there must be one token, the same register again. This function and the next
-// three each parse one form that exists only with `=`: NEG, a sign extension, END and a wide load. Each returns `None`
-// if the tokens aren't of its form.
+// Parses the tokens after `r1 = -` as NEG. Returns `None` unless they are one token, the same register again. `width`
+// and `dst` are the register's width and number. The next three functions do the same for a sign extension, END (a swap
+// of bytes) and a wide load (of a 64-bit number).
 fn negated(width: Width, dst: u8, tokens: &[Token]) -> Option<Statement>
     ensures { result ≡ spec.only_assigned width dst (Token.Minus ∷ tokens.now) }
 {
@@ -342,8 +345,8 @@ fn wide(n: Option<u64>, width: Width, dst: u8, tokens: &[Token]) -> Option<State
     }
 }
 
-// Parses the tokens after `r1 =` as a form that exists only with `=`: NEG, a sign extension, END, a wide load or a
-// load. Returns `None` if they are no such form.
+// Parses the tokens after `r1 =` as an instruction that exists only with `=`: NEG, a sign extension, END (a swap of
+// bytes), a wide load (of a 64-bit number) or a load. Returns `None` if they are none of these.
 fn only_assigned(width: Width, dst: u8, tokens: &[Token]) -> Option<Statement>
     ensures { result ≡ spec.only_assigned width dst tokens.now }
 {
@@ -358,8 +361,8 @@ fn only_assigned(width: Width, dst: u8, tokens: &[Token]) -> Option<Statement>
     }
 }
 
-// Returns the instruction for the tokens after `r1 =` (or another register) at the start of a line; `None` if they
-// can't be parsed. `width` and `dst` are the width and the number of the register.
+// Parses the tokens after `r1 =` at the start of a line, where r1 can be any register, and returns the instruction.
+// Returns `None` if they can't be parsed. `width` and `dst` are the register's width and number.
 fn assigned(width: Width, dst: u8, tokens: &[Token]) -> Option<Statement>
     ensures { result ≡ spec.assigned width dst tokens.now }
 {
@@ -369,8 +372,9 @@ fn assigned(width: Width, dst: u8, tokens: &[Token]) -> Option<Statement>
     }
 }
 
-// Parses the tokens of a store after its address: `=`, and a 64-bit register or a number, which can have a `-` before
-// it. Returns `None` if they can't be parsed. The address is the register `base` plus `offset`.
+// Parses the tokens after the address of a store: `=`, then a 64-bit register or a number, with or without a `-` before
+// the number. Returns the instruction that stores to the register `base` plus `offset`, or `None` if they can't be
+// parsed.
 fn stored(size: Size, base: u8, offset: Value, tokens: &[Token]) -> Option<Statement>
     ensures { result ≡ spec.stored size base offset tokens.now }
 {
@@ -476,7 +480,8 @@ fn minus_branch(condition: Condition, width: Width, dst: u8, tokens: &[Token]) -
     }
 }
 
-// Returns the instruction for the tokens after `if r1 CMP`; `None` if they can't be parsed.
+// Returns the instruction for the tokens after `if r1 CMP`, or `None` if they can't be parsed. `width` and `dst` are
+// the width and the number of `r1`.
 fn branch(condition: Condition, width: Width, dst: u8, tokens: &[Token]) -> Option<Statement>
     ensures { result ≡ spec.branch condition width dst tokens.now }
 {
@@ -495,7 +500,8 @@ fn no_fields() -> Fields
     fields_of(0, 0, exactly(0), exactly(0))
 }
 
-// Returns the instruction for the tokens after a register at the start of a line; `None` if they can't be parsed.
+// Returns the instruction for the tokens after a register at the start of a line, or `None` if they can't be parsed.
+// `width` and `dst` are the register's width and number.
 fn changed(width: Width, dst: u8, tokens: &[Token]) -> Option<Statement>
     ensures { result ≡ spec.statement (Token.Register width dst ∷ tokens.now) }
 {
@@ -533,7 +539,7 @@ fn call(tokens: &[Token]) -> Option<Statement>
     }
 }
 
-// Returns the instruction for the tokens after `exit`; `None` if there are any.
+// Returns the instruction `exit`, or `None` if there are tokens after this word.
 fn exit(tokens: &[Token]) -> Option<Statement>
     ensures { result ≡ spec.statement (Token.Exit ∷ tokens.now) }
 {
@@ -543,7 +549,7 @@ fn exit(tokens: &[Token]) -> Option<Statement>
     }
 }
 
-/// Returns the instruction that the tokens of a line mean; `None` if they can't be parsed as one.
+/// Parses the tokens of a line as an instruction and returns it, or `None` if they aren't one.
 pub fn statement_of(tokens: &[Token]) -> Option<Statement>
     ensures { result ≡ spec.statement tokens.now }
 {
@@ -560,8 +566,8 @@ pub fn statement_of(tokens: &[Token]) -> Option<Statement>
     }
 }
 
-/// Returns what the tokens of a line mean: an empty line if there are none, the definition of a label, or an
-/// instruction; `None` if they can't be parsed as one of these.
+/// Parses all tokens of a line. Returns an empty line if there are none, the definition of a label, or an instruction.
+/// Returns `None` if they are none of these.
 pub fn line_of(tokens: &[Token]) -> Option<Line>
     ensures { result ≡ spec.line_of tokens.now }
 {

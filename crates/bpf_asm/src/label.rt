@@ -1,5 +1,5 @@
-// Labels, and the units that they name. A label names the next unit after it. Units count from 0. A row is a parsed
-// line with a label, as `line::row_of` returns it.
+// Labels, and the units that they name. A unit is 8 bytes of a program; units count from 0. A label names the next unit
+// after it. A row is a parsed line with a label, as `line::row_of` returns it.
 
 ghost use Rattle.std.specs.Prelude.{◌≡◌, ◌≤◌, ◌++◌, [], ℕ, List, map, IfOk, OnOk, Some, is_some};
 ghost use Rattle.bpf_asm.specs.Program as spec;
@@ -8,7 +8,7 @@ use crate::AsmFault;
 use crate::grammar::{Line, Statement, Target};
 use std::alloc::{AllocError, Global};
 
-// Returns the number of units of a line: 0, 1, or 2 for a wide load.
+// Returns how many units (of 8 bytes) a line takes: 2 for a wide load, 1 for any other instruction, and else 0.
 pub fn len_of(line: Line) -> u64
     ensures value { result ≡ spec.line_len_of line }
     ensures small { result ≤ 2 }
@@ -22,7 +22,7 @@ pub fn len_of(line: Line) -> u64
     }
 }
 
-/// Returns the number of units of all rows.
+/// Returns how many units (of 8 bytes) all rows together take.
 pub fn units_in(rows: &[(Line, &[u8])]) -> u64
     ensures { result ≡ spec.units_in (map (λ p. spec.row p.0 p.1.now) rows.now) }
 {
@@ -35,26 +35,27 @@ pub fn units_in(rows: &[(Line, &[u8])]) -> u64
     units
 }
 
-// If a row defines a label, adds to `labels` this label and `at`, the unit that it names. `says` is the row's parsed
-// line, and `name` is its label.
+// Adds the label that a row defines, if it defines one, to `labels`, with `at` as the unit that it names. `parsed` is
+// the row's parsed line, and `name` is its label. The error is that memory ran out.
 fn define<'a>(
     labels: &mut Vec<(&'a [u8], u64)>,
-    says: Line,
+    parsed: Line,
     name: &'a [u8],
     at: u64,
 ) -> Result<(), AllocError>
     ensures { OnOk result ((more : List spec.Definition) → map (λ d. spec.definition d.0.now d.1) labels.new.items
-        ++ more ≡ map (λ d. spec.definition d.0.now d.1) labels.old.items ++ spec.defining says name.now at more) }
+        ++ more ≡ map (λ d. spec.definition d.0.now d.1) labels.old.items ++ spec.defining parsed name.now at more) }
 {
-    match says {
+    match parsed {
         Line::Label => Ok(labels.push((name, at))?),
         Line::Empty => Ok(()),
         Line::Statement(_) => Ok(()),
     }
 }
 
-/// Returns the labels that the rows define, in their order, each with the unit that it names. A label after the last
-/// unit gets the number of all units. A label that is defined twice is in the result twice.
+/// Returns the labels that the rows define, in their order, each with the unit that it names. For a label after the
+/// last unit, this is the number of all units. A label that is defined twice is in the result twice. The error is that
+/// memory ran out.
 pub fn labels_of<'a>(
     alloc: Global,
     rows: &[(Line, &'a [u8])],
@@ -74,8 +75,8 @@ pub fn labels_of<'a>(
     Ok(labels)
 }
 
-/// Returns the unit that a label names; `None` if the label isn't in `labels`, which is as `labels_of` returns it. If
-/// the label is in `labels` twice, returns the first of its two units.
+/// Returns the unit that the label `name` names, or `None` if this label isn't in `labels`. `labels` has labels with
+/// their units, as `labels_of` returns them. If the label is in it more than once, the unit is that of the first.
 pub fn place_of(mut labels: &[(&[u8], u64)], name: &[u8]) -> Option<u64>
     ensures { result ≡ spec.place_found (map (λ d. spec.definition d.0.now d.1) labels.entry.now) name.now }
 {
@@ -100,31 +101,33 @@ fn is_among(mut names: &[&[u8]], name: &[u8]) -> bool
     false
 }
 
-fn goes_to_label(statement: Statement) -> bool
-    ensures { result ≡ spec.goes_to_label statement }
+fn jumps_to_label(statement: Statement) -> bool
+    ensures { result ≡ spec.jumps_to_label statement }
 {
     matches!(statement, Statement::Jump(_, _, Target::Label))
 }
 
-// Returns whether a row defines a label that is in `seen`, or jumps to a label that isn't in `labels`. `says` is the
-// row's parsed line, and `name` is its label.
-fn is_wrong(labels: &[(&[u8], u64)], seen: &[&[u8]], says: Line, name: &[u8]) -> bool
+// Returns whether a row defines a label that is in `seen`, the labels of earlier rows, or jumps to a label that isn't
+// in `labels`. `parsed` is the row's parsed line, and `name` is its label.
+fn is_wrong(labels: &[(&[u8], u64)], seen: &[&[u8]], parsed: Line, name: &[u8]) -> bool
     ensures { result ≡ spec.is_wrong (map (λ d. spec.definition d.0.now d.1) labels.now)
-        (map (λ t. t.now) seen.now) says name.now }
+        (map (λ t. t.now) seen.now) parsed name.now }
 {
-    match says {
+    match parsed {
         Line::Empty => false,
         Line::Label => is_among(seen, name),
-        Line::Statement(statement) => goes_to_label(statement) && !place_of(labels, name).is_some(),
+        Line::Statement(statement) => jumps_to_label(statement)
+            && !place_of(labels, name).is_some(),
     }
 }
 
-// If a row defines a label, adds this label to `seen`.
-fn note<'a>(seen: &mut Vec<&'a [u8]>, says: Line, name: &'a [u8]) -> Result<(), AllocError>
+// Adds the label that a row defines, if it defines one, to `seen`. `parsed` is the row's parsed line, and `name` is its
+// label. The error is that memory ran out.
+fn note<'a>(seen: &mut Vec<&'a [u8]>, parsed: Line, name: &'a [u8]) -> Result<(), AllocError>
     ensures { OnOk result (map (λ t. t.now) seen.new.items
-        ≡ spec.with_name says name.now (map (λ t. t.now) seen.old.items)) }
+        ≡ spec.with_name parsed name.now (map (λ t. t.now) seen.old.items)) }
 {
-    match says {
+    match parsed {
         Line::Label => Ok(seen.push(name)?),
         Line::Empty => Ok(()),
         Line::Statement(_) => Ok(()),

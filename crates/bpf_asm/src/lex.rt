@@ -112,7 +112,7 @@ fn longest_symbol(text: &[u8]) -> usize
     symbol_len(&SYMBOLS, text)
 }
 
-/// Returns the length of the longest token at the start of a text; 0 if no token begins there.
+/// Returns how many bytes the longest token at the start of a text has; 0 if no token begins there.
 pub fn token_len(text: &[u8]) -> usize
     ensures value { result ≡ spec.token_len text.now }
     ensures within { result ≤ length text.now }
@@ -136,8 +136,8 @@ fn lookup(mut table: &[(&[u8], Token)], text: &[u8], other: Token) -> Token
     other
 }
 
-// Returns the register of this width whose number, 0 to 10 without leading zeros, is all that follows the first byte of
-// `text`; `Name` if anything else follows it, or nothing.
+// Reads the number of a register after the first byte of `text`, and returns the register of this number and width.
+// Returns `Name` unless what follows that byte is just a number from 0 to 10, without leading zeros.
 fn numbered(width: Width, text: &[u8]) -> Token
     ensures { result ≡ spec.numbered width text.now }
 {
@@ -183,8 +183,8 @@ pub fn code_len(line: &[u8]) -> usize
     at
 }
 
-/// Splits `text`, a line without its comment and its LF, and returns the texts of its tokens in order; `None` if a part
-/// of it is neither a token nor a blank, which is a space or a tab. The error is that memory ran out.
+/// Splits `text`, a line without its comment and its LF, into tokens, and returns their texts in order. Spaces and tabs
+/// between them are skipped. Returns `None` if anything else in it isn't a token. The error is that memory ran out.
 pub fn split<'a>(alloc: Global, text: &'a [u8]) -> Result<Option<Vec<&'a [u8]>>, AllocError>
     ensures { IfOk result (λ found. option_map (λ v. map (λ t. t.now) v.items) found ≡ spec.split text.now) }
 {
@@ -248,7 +248,7 @@ fn lookup_symbol(text: &[u8], other: Token) -> Token
     lookup(&SYMBOLS, text, other)
 }
 
-// Returns the value of a decimal or hexadecimal number; `None` if it is 2^64 or more.
+// Returns the value of a number in decimal digits, or in hexadecimal digits after `0x`; `None` if it is 2^64 or more.
 fn number(text: &[u8]) -> Option<u64>
     ensures { result ≡ spec.small (spec.number_value text.now) }
 {
@@ -259,7 +259,8 @@ fn number(text: &[u8]) -> Option<u64>
     }
 }
 
-/// Returns the token whose text this is; `Name` if the text has no token of its own.
+/// Returns the token that a text means: a number, a symbol, a word that has a token of its own, or a register. Returns
+/// `Name` for any other text.
 pub fn kind_of(text: &[u8]) -> Token
     ensures { result ≡ spec.kind_of text.now }
 {

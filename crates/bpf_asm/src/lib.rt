@@ -9,7 +9,7 @@ ghost use Rattle.bpf_asm.specs.Numbered.{line_of_unit, numbered_from, front_line
 ghost use Rattle.bpf_asm.specs.Program as spec;
 ghost use Rattle.bpf_asm.specs.RoundTrip.{RoundTrip};
 ghost use Rattle.bpf_asm.specs.Sound.{AreSound};
-ghost use Rattle.bpf_asm.specs.Text.{canon, high_of, instruction_text};
+ghost use Rattle.bpf_asm.specs.Text.{canonical_text, high_of, instruction_text};
 ghost use Rattle.bpf_model.specs.declared.limits.TheConstants.{UNITS};
 
 use bpf_decode::{Code, Inst, Unit};
@@ -45,8 +45,8 @@ mod units;
 pub use flaw::AsmFlaw;
 pub use program_file::{MOST_BYTES, ProgramFileFault};
 
-/// Returns the number in the first of `units` if that is the second unit of a wide load: the upper 32 bits of the
-/// load's number. Otherwise returns 0. `units` are the units of a program after the first unit of an instruction.
+/// Returns the upper 32 bits of a wide load's number, or 0 for any other instruction. `units` are the units after the
+/// instruction's first unit. In a wide load, the first of them is its second unit, which holds these bits.
 fn high(units: &[Unit]) -> i32
     ensures { result ≡ high_of units.now }
 {
@@ -59,7 +59,7 @@ fn high(units: &[Unit]) -> i32
 
 /// Returns the text of a program: one line for each instruction, each with its LF. The error is that memory ran out.
 pub fn disassemble(alloc: Global, code: &Code) -> Result<String, AllocError>
-    ensures { IfOk result (λ text. string_bytes text ≡ canon code.now) }
+    ensures { IfOk result (λ text. string_bytes text ≡ canonical_text code.now) }
 {
     let mut out = String::new(alloc);
     let mut rest = code.units();
@@ -73,7 +73,7 @@ pub fn disassemble(alloc: Global, code: &Code) -> Result<String, AllocError>
 }
 
 /// Returns the line of the instruction that begins at unit `unit`, as `disassemble` writes it, with its LF. Units count
-/// from 0. Returns `None`, and takes no memory, if no instruction begins there. The error is that memory ran out.
+/// from 0. The error is that memory ran out. If no instruction begins there, returns `None`, and there is no error.
 pub fn instruction_line(alloc: Global, code: &Code, unit: u32) -> Result<Option<String>, AllocError>
     ensures line { IfOk result (λ found. option_map string_bytes found ≡ line_of_unit code.now unit) }
     ensures none { line_of_unit code.now unit ≡ None → IsOk result }
@@ -84,8 +84,8 @@ pub fn instruction_line(alloc: Global, code: &Code, unit: u32) -> Result<Option<
     }
 }
 
-/// Returns the line, with its LF, of the instruction that begins at the first of these units; `None` if no instruction
-/// begins there, or if there are no units. The error is that memory ran out. For `None` no memory is taken.
+/// Returns the line, with its LF, of the instruction that begins at the first of these units. The error is that memory
+/// ran out. If no instruction begins there, or if there are no units, returns `None`, and there is no error.
 fn front_line(alloc: Global, units: &[Unit]) -> Result<Option<String>, AllocError>
     ensures line { IfOk result (λ found. option_map string_bytes found ≡ front_of units.now) }
     ensures none { front_of units.now ≡ None → IsOk result }
@@ -120,7 +120,8 @@ pub fn disassemble_numbered(alloc: Global, code: &Code) -> Result<String, AllocE
 }
 
 /// Appends `number`, `: `, and the line of the instruction `inst` with its LF. `number` is that of the instruction's
-/// first unit. `high` is the upper 32 bits of a wide load's number, and isn't used for other instructions.
+/// first unit. `high` is the upper 32 bits of a wide load's number, and isn't used for other instructions. The error is
+/// that memory ran out.
 fn write_numbered(out: &mut String, number: u64, inst: Inst, high: i32) -> Result<(), AllocError>
     ensures { OnOk result (string_bytes out.new ≡ string_bytes out.old ++ decimal number ++ codes ": "
         ++ instruction_text (form_of inst.opcode) inst high) }
@@ -135,11 +136,12 @@ fn is_length(count: u64) -> bool
     1 <= count && count <= 512
 }
 
-// Returns the program that the parsed lines spell. `rows` must be as `line::rows_of` returns it. The error is that the
-// program doesn't have 1 to 512 units, else the fault of the first line with a wrong label, or that memory ran out. No
-// memory is taken before the units are counted.
+// Returns the program that the rows, which are parsed lines, assemble to. Each row must have its numbers in range, and
+// its instruction, if it has one, must be of this profile; so are the rows that `line::rows_of` returns. The error is
+// `Length` if the program doesn't have 1 to 512 units. Otherwise it is `BadLabel` for the first row with a wrong label,
+// or that memory ran out. `Length` is found before any memory is taken.
 fn assemble_rows(alloc: Global, rows: &[(Line, &[u8])]) -> Result<Code, AsmFault>
-    requires fits { spec.AreRight (map (λ p. spec.row p.0 p.1.now) rows.now) }
+    requires fits { spec.AreInRange (map (λ p. spec.row p.0 p.1.now) rows.now) }
     requires sound { AreSound (map (λ p. spec.row p.0 p.1.now) rows.now) }
     ensures ok { IfOk result (λ code. code ≡ spec.spelled (map (λ p. spec.row p.0 p.1.now) rows.now)) }
     ensures none { IfOk result (λ code. spec.rows_fault (map (λ p. spec.row p.0 p.1.now) rows.now) ≡ None) }
@@ -169,10 +171,10 @@ fn assemble_rows(alloc: Global, rows: &[(Line, &[u8])]) -> Result<Code, AsmFault
 }
 
 /// Assembles a text, and returns its program. The error is the fault of the first line that can't be parsed or has a
-/// number out of range. Else it is that the program doesn't have 1 to 512 units, else the fault of the first line with
-/// a wrong label. It can also be that memory ran out.
+/// number out of range. If there is no such line, it is `Length` if the program doesn't have 1 to 512 units, and
+/// otherwise the fault of the first line with a wrong label. It can also be that memory ran out.
 pub fn assemble(alloc: Global, text: &[u8]) -> Result<Code, AsmFault>
-    ensures ok { IfOk result (λ code. spec.Spells text.now code) }
+    ensures ok { IfOk result (λ code. spec.AssemblesTo text.now code) }
     ensures refused { IfErr result (λ fault. spec.IsRefused text.now fault) }
 {
     let Ok(lines) = line::cut(alloc, text) else {

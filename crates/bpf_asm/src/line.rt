@@ -4,7 +4,7 @@ ghost use Rattle.std.specs.Prelude.{◌≡◌, ◌^◌, ◌≤◌, ◌<◌, ◌+
 ghost use Rattle.std.specs.Prelude.{false, nat_lt, Err, IsOk, None};
 ghost use Rattle.std.specs.List.{list_all};
 ghost use Rattle.bpf_asm.specs.Program as spec;
-ghost use Rattle.bpf_asm.specs.Grammar.{line_of as line_said};
+ghost use Rattle.bpf_asm.specs.Grammar.{line_of as parsed_line};
 ghost use Rattle.bpf_asm.specs.Lex.{split};
 
 use crate::AsmFault;
@@ -59,18 +59,18 @@ fn label_of<'a>(line: Line, words: &[&'a [u8]]) -> &'a [u8]
     }
 }
 
-// Parses the tokens of a line, and returns the parsed line with its label; `None` if they can't be parsed. `words` are
-// the texts of the tokens.
+// Parses the tokens of a line, and returns the parsed line with the label that `row_of` describes. Returns `None` if
+// they can't be parsed. `words` are the texts of the tokens.
 fn row_with<'a>(tokens: &[Token], words: &[&'a [u8]]) -> Option<(Line, &'a [u8])>
     ensures { option_map (λ p. spec.row p.0 p.1.now) result
-        ≡ spec.row_with (line_said tokens.now) (map (λ t. t.now) words.now) }
+        ≡ spec.row_with (parsed_line tokens.now) (map (λ t. t.now) words.now) }
 {
-    let says = line_of(tokens)?;
-    Some((says, label_of(says, words)))
+    let parsed = line_of(tokens)?;
+    Some((parsed, label_of(parsed, words)))
 }
 
-// Parses a line, given the texts of its tokens, and returns the parsed line with its label; `None` if it can't be
-// parsed. The error is that memory ran out.
+// Parses a line, given the texts of its tokens, and returns the parsed line with the label that `row_of` describes.
+// Returns `None` if it can't be parsed. The error is that memory ran out.
 fn row_by<'a>(alloc: Global, words: &[&'a [u8]]) -> Result<Option<(Line, &'a [u8])>, AllocError>
     ensures { IfOk result (λ found. option_map (λ p. spec.row p.0 p.1.now) found
         ≡ spec.row_by (Some (map (λ t. t.now) words.now))) }
@@ -79,10 +79,10 @@ fn row_by<'a>(alloc: Global, words: &[&'a [u8]]) -> Result<Option<(Line, &'a [u8
     Ok(row_with(tokens.as_slice(), words))
 }
 
-/// Parses a line without its LF, and returns the parsed line with a label. For a line that defines a label, it is this
-/// label. For an instruction, it is the text of the last token, which in a jump to a label is the target. For an empty
-/// line, it is empty. Returns `None` if the line can't be parsed. A line with a byte that isn't ASCII, even in its
-/// comment, can't be parsed, and takes no memory. The error is that memory ran out.
+/// Parses a line, given without its LF, and returns the parsed line with a label. This is the label that the line
+/// defines, or the text of an instruction's last token, which in a jump to a label is that label. For an empty line it
+/// is empty. Returns `None` if the line can't be parsed. The error is that memory ran out. A line with a byte that
+/// isn't ASCII, even in its comment, gives `None` and no error.
 pub fn row_of<'a>(alloc: Global, line: &'a [u8]) -> Result<Option<(Line, &'a [u8])>, AllocError>
     ensures found { IfOk result (λ found. option_map (λ p. spec.row p.0 p.1.now) found ≡ spec.row_of line.now) }
     ensures other { list_all (λ b. nat_lt b 128) line.now ≡ false → IsOk result }
@@ -93,7 +93,7 @@ pub fn row_of<'a>(alloc: Global, line: &'a [u8]) -> Result<Option<(Line, &'a [u8
     }
 }
 
-// Returns whether a number is in the range from minus `half` to `half` - 1.
+// Returns whether a number is in the range from minus `half` to `half` - 1. A number whose `size` is `None` isn't.
 fn fits(half: u64, value: Value) -> bool
     ensures { result ≡ spec.fits half value }
 {
@@ -148,8 +148,8 @@ fn line_len(text: &[u8]) -> usize
     at
 }
 
-// Leaves out the first `n` bytes of a text and the byte after them, which is the LF of a line, and returns the rest.
-// The rest is empty if the text has only `n` bytes. The text must have at least `n` bytes.
+// Returns a text without its first `n` bytes and the byte after them, which is an LF if they are a line. The result is
+// empty if the text has only `n` bytes. The text must have at least `n` bytes.
 fn past(text: &[u8], n: usize) -> &[u8]
     requires { n ≤ length text.now }
     ensures value { result.now ≡ drop (n + 1) text.now }
@@ -160,7 +160,7 @@ fn past(text: &[u8], n: usize) -> &[u8]
     }
 }
 
-/// Splits a text into its lines, and returns them without their LF. The last line may lack its LF. An empty text has no
+/// Splits a text into its lines, and returns them without their LF. The last line needs no LF. An empty text has no
 /// lines. The error is that memory ran out.
 pub fn cut<'a>(alloc: Global, text: &'a [u8]) -> Result<Vec<&'a [u8]>, AllocError>
     ensures { IfOk result (λ v. map (λ t. t.now) v.items ≡ spec.cut text.now) }
@@ -176,9 +176,9 @@ pub fn cut<'a>(alloc: Global, text: &'a [u8]) -> Result<Vec<&'a [u8]>, AllocErro
     Ok(lines)
 }
 
-/// Parses line `number`, and returns the parsed line with the label that `row_of` returns. The error is that the line
-/// can't be parsed (A1), that a number in it is out of range (A3), or that memory ran out. A line with a byte that
-/// isn't ASCII can't be parsed, and takes no memory.
+/// Parses `line`, whose number in the text is `number`, and returns the parsed line with the label that `row_of`
+/// describes. The error is that the line can't be parsed (A1), that a number in it is out of range (A3), or that memory
+/// ran out. A line with a byte that isn't ASCII always gives A1.
 fn row_at<'a>(alloc: Global, number: u64, line: &'a [u8]) -> Result<(Line, &'a [u8]), AsmFault>
     ensures ok { IfOk result (λ p. spec.row_of line.now ≡ Some (spec.row p.0 p.1.now)) }
     ensures none { IfOk result (λ p. spec.row_fault number (spec.row_of line.now) ≡ None) }
@@ -188,18 +188,18 @@ fn row_at<'a>(alloc: Global, number: u64, line: &'a [u8]) -> Result<(Line, &'a [
     let Ok(found) = row_of(alloc, line) else {
         return Err(AsmFault::OutOfMemory);
     };
-    let Some((says, label)) = found else {
+    let Some((parsed, label)) = found else {
         return Err(AsmFault::BadLine(number));
     };
-    if line_fits(says) {
-        Ok((says, label))
+    if line_fits(parsed) {
+        Ok((parsed, label))
     } else {
         Err(AsmFault::OutOfRange(number))
     }
 }
 
-/// Parses all lines, and returns each with the label that `row_of` returns. The error is the fault of the first line
-/// that can't be parsed (A1) or has a number out of range (A3). It can also be that memory ran out.
+/// Parses all lines, and returns each parsed line with the label that `row_of` describes. The error is the fault of the
+/// first line that can't be parsed (A1) or has a number out of range (A3). It can also be that memory ran out.
 pub fn rows_of<'a>(alloc: Global, lines: &[&'a [u8]]) -> Result<Vec<(Line, &'a [u8])>, AsmFault>
     ensures ok { IfOk result
         (λ v. map (λ p. spec.row p.0 p.1.now) v.items ≡ spec.rows_of (map (λ t. t.now) lines.now)) }

@@ -1,13 +1,13 @@
 //! Program files. A program file has the bytes of a program as hexadecimal digits. Blanks in it are skipped.
 ghost use Rattle.std.specs.Prelude.{◌≡◌, ◌*◌, ◌+◌, ◌%◌, ◌≤◌, ◌<◌, length, filter, not, IfOk, OnOk, Err, ◌++◌, string_bytes};
-ghost use Rattle.bpf_asm.specs.ProgramFile.{Gives, bytes_or_fault, program_in, is_blank, line_at, unit_lines};
+ghost use Rattle.bpf_asm.specs.ProgramFile.{Gives, bytes_or_fault, program_in, is_blank, unit_line, unit_lines};
 ghost use Rattle.hex.specs.Hex.{decode_of};
 
 use hex::FromHexError;
 use std::alloc::{AllocError, Global};
 use std::fmt;
 
-/// How many bytes a program file or an assembler text can have at most.
+/// The most bytes that a program file or an assembler text can have.
 pub const MOST_BYTES: usize = 65_536;
 
 /// Why a program file can't be read.
@@ -64,8 +64,8 @@ fn without_blanks(alloc: Global, text: &[u8]) -> Result<Vec<u8>, AllocError>
         .collect(alloc)
 }
 
-/// Returns the bytes that hexadecimal digits spell. The error is that a byte isn't a hexadecimal digit, that the number
-/// of digits is odd, or that memory ran out. For an odd number of digits no memory is taken.
+/// Returns the bytes that hexadecimal digits spell. The error is `BadDigits` if the number of digits is odd. Otherwise
+/// it is `BadDigits` if a byte isn't a hexadecimal digit, or that memory ran out.
 fn bytes_of(alloc: Global, digits: &[u8]) -> Result<Vec<u8>, ProgramFileFault>
     ensures given { Gives (λ bytes. bytes.items) result (bytes_or_fault (decode_of digits.now)) }
     ensures odd { length digits.now % 2 ≡ 1 → result ≡ Err ProgramFileFault.BadDigits }
@@ -80,8 +80,8 @@ fn bytes_of(alloc: Global, digits: &[u8]) -> Result<Vec<u8>, ProgramFileFault>
 }
 
 /// Reads a program file, whose bytes are `text`, and returns the program's bytes. Spaces, tabs, CR and LF are skipped.
-/// The error is `TooLong` if the file has more than 65,536 bytes. Otherwise it is `BadDigits` if another byte isn't a
-/// hexadecimal digit, in either case, or if the number of digits is odd; or it is that memory ran out.
+/// The error is `TooLong` if the file has more than 65,536 bytes. Otherwise it is `BadDigits` if any other byte isn't a
+/// hexadecimal digit (lower or upper case) or if the number of digits is odd, or it is that memory ran out.
 #[tactic(auto, unfolding(crate::specs::ProgramFile::program_in))]
 pub fn read_program(alloc: Global, text: &[u8]) -> Result<Vec<u8>, ProgramFileFault>
     ensures given { Gives (λ bytes. bytes.items) result (program_in text.now) }
@@ -94,11 +94,11 @@ pub fn read_program(alloc: Global, text: &[u8]) -> Result<Vec<u8>, ProgramFileFa
     bytes_of(alloc, digits.as_slice())
 }
 
-/// Appends the line of unit `unit`, counted from 0, of the program in `bytes`: 16 lower case hexadecimal digits and an
-/// LF. All 8 bytes of this unit must be in `bytes`. The error is that memory ran out.
+/// Appends a unit (8 bytes) of the program in `bytes` as a line: 16 lower case hexadecimal digits and an LF. `unit` is
+/// its number, counted from 0. All 8 bytes of the unit must be in `bytes`. The error is that memory ran out.
 fn push_line(alloc: Global, text: &mut String, bytes: &[u8], unit: usize) -> Result<(), AllocError>
     requires { 8 * unit + 8 ≤ length bytes.now }
-    ensures { OnOk result (string_bytes text.new ≡ string_bytes text.old ++ line_at bytes.now unit) }
+    ensures { OnOk result (string_bytes text.new ≡ string_bytes text.old ++ unit_line bytes.now unit) }
 {
     let digits = hex::encode(alloc, &bytes[8 * unit..8 * unit + 8])?;
     text.push_str(digits.as_str())?;

@@ -6,7 +6,7 @@ ghost use Rattle.std.specs.Int.{cast_unsigned, w32};
 ghost use Rattle.std.specs.Fmt.{decimal, signed_decimal};
 ghost use Rattle.bpf_asm.specs.Text.{line_text, pieces, register_text, operator_text, condition_text, size_text};
 ghost use Rattle.bpf_asm.specs.Text.{signed_size_text, extension_text, order_text, swap_text, instruction_text};
-ghost use Rattle.bpf_asm.specs.Text.{distance, number, operand, left_width, right_pieces, upper, place};
+ghost use Rattle.bpf_asm.specs.Text.{distance, number, operand, left_width, right_pieces, wide_value, place};
 ghost use Rattle.bpf_asm.specs.Text.{HasSecondOperand, Next, After};
 ghost use Rattle.bpf_asm.specs.Words.{shift_text, place_text};
 ghost use Rattle.bpf_model.specs.Reading.{form_of};
@@ -14,21 +14,22 @@ ghost use Rattle.bpf_model.specs.Reading.{form_of};
 use bpf_model::instruction::{Condition, Form, Inst, Operator, Size, Source, Width};
 use std::alloc::AllocError;
 
-// Appends `before` and a number in decimal digits.
+// Appends `before` and a number in decimal digits. The error is that memory ran out.
 fn write_number(out: &mut String, before: &str, n: u64) -> Result<(), AllocError>
     ensures { OnOk result (string_bytes out.new ≡ string_bytes out.old ++ before.now ++ decimal n) }
 {
     write!(out, "{before}{n}")
 }
 
-// Appends `before` and a number in decimal digits, with `-` before a negative one.
+// Appends `before` and a number in decimal digits, with `-` before a negative one. The error is that memory ran out.
 fn write_signed(out: &mut String, before: &str, n: i32) -> Result<(), AllocError>
     ensures { OnOk result (string_bytes out.new ≡ string_bytes out.old ++ before.now ++ signed_decimal n) }
 {
     write!(out, "{before}{n}")
 }
 
-// Appends `before` and the name of a register: `r` for 64 bits, `w` for 32, and its number.
+// Appends `before` and the name of a register: `r` for 64 bits or `w` for 32, and its number. The error is that memory
+// ran out.
 fn write_register(
     out: &mut String,
     before: &str,
@@ -45,7 +46,8 @@ fn write_register(
     }
 }
 
-// Appends a space, a number in decimal digits with `-` before a negative one, and the end of the line, an LF.
+// Appends a space, a number in decimal digits with `-` before a negative one, and an LF, the end of the line. The error
+// is that memory ran out.
 fn end_with_number(out: &mut String, n: i32) -> Result<(), AllocError>
     ensures { OnOk result (string_bytes out.new ≡ string_bytes out.old ++ line_text (number n [])) }
 {
@@ -53,7 +55,7 @@ fn end_with_number(out: &mut String, n: i32) -> Result<(), AllocError>
     out.push_str("\n")
 }
 
-// Appends a space, the name of a register, and the end of the line, an LF.
+// Appends a space, the name of a register, and an LF, the end of the line. The error is that memory ran out.
 fn end_with_register(out: &mut String, width: Width, register: u8) -> Result<(), AllocError>
     ensures { OnOk result (string_bytes out.new ≡ string_bytes out.old
         ++ line_text (After (register_text width register) ∷ [])) }
@@ -143,7 +145,8 @@ fn name_of_extension(offset: i16) -> &'static str
     }
 }
 
-// Appends the second operand of an instruction, a number or a register, and the end of the line.
+// Appends the second operand of an instruction, a number or a register, and the end of the line. The error is that
+// memory ran out.
 fn write_operand(
     out: &mut String,
     source: Source,
@@ -159,8 +162,8 @@ fn write_operand(
     }
 }
 
-// Appends what follows the `=` of END, as in ` le16 r1`, and the end of the line. The next five functions also
-// append what follows the symbol of an operator, and the end of the line.
+// Appends what follows the `=` of END (a swap of bytes), as in ` le16 r1`, and the end of the line. The next five
+// functions do the same for what follows the symbol of other operators. The error is that memory ran out.
 fn write_swapped(
     out: &mut String,
     width: Width,
@@ -216,7 +219,8 @@ fn write_moved(out: &mut String, width: Width, source: Source, inst: Inst) -> Re
     }
 }
 
-// Appends the second operand and the end of the line. The operator must not be NEG, END or MOV.
+// Appends the second operand, a number or a register, and the end of the line. The operator must not be NEG, END or
+// MOV. The error is that memory ran out.
 fn write_second(
     out: &mut String,
     operator: Operator,
@@ -249,7 +253,8 @@ fn write_right(
     }
 }
 
-// Returns the width of the register before an operator: 64 bits for END, else the instruction's width.
+// Returns the width of the register before an operator: 64 bits for END (a swap of bytes), else the instruction's
+// width.
 fn width_of_left(operator: Operator, width: Width) -> Width
     ensures { result ≡ left_width operator width }
 {
@@ -275,9 +280,9 @@ fn write_arithmetic(
     write_right(out, operator, width, source, inst)
 }
 
-// Returns the number of a wide load, given its lower and its upper 32 bits.
+// Returns the 64-bit number of a wide load, given its lower and its upper 32 bits.
 fn wide_number(low: i32, high: i32) -> u64
-    ensures { result ≡ upper low high }
+    ensures { result ≡ wide_value low high }
 {
     u64::from(low.cast_unsigned()) + u64::from(high.cast_unsigned()) * 4_294_967_296
 }
@@ -292,7 +297,7 @@ fn write_wide(out: &mut String, dst: u8, value: u64) -> Result<(), AllocError>
     out.push_str(" ll\n")
 }
 
-// Appends an offset from a register, as in ` + 8` or ` - 8`.
+// Appends an offset from a register, as in ` + 8` or ` - 8`. The error is that memory ran out.
 fn write_shift(out: &mut String, offset: i16) -> Result<(), AllocError>
     ensures { OnOk result (string_bytes out.new ≡ string_bytes out.old ++ shift_text offset) }
 {
@@ -303,7 +308,7 @@ fn write_shift(out: &mut String, offset: i16) -> Result<(), AllocError>
     }
 }
 
-// Appends a place in memory, as in `*(u8 *)(r2 + 8)`.
+// Appends a place in memory, as in `*(u8 *)(r2 + 8)`. The error is that memory ran out.
 fn write_place(out: &mut String, size: &str, base: u8, offset: i16) -> Result<(), AllocError>
     ensures { OnOk result (string_bytes out.new ≡ string_bytes out.old ++ place_text size.now base offset) }
 {
@@ -314,7 +319,8 @@ fn write_place(out: &mut String, size: &str, base: u8, offset: i16) -> Result<()
     out.push_str(")")
 }
 
-// Appends the line of a load, with its LF. `size` is the name of its size, such as `u8`.
+// Appends the line of a load, with its LF. `size` is the name of its size, such as `u8`. The error is that memory ran
+// out.
 fn write_load(out: &mut String, size: &str, inst: Inst) -> Result<(), AllocError>
     ensures { OnOk result (string_bytes out.new ≡ string_bytes out.old
         ++ line_text (Next (register_text Width.Bits64 inst.dst) ∷ After (codes "=") ∷ After (codes "*")
@@ -345,7 +351,7 @@ fn write_register_store(out: &mut String, size: Size, inst: Inst) -> Result<(), 
 }
 
 // Appends `word`, the distance `to` with its sign, and the end of the line. `word` is `goto` or `gotol`, and can begin
-// with a space. `to` is in units, from the unit after the jump.
+// with a space. `to` is in units, from the unit after the jump. The error is that memory ran out.
 fn write_goto(out: &mut String, word: &str, to: i32) -> Result<(), AllocError>
     ensures { OnOk result (string_bytes out.new ≡ string_bytes out.old
         ++ line_text (Next word.now ∷ distance to [])) }
@@ -359,7 +365,8 @@ fn write_goto(out: &mut String, word: &str, to: i32) -> Result<(), AllocError>
     }
 }
 
-// Appends what comes after the symbol of a comparison: the second operand, the jump, and the end of the line.
+// Appends what comes after the symbol of a comparison: the second operand, the jump, and the end of the line. The error
+// is that memory ran out.
 fn write_compared(
     out: &mut String,
     width: Width,
@@ -405,8 +412,8 @@ fn write_call(out: &mut String, inst: Inst) -> Result<(), AllocError>
     end_with_number(out, inst.imm)
 }
 
-/// Appends the line of an instruction, with its LF, or nothing if no form has its opcode. `high` is the upper 32 bits
-/// of a wide load's number, and isn't used for other instructions.
+/// Appends the line of an instruction, with its LF, or nothing if its opcode is unknown. `high` is the upper 32 bits of
+/// a wide load's number, and isn't used for other instructions. The error is that memory ran out.
 pub fn write_instruction(out: &mut String, inst: Inst, high: i32) -> Result<(), AllocError>
     ensures { OnOk result (string_bytes out.new ≡ string_bytes out.old
         ++ instruction_text (form_of inst.opcode) inst high) }

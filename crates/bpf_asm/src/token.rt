@@ -14,7 +14,8 @@ pub enum Token {
     Compare(Condition),
     Unsigned(Size),
     Signed(Size),
-    /// One of the words `le16` to `bswap64`: the width and the source of its END instruction, and the number of bits.
+    /// One of the words for END (a swap of bytes), `le16` to `bswap64`: the width and the source of its instruction,
+    /// and the number of bits.
     Swap(Width, Source, u64),
     If,
     Goto,
@@ -32,7 +33,7 @@ pub enum Token {
     Name,
 }
 
-/// The symbols, each with its token.
+/// The symbols of the assembler text, each with its token.
 pub const SYMBOLS: [(&[u8], Token); 31] = [
     (b"+=", Token::Assign(Operator::Add, 0)),
     (b"-=", Token::Assign(Operator::Sub, 0)),
@@ -67,7 +68,7 @@ pub const SYMBOLS: [(&[u8], Token); 31] = [
     (b":", Token::Colon),
 ];
 
-/// The words that have a token of their own.
+/// The words that have a token of their own, each with this token.
 pub const WORDS: [(&[u8], Token); 22] = [
     (b"if", Token::If),
     (b"goto", Token::Goto),
@@ -102,9 +103,9 @@ pub const WORDS: [(&[u8], Token); 22] = [
     ),
 ];
 
-ghost use Rattle.bpf_asm.specs.Tables.{TablesAreRight};
+ghost use Rattle.bpf_asm.specs.Tables.{TablesMatchDefinitions};
 
-/// Does nothing. Its contract is a law: the tables of symbols and words are those of the definitions.
+/// Does nothing. Its contract is a law: `SYMBOLS` and `WORDS` are the tables that the definitions write out.
 pub fn tables()
-    ensures { TablesAreRight }
+    ensures { TablesMatchDefinitions }
 {}

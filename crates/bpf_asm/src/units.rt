@@ -183,8 +183,8 @@ fn apart(place: u64, at: u64) -> i16
     to - from
 }
 
-// Returns the distance of a jump at unit `at` to a label, in units from the unit after the jump. A label that isn't in
-// `labels` counts as one that names unit 0. `at` and the units in `labels` must be at most 512.
+// Returns the distance of a jump at unit `at` to the label `name`, in units from the unit after the jump. A label that
+// isn't in `labels` counts as one that names unit 0. `at` and the units in `labels` must be at most 512.
 fn distance_to(labels: &[(&[u8], u64)], at: u64, name: &[u8]) -> i16
     requires at { at ≤ UNITS }
     requires places { spec.AreWithin UNITS (map (λ d. spec.definition d.0.now d.1) labels.now) }
@@ -260,23 +260,23 @@ fn push_wide(units: &mut Vec<Unit>, dst: u8, n: u64) -> Result<(), AllocError>
     Ok(units.push(Unit::Second(high_half(n)))?)
 }
 
-// Appends the units of a parsed line. The first of them is unit `at` of the program. `name` is the line's label, which
-// is used only for a jump to a label. The line's numbers must be in range, as `line_fits` says, and `at` and the units
-// in `labels` must be at most 512.
+// Appends the units of a parsed line, the first of which is unit `at` of the program. `name` is the line's label, and
+// is used only for a jump to a label. The line's numbers must be in range, as `line_fits` checks. `at` and the units in
+// `labels` must be at most 512. The error is that memory ran out.
 fn push_units(
     units: &mut Vec<Unit>,
     labels: &[(&[u8], u64)],
     at: u64,
     name: &[u8],
-    says: Line,
+    parsed: Line,
 ) -> Result<(), AllocError>
-    requires fits { spec.line_fits says ≡ true }
+    requires fits { spec.line_fits parsed ≡ true }
     requires at { at ≤ UNITS }
     requires places { spec.AreWithin UNITS (map (λ d. spec.definition d.0.now d.1) labels.now) }
     ensures { OnOk result (units.new.items ≡ units.old.items
-        ++ spec.line_units (map (λ d. spec.definition d.0.now d.1) labels.now) at name.now says) }
+        ++ spec.line_units (map (λ d. spec.definition d.0.now d.1) labels.now) at name.now parsed) }
 {
-    match says {
+    match parsed {
         Line::Empty => Ok(()),
         Line::Label => Ok(()),
         Line::Statement(Statement::Plain(form, fields)) => {
@@ -297,14 +297,15 @@ fn push_units(
     }
 }
 
-/// Returns the units of all rows, in order. `rows` must be as `line::rows_of` returns it, with at most 512 units in
-/// all, and `labels` as `label::labels_of` returns it for these rows. The error is that memory ran out.
+/// Returns the units of all rows, in order. The rows' numbers must be in range, as `line::rows_of` checks, and the rows
+/// must have at most 512 units in all. The units in `labels` must be at most 512; callers pass what `label::labels_of`
+/// returns for these rows. The error is that memory ran out.
 pub fn units_of(
     alloc: Global,
     labels: &[(&[u8], u64)],
     rows: &[(Line, &[u8])],
 ) -> Result<Vec<Unit>, AllocError>
-    requires fits { spec.AreRight (map (λ p. spec.row p.0 p.1.now) rows.now) }
+    requires fits { spec.AreInRange (map (λ p. spec.row p.0 p.1.now) rows.now) }
     requires few { spec.units_in (map (λ p. spec.row p.0 p.1.now) rows.now) ≤ UNITS }
     requires places { spec.AreWithin UNITS (map (λ d. spec.definition d.0.now d.1) labels.now) }
     ensures { IfOk result

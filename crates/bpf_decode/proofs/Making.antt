@@ -1,4 +1,5 @@
--- Instructions without a fault, each wide load with its second unit, are a program: their bytes are decoded as these units.
+-- Instructions without a fault, each wide load with its second unit, are a program: their bytes are decoded as these
+-- units.
 use Rattle.std.proofs.Common.{◌≡◌, ℕ, zero, suc, ◌+◌, ◌*◌, ◌<◌, ◌≤◌, List, [], ◌∷◌, ◌++◌, Option, Some, None, Bool, true, false, refl, sym, ap, ◌∙◌, subst}
 use Rattle.std.proofs.Common.{arith, length, drop, append_assoc, w16, w32, FitsSigned}
 use Rattle.std.specs.Prelude.{◌/◌, ◌%◌, ◌==◌, ◌&&◌, not, cond, slice_index, ℤ}
@@ -20,7 +21,7 @@ use Rattle.bpf_model.specs.declared.instruction.Unit.TheVariants.{First, Second}
 use Rattle.bpf_model.specs.declared.instruction.UnitFault.{UnitFault}
 use Rattle.bpf_model.specs.declared.instruction.UnitFault.TheVariants.{Field, Register as BadRegister}
 use Rattle.bpf_model.specs.Reading.{unit_at, units_below, unit_fault, fields_at, imm_at, begins, first_fault, second_fault, form_of, opcode_at, is_last}
-use Rattle.bpf_model.specs.Reading.{fault_below, or_at, is_wide, half_wide, has_right_fields, has_right_registers}
+use Rattle.bpf_model.specs.Reading.{fault_below, or_at, is_wide, half_wide, has_valid_fields, has_valid_registers}
 use Rattle.bpf_decode.specs.Encoded.{unit_bytes, encoded}
 use Rattle.bpf_decode.specs.Faults.{AreBytes, IsProgram}
 use Rattle.bpf_decode.specs.Making.{IsInstruction, AreUnits}
@@ -106,15 +107,15 @@ passes true true o e f g = g
 passes true false o e f g = absurd (cc)
 passes false b o e f g = absurd (cc)
 
--- an instruction that has no fault before other units has none as the program's last unit, unless it is a wide load
+-- an instruction that has no fault if a unit follows it has none as the last unit either, unless it is a wide load
 sound_at : (o : Option Form) (i : Inst) (last : Bool) → first_fault o i false ≡ None → (is_wide o ≡ true → last ≡ false) → first_fault o i last ≡ None
 sound_at o i false e w = e
 sound_at None i true e w = absurd (cc)
 sound_at (Some form) i true e w =
-    let h = two_tests (has_right_fields form i) (has_right_registers form i) (half_wide form false) e in
+    let h = two_tests (has_valid_fields form i) (has_valid_registers form i) (half_wide form false) e in
     let narrow : is_wide (Some form) ≡ false =
     elim (is_wide (Some form)) as (λ b. (b ≡ true → true ≡ false) → b ≡ false) [ true ↦ (λ f. f refl) | false ↦ (λ f. refl) ] w in
-    passes (has_right_fields form i) (has_right_registers form i) (half_wide form true) h.0 h.1 (not_half form narrow)
+    passes (has_valid_fields form i) (has_valid_registers form i) (half_wide form true) h.0 h.1 (not_half form narrow)
 
 some_next : (us : List ProgramUnit) → AreUnits false us → 0 < length us
 some_next [] h = absurd h
@@ -279,8 +280,8 @@ half_false Exit = refl
 sound_before : (o : Option Form) (i : Inst) (last : Bool) → first_fault o i last ≡ None → first_fault o i false ≡ None
 sound_before None i last e = absurd (cc)
 sound_before (Some form) i last e =
-    let h = two_tests (has_right_fields form i) (has_right_registers form i) (half_wide form last) e in
-    passes (has_right_fields form i) (has_right_registers form i) (half_wide form false) h.0 h.1 (half_false form)
+    let h = two_tests (has_valid_fields form i) (has_valid_registers form i) (half_wide form last) e in
+    passes (has_valid_fields form i) (has_valid_registers form i) (half_wide form false) h.0 h.1 (half_false form)
 
 half_is : (f : Form) (last : Bool) → half_wide f last ≡ None → is_wide (Some f) ≡ true → last ≡ false
 half_is Wide true e w = absurd (cc)
@@ -289,7 +290,7 @@ half_is f last e w = absurd (cc)
 
 wide_goes_on : (o : Option Form) (i : Inst) (last : Bool) → first_fault o i last ≡ None → is_wide o ≡ true → last ≡ false
 wide_goes_on None i last e w = absurd (cc)
-wide_goes_on (Some form) i last e w = half_is form last (two_tests (has_right_fields form i) (has_right_registers form i) (half_wide form last) e).2 w
+wide_goes_on (Some form) i last e w = half_is form last (two_tests (has_valid_fields form i) (has_valid_registers form i) (half_wide form last) e).2 w
 
 same_inst : (i j : Inst) → First i ≡ First j → i ≡ j
 same_inst i j e = cc

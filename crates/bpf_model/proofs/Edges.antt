@@ -1,4 +1,5 @@
--- Closed examples: each operator and condition at edge values. The expected values are C's: tools/edges.c wrote this file.
+-- Closed examples: each operator and condition at edge values. The expected values are C's: tools/edges.c wrote this
+-- file.
 use Rattle.std.specs.Prelude.{◌≡◌, refl, ℕ, ℤ, pos, Bool, true, false, List, [], ◌∷◌, map}
 use Rattle.bpf_model.specs.declared.instruction.Width.{Width}
 use Rattle.bpf_model.specs.declared.instruction.Width.TheVariants.{Bits32, Bits64}
@@ -11,7 +12,7 @@ use Rattle.bpf_model.specs.declared.instruction.Condition.TheVariants.{Jeq, Jgt,
 use Rattle.bpf_model.specs.declared.instruction.Condition.TheVariants.{Jslt, Jsle}
 use Rattle.bpf_model.specs.Arithmetic.{alu, holds, swapped}
 
--- the operands, dst first
+-- the pairs of operands that each operator and condition is tried on, dst first
 abbrev pairs : List (ℕ × ℕ)
 pairs =
     (0, 0) ∷ (1, 0) ∷ (0, 1) ∷ (1, 1) ∷ (5, 3) ∷ (18446744073709551603, 3) ∷ (13, 18446744073709551613) ∷ (1, 31) ∷ (1, 32) ∷ (1, 63) ∷ (1, 64) ∷ (1, 65)

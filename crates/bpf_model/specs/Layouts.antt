@@ -5,7 +5,7 @@ use Rattle.bpf_model.specs.declared.context.Layout.TheVariants as layout
 use Rattle.bpf_model.specs.declared.context.Context.{Context}
 use Rattle.bpf_model.specs.declared.context.Context.TheVariants as context
 
--- how many bytes a context of a layout has
+-- the number of bytes of a context with this layout
 abbrev pub context_len : Layout → ℕ
 context_len layout.One = 64
 context_len layout.Two = 80

@@ -1,9 +1,9 @@
-// The context that a program is run on, and its two layouts.
+// The context of a run (the record of bytes that R1 points to when a program starts), and its two layouts.
 
 ghost use Rattle.std.specs.Prelude.{◌≡◌, ◌≤◌, length};
 ghost use Rattle.bpf_model.specs.Layouts.{context_len, layout_of, bytes_of};
 
-/// The layout of a context. It says which fields the context has, and so how many bytes.
+/// The layout of a context: which fields it has, and so how many bytes: 64 (`One`) or 80 (`Two`).
 #[derive(Clone, Copy, PartialEq)]
 pub enum Layout {
     One,
@@ -24,7 +24,7 @@ impl Layout {
     }
 }
 
-/// The bytes of a context, in the layout that the program was loaded for.
+/// The bytes of a context (the record that a program reads through R1), in one of the two layouts.
 #[derive(Clone, Copy, PartialEq)]
 pub enum Context {
     One([u8; 64]),
@@ -42,7 +42,7 @@ impl Context {
         }
     }
 
-    /// Returns all bytes of the context, the first one first.
+    /// Returns all bytes of the context, in their order.
     pub fn bytes(&self) -> &[u8]
         ensures bytes { result.now ≡ bytes_of self.now }
         ensures many { length result.now ≡ context_len (layout_of self.now) }

@@ -1,10 +1,10 @@
--- Promises: the commands that a table of subcommands describes to `clap`.
+-- Promises: which `clap` commands are made from descriptions of subcommands and arguments.
 use Rattle.std.specs.Prelude.{List, [], ◌∷◌, Some, codes}
 use Rattle.clap.specs.Words.{App, Rule, Text, new_app, new_rule, with_rule, with_subcommand}
-use Rattle.command_line.specs.Asked.{context_rule, file_rule, flag_rule, kind_rule, mask_rule, option_rule, spare_rule}
+use Rattle.command_line.specs.JobRequest.{context_rule, file_rule, flag_rule, kind_rule, mask_rule, option_rule, spare_rule}
 use Rattle.command_line.specs.declared.app.Argument.{Argument}
 use Rattle.command_line.specs.declared.app.Argument.TheVariants as argument
-use Rattle.command_line.specs.declared.app.Word.{Word}
+use Rattle.command_line.specs.declared.app.SubcommandDescription.{SubcommandDescription}
 
 abbrev pub rule_for : Argument → Rule
 rule_for (argument.File name help) = file_rule name.now
@@ -21,10 +21,10 @@ abbrev pub with_rules : App → List Argument → App
 with_rules a [] = a
 with_rules a (x ∷ xs) = with_rules (with_rule a (rule_for x)) xs
 
-abbrev pub app_for : Word → App
+abbrev pub app_for : SubcommandDescription → App
 app_for word = with_rules (new_app word.name.now) word.arguments.now
 
 -- adds these subcommands to a command, in their order
-abbrev pub with_words : App → List Word → App
+abbrev pub with_words : App → List SubcommandDescription → App
 with_words a [] = a
 with_words a (word ∷ words) = with_words (with_subcommand a (app_for word).top) words

@@ -1,49 +1,52 @@
--- Promises: why a command line has no job.
+-- Promises: which job or which fault a command line leads to.
 use Rattle.std.specs.Prelude.{◌≡◌, ◌≢◌, ◌⊎◌, ℕ, List, Option, Some, None, IsSome, Result, Ok, IsErr, String, string_bytes}
 use Rattle.std.specs.Global.{Global}
 use Rattle.std.specs.declared.alloc.AllocError.{AllocError}
 use Rattle.clap.specs.Words.{Row, Text}
 use Rattle.clap.specs.declared.error.kind.ErrorKind.{ErrorKind}
 use Rattle.clap.specs.declared.error.kind.ErrorKind.TheVariants as kind
-use Rattle.command_line.specs.Asked.{Asked, HasNoMask, IsNothing, IsShown, asked, asked_by, asked_of, files_in, mask_in, unasked_text}
+use Rattle.command_line.specs.JobRequest.{JobRequest, HasNoMask, HasNoJob, IsHelpOrVersion, requested, subcommand_request, parsed_request, files_in, mask_in, unasked_text}
 use Rattle.command_line.specs.declared.job.Job.{Job}
 use Rattle.command_line.specs.declared.job.CommandFault.{CommandFault}
 use Rattle.command_line.specs.declared.job.CommandFault.TheVariants as refusal
 
--- the result is the number that --counters gives; None only if it gives none
+-- The result is the number that --counters gives. It is None only if --counters has no value, or one that isn't the
+-- text of a number from 0 to 2^32 - 1.
 abbrev pub ReadsMask : List Row → Option ℕ → Type 0
 ReadsMask rows (Some n) = mask_in rows ≡ Some n
 ReadsMask rows None = (mask_in rows ≡ None) ⊎ HasNoMask rows
 
--- The result is the two files that the arguments named `first` and `second` give, or None if one of them isn't given.
--- For each `ask`, which makes a request of two files, `files_in` returns the request of the result's files, or None if
--- the result is None.
+-- The result is the two files that the arguments with these two names give, or None if one of them isn't given.
 abbrev pub FindsFiles : Text → Text → List Row → Option (String Global × String Global) → Type 0
 FindsFiles first second rows (Some p) =
-    (ask : Text → Text → Asked) → files_in first second ask rows ≡ Some (ask (string_bytes p.0) (string_bytes p.1))
-FindsFiles first second rows None = (ask : Text → Text → Asked) → files_in first second ask rows ≡ None
+    (ask : Text → Text → JobRequest) → files_in first second ask rows ≡ Some (ask (string_bytes p.0) (string_bytes p.1))
+FindsFiles first second rows None = (ask : Text → Text → JobRequest) → files_in first second ask rows ≡ None
 
--- the result is the job that is asked for; None only if no job is asked for
-abbrev pub Asks : Option Asked → Option Job → Type 0
-Asks wanted (Some job) = (wanted ≡ asked job) × IsSome (asked job)
+-- The result is the job that is asked for. It is None only if no job is asked for.
+abbrev pub Asks : Option JobRequest → Option Job → Type 0
+Asks wanted (Some job) = (wanted ≡ requested job) × IsSome (requested job)
 Asks wanted None = wanted ≡ None
 
--- the result is the job that a subcommand's values ask for; None only if they ask for no job or --counters is no mask
+-- The result is the job that a subcommand's values ask for. It is None only if they ask for no job, or if the value of
+-- --counters isn't the text of a number from 0 to 2^32 - 1.
 abbrev pub Finds : Text → List Row → Option Job → Type 0
-Finds name rows (Some job) = (asked_by name rows ≡ asked job) × IsSome (asked job)
-Finds name rows None = (asked_by name rows ≡ None) ⊎ HasNoMask rows
+Finds name rows (Some job) = (subcommand_request name rows ≡ requested job) × IsSome (requested job)
+Finds name rows None = (subcommand_request name rows ≡ None) ⊎ HasNoMask rows
 
-abbrev pub FindsIn : Option (Text × List Row) → Option Job → Type 0
-FindsIn found (Some job) = (asked_of found ≡ asked job) × IsSome (asked job)
-FindsIn found None = IsNothing found
+abbrev pub IsJobOfLine : Option (Text × List Row) → Option Job → Type 0
+IsJobOfLine found (Some job) = (parsed_request found ≡ requested job) × IsSome (requested job)
+IsJobOfLine found None = HasNoJob found
 
--- a usage message is returned only if the command line asks for no job, and it is the message for this case
-abbrev pub IsUnasked : Option (Text × List Row) → CommandFault → Type 0
-IsUnasked found (refusal.Usage text) = IsNothing found × (string_bytes text ≡ unasked_text found)
-IsUnasked found refusal.OutOfMemory = Unit {0}
+-- When a parsed command line can be refused with this fault:
+-- - `Usage` with the text `unasked_text`: if the command line asks for no job (`HasNoJob`)
+-- - `OutOfMemory`: always
+abbrev pub IsNoJobMessage : Option (Text × List Row) → CommandFault → Type 0
+IsNoJobMessage found (refusal.Usage text) = HasNoJob found × (string_bytes text ≡ unasked_text found)
+IsNoJobMessage found refusal.OutOfMemory = Unit {0}
 
--- A usage message is the text of an error that isn't the help, the version or out of memory. Out of memory is returned
--- if that is the error, or if its text couldn't be made.
+-- The fault that follows from an error of `clap`, given the kind of the error and its text:
+-- - `Usage` with this text: only if the kind isn't the help, the version or `OutOfMemory`
+-- - `OutOfMemory`: only if that is the kind, or if memory ran out when the text was made
 abbrev pub IsRefusalOf : ErrorKind → Result (String Global) AllocError → CommandFault → Type 0
-IsRefusalOf k made (refusal.Usage text) = (¬ IsShown k) × (k ≢ kind.OutOfMemory) × (made ≡ Ok text)
+IsRefusalOf k made (refusal.Usage text) = (¬ IsHelpOrVersion k) × (k ≢ kind.OutOfMemory) × (made ≡ Ok text)
 IsRefusalOf k made refusal.OutOfMemory = (k ≡ kind.OutOfMemory) ⊎ IsErr made

@@ -2,9 +2,9 @@
 ghost use Rattle.std.specs.Prelude.{◌≡◌, false, IfOk, codes};
 ghost use Rattle.clap.specs.Words.{app_of, new_app, rule_of, with_subcommand};
 ghost use Rattle.clap.specs.declared.builder.command.Command.TheViews.{out-Command};
-ghost use Rattle.command_line.specs.Asked.{context_rule, file_rule, flag_rule, kind_rule, mask_rule};
-ghost use Rattle.command_line.specs.Asked.{option_rule, spare_rule};
-ghost use Rattle.command_line.specs.Asked.{fc_app, top_app};
+ghost use Rattle.command_line.specs.JobRequest.{context_rule, file_rule, flag_rule, kind_rule, mask_rule};
+ghost use Rattle.command_line.specs.JobRequest.{option_rule, spare_rule};
+ghost use Rattle.command_line.specs.JobRequest.{fc_app, top_app};
 ghost use Rattle.command_line.specs.Described.{app_for, rule_for, with_words};
 
 use clap::{Arg, ArgAction, Command, value_parser};
@@ -15,7 +15,7 @@ use std::alloc::{AllocError, Global};
 enum Argument {
     /// A file that must be given: the argument's name, and its help text.
     File(&'static str, &'static str),
-    /// A file that may be left out: the argument's name, and its help text.
+    /// A file that can be left out: the argument's name, and its help text.
     SpareFile(&'static str, &'static str),
     /// The argument that says which rows `export` prints.
     Kind,
@@ -33,7 +33,7 @@ enum Argument {
 
 /// A subcommand: its name, its help text, an example, and its arguments.
 #[derive(Clone, Copy)]
-struct Word {
+struct SubcommandDescription {
     name: &'static str,
     about: &'static str,
     example: &'static str,
@@ -48,7 +48,7 @@ fn file_arg<'a>(alloc: Global, name: &'a str, help: &'a str) -> Arg<'a>
     Arg::new(alloc, name).help(help).required(true)
 }
 
-/// Makes the argument for a file that may be left out.
+/// Makes the argument for a file that can be left out.
 fn spare_arg<'a>(alloc: Global, name: &'a str, help: &'a str) -> Arg<'a>
     ensures rule { rule_of result ≡ spare_rule name.entry.now }
     ensures local { result.global ≡ false }
@@ -75,8 +75,8 @@ fn option_arg<'a>(alloc: Global, name: &'a str, value: &'a str, help: &'a str) -
         .help(help)
 }
 
-/// Makes the option `--counters`: the mask of the counters that a program declares, a number below 2^32. It is 0 if the
-/// option isn't given.
+/// Makes the option `--counters`: the mask of the counters that a program declares, a number below 2^32 in which bit c
+/// is counter c. It is 0 if the option isn't given.
 fn mask_arg<'a>(alloc: Global) -> Arg<'a>
     ensures rule { rule_of result ≡ mask_rule }
     ensures local { result.global ≡ false }
@@ -121,14 +121,14 @@ const OPENING: Argument = Argument::FileOption(
     "begin with the opening in this file, as carry prints it",
 );
 
-const WORDS: [Word; 9] = [
-    Word {
+const SUBCOMMANDS: [SubcommandDescription; 9] = [
+    SubcommandDescription {
         name: "asm",
         about: "Prints the units of a rule",
         example: "Example: fc asm rule.bpf",
         arguments: &[Argument::File("file", "the rule, as assembler text")],
     },
-    Word {
+    SubcommandDescription {
         name: "dis",
         about: "Prints a program as text",
         example: "Examples: fc dis rule.hex, fc dis --units rule.hex",
@@ -137,7 +137,7 @@ const WORDS: [Word; 9] = [
             Argument::Flag("units", "print each unit's number before its line"),
         ],
     },
-    Word {
+    SubcommandDescription {
         name: "verify",
         about: "Tells whether a program file is accepted",
         example: "Example: fc verify --counters 3 rule.hex",
@@ -147,7 +147,7 @@ const WORDS: [Word; 9] = [
             Argument::Context,
         ],
     },
-    Word {
+    SubcommandDescription {
         name: "play",
         about: "Answers each line of a script",
         example: "Example: fc play site.toml day.script",
@@ -157,7 +157,7 @@ const WORDS: [Word; 9] = [
             OPENING,
         ],
     },
-    Word {
+    SubcommandDescription {
         name: "audit",
         about: "Tells whether a journal is a legal history",
         example: "Examples: fc audit site.toml day.journal, fc audit --days days site.toml",
@@ -168,7 +168,7 @@ const WORDS: [Word; 9] = [
             Argument::Days("audit all days of this folder, in place of JOURNAL"),
         ],
     },
-    Word {
+    SubcommandDescription {
         name: "carry",
         about: "Prints the opening of the day that comes after a journal",
         example: "Example: fc carry site.toml day.journal > day.opening",
@@ -178,7 +178,7 @@ const WORDS: [Word; 9] = [
             OPENING,
         ],
     },
-    Word {
+    SubcommandDescription {
         name: "report",
         about: "Makes a page of pictures and figures of a journal",
         example: "Example: fc report site.toml day.journal > day.html",
@@ -188,7 +188,7 @@ const WORDS: [Word; 9] = [
             OPENING,
         ],
     },
-    Word {
+    SubcommandDescription {
         name: "export",
         about: "Prints rows of a journal for other programs, as CSV or as JSON",
         example: "Examples: fc export sales site.toml day.journal, fc export --json events site.toml day.journal",
@@ -200,7 +200,7 @@ const WORDS: [Word; 9] = [
             OPENING,
         ],
     },
-    Word {
+    SubcommandDescription {
         name: "serve",
         about: "Serves a site at ports and local sockets, then prints its journal",
         example: "Examples: fc serve --journal day.journal site.toml, fc serve --days days --new-day site.toml",
@@ -252,8 +252,8 @@ fn argument_of<'a>(alloc: Global, argument: Argument) -> Arg<'a>
     }
 }
 
-/// Makes the command of a subcommand, without its arguments.
-fn described<'a>(alloc: Global, word: Word) -> Command<'a>
+/// Makes the `clap` command for a subcommand, without its arguments.
+fn described<'a>(alloc: Global, word: SubcommandDescription) -> Command<'a>
     ensures app { app_of result ≡ new_app word.name.now }
     ensures local { (out-Command result).has_globals ≡ false }
 {
@@ -262,8 +262,8 @@ fn described<'a>(alloc: Global, word: Word) -> Command<'a>
         .after_help(word.example)
 }
 
-/// Makes the command of a subcommand, with its arguments. The error is that memory ran out.
-fn subcommand_of<'a>(alloc: Global, word: Word) -> Result<Command<'a>, AllocError>
+/// Makes the `clap` command for a subcommand, with its arguments. The error is that memory ran out.
+fn subcommand_of<'a>(alloc: Global, word: SubcommandDescription) -> Result<Command<'a>, AllocError>
     ensures app { IfOk result (λ c. app_of c ≡ app_for word) }
     ensures local { IfOk result (λ c. (out-Command c).has_globals ≡ false) }
 {
@@ -274,15 +274,19 @@ fn subcommand_of<'a>(alloc: Global, word: Word) -> Result<Command<'a>, AllocErro
     Ok(command)
 }
 
-/// Adds a subcommand to a command. The error is that memory ran out.
-fn with_word<'a>(alloc: Global, some: Command<'a>, word: Word) -> Result<Command<'a>, AllocError>
+/// Adds a subcommand to the command `some`, and returns the result. The error is that memory ran out.
+fn with_word<'a>(
+    alloc: Global,
+    some: Command<'a>,
+    word: SubcommandDescription,
+) -> Result<Command<'a>, AllocError>
     ensures { IfOk result (λ c. app_of c ≡ with_subcommand (app_of some.entry) (app_for word).top) }
 {
     let subcommand = subcommand_of(alloc, word)?;
     some.subcommand(subcommand)
 }
 
-/// Makes the command of the program, without its subcommands.
+/// Makes the `clap` command for the whole program, without its subcommands.
 fn top_command<'a>(alloc: Global) -> Command<'a>
     ensures { app_of result ≡ top_app }
 {
@@ -292,8 +296,8 @@ fn top_command<'a>(alloc: Global) -> Command<'a>
         .after_help(AFTER)
 }
 
-/// Makes the command of the program with these subcommands. The error is that memory ran out.
-fn with_words<'a>(alloc: Global, words: &[Word]) -> Result<Command<'a>, AllocError>
+/// Makes the `clap` command for the whole program, with these subcommands. The error is that memory ran out.
+fn with_words<'a>(alloc: Global, words: &[SubcommandDescription]) -> Result<Command<'a>, AllocError>
     ensures { IfOk result (λ c. app_of c ≡ with_words top_app words.now) }
 {
     let mut command = top_command(alloc);
@@ -303,9 +307,9 @@ fn with_words<'a>(alloc: Global, words: &[Word]) -> Result<Command<'a>, AllocErr
     Ok(command)
 }
 
-/// Makes the command of the program, with all its subcommands. The error is that memory ran out.
+/// Makes the `clap` command for the whole program, with all its subcommands. The error is that memory ran out.
 pub fn fc<'a>(alloc: Global) -> Result<Command<'a>, AllocError>
     ensures { IfOk result (λ c. app_of c ≡ fc_app) }
 {
-    with_words(alloc, &WORDS)
+    with_words(alloc, &SUBCOMMANDS)
 }

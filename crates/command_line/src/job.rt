@@ -23,9 +23,9 @@ pub enum Format {
     Json,
 }
 
-/// The job that a command line asks for. Each `String` is the name of a file or of a folder, as it was given, except
-/// that of `Show`, which is a text to print. An `opening` is the file of the opening that the site begins with, if one
-/// is given. A `folder` has the files of a station's days.
+/// The job that a command line asks for. Each `String` is the name of a file or of a folder, as it was given; only in
+/// `Show` it is a text to print. `opening` is the file with what the site keeps from the day before, if one is given.
+/// `folder` has the files of a station's days.
 #[derive(Drop)]
 pub enum Job {
     /// No subcommand was given: read a configuration and a script from standard input, and answer the script's lines.
@@ -85,7 +85,8 @@ pub enum Job {
     Show(String),
 }
 
-/// How a site is served, and whether its journal is printed or written to a file.
+/// How a site is served, and whether its journal is printed or written to a file. `opening` is the file with what the
+/// site keeps from the day before, if one is given.
 #[derive(Drop)]
 pub enum ServeJob {
     /// Print the journal at the end.
@@ -105,7 +106,7 @@ pub enum ServeJob {
         config: String,
         journal: String,
     },
-    /// Serve the newest day of a station, or day 1 if its folder has no day, and keep its journal in the folder. If
+    /// Serve the newest day of a station, or day 1 if its folder has no day, and write its journal to the folder. If
     /// `is_synced`, send an answer only after its line in the journal is synced. If `is_new_day` and the newest day has
     /// an entry, close that day first, and serve the next one.
     Days {

@@ -2,11 +2,11 @@
 ghost use Rattle.std.specs.Prelude.{◌≡◌, IsTrue, IsSome, None, false, [], IfOk, IfErr, IsOk, IsOkAnd, OnOk};
 ghost use Rattle.std.specs.Prelude.{map, codes, is_some, option_map, string_bytes, ◌↔◌};
 ghost use Rattle.clap.specs.Words.{first_of, rows_of, found_of, subcommand_of, subcommand_rows_of, takes, fault_of};
-ghost use Rattle.command_line.specs.Asked.{fc_app, asked, asked_of, is_set, layout_in, layout_named, IsShown, MayShow};
-ghost use Rattle.command_line.specs.Asked.{RefusesBy, audit_by, days_in, format_in, kind_in, named, opening_in};
-ghost use Rattle.command_line.specs.Asked.{rows_named, serve_by, serve_days_by, unasked_by, unasked_text, unasked_words};
-ghost use Rattle.command_line.specs.Asked.{unaudited_by, unserved_by};
-ghost use Rattle.command_line.specs.Refusing.{Asks, Finds, FindsFiles, FindsIn, ReadsMask, IsUnasked, IsRefusalOf};
+ghost use Rattle.command_line.specs.JobRequest.{fc_app, requested, parsed_request, is_set, layout_in, layout_named, IsHelpOrVersion, MayShow};
+ghost use Rattle.command_line.specs.JobRequest.{RefusesBy, audit_by, days_in, format_in, kind_in, named, opening_in};
+ghost use Rattle.command_line.specs.JobRequest.{rows_named, serve_by, serve_days_by, unasked_by, unasked_text, unasked_words};
+ghost use Rattle.command_line.specs.JobRequest.{audit_message, serve_message};
+ghost use Rattle.command_line.specs.Refusing.{Asks, Finds, FindsFiles, IsJobOfLine, ReadsMask, IsNoJobMessage, IsRefusalOf};
 
 use crate::app::fc;
 use crate::job::{CommandFault, Format, Job, Rows, ServeJob};
@@ -15,7 +15,8 @@ use clap::ArgMatches;
 use clap::error::ErrorKind;
 use std::alloc::{AllocError, Global};
 
-/// Returns the name of the file or folder that the argument `id` gives; `None` if the argument isn't given.
+/// Returns the name of the file or folder that the argument `id` gives, or `None` if the argument isn't given. The
+/// error is that memory ran out.
 fn file_of(alloc: Global, matches: &ArgMatches, id: &str) -> Result<Option<String>, AllocError>
     ensures { IfOk result (λ s. first_of id.now (rows_of (found_of matches.now)) ≡ option_map string_bytes s) }
 {
@@ -28,8 +29,8 @@ fn file_of(alloc: Global, matches: &ArgMatches, id: &str) -> Result<Option<Strin
     }
 }
 
-/// Returns the mask that `--counters` gives to `verify`, or `None` if its value isn't a number below 2^32. The mask is
-/// 0 if the option isn't given.
+/// Returns the mask of counters that `--counters` gives to `verify`, or `None` if its value isn't a number below 2^32.
+/// The mask is 0 if the option isn't given.
 fn mask_of(matches: &ArgMatches) -> Option<u32>
     ensures { ReadsMask (rows_of (found_of matches.now)) result }
 {
@@ -49,8 +50,8 @@ fn layout_named(text: &str) -> Option<Layout>
     }
 }
 
-/// Returns the layout that `--context` gives to `verify`, or `None` if its value names none. The layout is `One` if the
-/// option isn't given.
+/// Returns the layout that `--context` gives to `verify`, or `None` if the option's value isn't `1` or `2`. The layout
+/// is `One` if the option isn't given.
 fn layout_of(matches: &ArgMatches) -> Option<Layout>
     ensures { result ≡ layout_in (rows_of (found_of matches.now)) }
 {
@@ -112,7 +113,8 @@ fn verify_of(alloc: Global, matches: &ArgMatches) -> Result<Option<Job>, AllocEr
     }
 }
 
-/// Returns the names of two files that the arguments `first` and `second` give; `None` unless both are given.
+/// Returns the names of the two files that the arguments `first` and `second` give, or `None` if one of them isn't
+/// given. The error is that memory ran out.
 fn files_of(
     alloc: Global,
     matches: &ArgMatches,
@@ -130,21 +132,22 @@ fn files_of(
     }
 }
 
-/// Returns the name of the file that `--opening` gives; `None` if it isn't given.
+/// Returns the name of the file that `--opening` gives, or `None` if it isn't given. The error is that memory ran out.
 fn opening_of(alloc: Global, matches: &ArgMatches) -> Result<Option<String>, AllocError>
     ensures { IfOk result (λ file. opening_in (rows_of (found_of matches.now)) ≡ named file) }
 {
     file_of(alloc, matches, "opening")
 }
 
-/// Returns the name of the folder that `--days` gives; `None` if it isn't given.
+/// Returns the name of the folder that `--days` gives, or `None` if it isn't given. The error is that memory ran out.
 fn days_of(alloc: Global, matches: &ArgMatches) -> Result<Option<String>, AllocError>
     ensures { IfOk result (λ folder. days_in (rows_of (found_of matches.now)) ≡ named folder) }
 {
     file_of(alloc, matches, "days")
 }
 
-/// Returns the name of the file that JOURNAL or `--journal` gives; `None` if neither is given.
+/// Returns the name of the file that JOURNAL or `--journal` gives, or `None` if neither is given. The error is that
+/// memory ran out.
 fn journal_of(alloc: Global, matches: &ArgMatches) -> Result<Option<String>, AllocError>
     ensures { IfOk result (λ file. first_of (codes "journal") (rows_of (found_of matches.now)) ≡ named file) }
 {
@@ -245,8 +248,8 @@ fn rows_named(text: &str) -> Option<Rows>
     }
 }
 
-/// Returns the rows that the argument `kind` names, or `None` if it names none.
-fn kind_asked(matches: &ArgMatches) -> Option<Rows>
+/// Returns the rows that the argument `kind` names, or `None` if the argument isn't given or its text names no rows.
+fn rows_of_kind(matches: &ArgMatches) -> Option<Rows>
     ensures { result ≡ kind_in (rows_of (found_of matches.now)) }
 {
     match matches.get_str("kind") {
@@ -256,7 +259,7 @@ fn kind_asked(matches: &ArgMatches) -> Option<Rows>
 }
 
 /// Returns the form of the rows: JSON if `--json` is given, else CSV.
-fn format_asked(matches: &ArgMatches) -> Format
+fn row_format(matches: &ArgMatches) -> Format
     ensures { result ≡ format_in (rows_of (found_of matches.now)) }
 {
     if is_set(matches, "json") {
@@ -266,15 +269,16 @@ fn format_asked(matches: &ArgMatches) -> Format
     }
 }
 
-/// Returns the job of `fc export`, or `None` if its argument KIND names no rows, or if CONFIG or JOURNAL isn't given.
+/// Returns the job of `fc export`, or `None` if KIND names no rows, or if CONFIG or JOURNAL isn't given. The error is
+/// that memory ran out, which is possible only if KIND names rows.
 fn export_of(alloc: Global, matches: &ArgMatches) -> Result<Option<Job>, AllocError>
     ensures job { IfOk result (Finds (codes "export") (rows_of (found_of matches.now))) }
     ensures kind { kind_in (rows_of (found_of matches.now)) ≡ None → IsOk result }
 {
-    let Some(rows) = kind_asked(matches) else {
+    let Some(rows) = rows_of_kind(matches) else {
         return Ok(None);
     };
-    let format = format_asked(matches);
+    let format = row_format(matches);
     let opening = opening_of(alloc, matches)?;
     match files_of(alloc, matches, "config", "journal")? {
         Some((config, journal)) => Ok(Some(Job::Export {
@@ -340,8 +344,12 @@ fn serve_days_by(
     }
 }
 
-/// Returns the job of `fc serve`. Returns `None` if CONFIG isn't given, for `--days` with an opening or a journal, for
-/// `--new-day` without `--days`, and for `--sync` with neither `--days` nor a journal.
+/// Returns the job of `fc serve`. The error is that memory ran out. Returns `None` in these cases:
+///
+/// - CONFIG isn't given
+/// - `--days` is given with an opening or a journal
+/// - `--new-day` is given without `--days`
+/// - `--sync` is given with neither `--days` nor a journal
 fn serve_of(alloc: Global, matches: &ArgMatches) -> Result<Option<Job>, AllocError>
     ensures { IfOk result (Finds (codes "serve") (rows_of (found_of matches.now))) }
 {
@@ -359,7 +367,8 @@ fn serve_of(alloc: Global, matches: &ArgMatches) -> Result<Option<Job>, AllocErr
     }
 }
 
-/// Returns the job of the subcommand `name`, or `None` if its arguments ask for none or there is no such subcommand.
+/// Returns the job of the subcommand `name`. Returns `None` if its arguments ask for no job, or if there is no such
+/// subcommand. The error is that memory ran out.
 fn named_job(alloc: Global, name: &str, matches: &ArgMatches) -> Result<Option<Job>, AllocError>
     ensures { IfOk result (Finds name.now (rows_of (found_of matches.now))) }
 {
@@ -377,10 +386,10 @@ fn named_job(alloc: Global, name: &str, matches: &ArgMatches) -> Result<Option<J
     }
 }
 
-/// Returns the job of a parsed command line, or `None` if it asks for none. Without a subcommand the job is `NoWords`,
-/// and no memory is taken.
+/// Returns the job of a parsed command line, or `None` if it asks for none. The error is that memory ran out. Without a
+/// subcommand the job is `NoWords`, and there is no error.
 fn job_of(alloc: Global, matches: &ArgMatches) -> Result<Option<Job>, AllocError>
-    ensures job { IfOk result (FindsIn (subcommand_rows_of matches.now)) }
+    ensures job { IfOk result (IsJobOfLine (subcommand_rows_of matches.now)) }
     ensures nothing { subcommand_rows_of matches.now ≡ None → IsOk result }
 {
     match matches.subcommand() {
@@ -399,9 +408,9 @@ fn has_days(matches: &ArgMatches) -> bool
     }
 }
 
-/// Returns what is wrong with arguments of `audit` that ask for no job.
-fn unaudited_by(matches: &ArgMatches) -> &'static str
-    ensures { result.now ≡ unaudited_by (rows_of (found_of matches.now)) }
+/// Returns the first line of the error message for an `audit` that asks for no job.
+fn audit_message(matches: &ArgMatches) -> &'static str
+    ensures { result.now ≡ audit_message (rows_of (found_of matches.now)) }
 {
     if has_days(matches) {
         "error: --days takes neither --opening nor JOURNAL"
@@ -410,9 +419,9 @@ fn unaudited_by(matches: &ArgMatches) -> &'static str
     }
 }
 
-/// Returns what is wrong with arguments of `serve` that ask for no job.
-fn unserved_by(matches: &ArgMatches) -> &'static str
-    ensures { result.now ≡ unserved_by (rows_of (found_of matches.now)) }
+/// Returns the first line of the error message for a `serve` that asks for no job.
+fn serve_message(matches: &ArgMatches) -> &'static str
+    ensures { result.now ≡ serve_message (rows_of (found_of matches.now)) }
 {
     if has_days(matches) {
         "error: --days takes neither --opening nor --journal"
@@ -423,20 +432,21 @@ fn unserved_by(matches: &ArgMatches) -> &'static str
     }
 }
 
-/// Returns what is wrong with arguments of a subcommand that `clap` accepts, but that ask for no job.
+/// Returns the first line of the error message for the subcommand `name`, if `clap` accepts its arguments but they ask
+/// for no job.
 fn unasked_by(name: &str, matches: &ArgMatches) -> &'static str
     ensures { result.now ≡ unasked_by name.now (rows_of (found_of matches.now)) }
 {
     match name {
-        "serve" => unserved_by(matches),
-        "audit" => unaudited_by(matches),
+        "serve" => serve_message(matches),
+        "audit" => audit_message(matches),
         "export" => "error: export takes sales, decisions or events",
         _ => "error: --context takes 1 or 2",
     }
 }
 
-/// Returns what is wrong with a command line that `clap` accepts, but that asks for no job.
-fn unasked(matches: &ArgMatches) -> &'static str
+/// Returns the first line of the error message for a command line that `clap` accepts, but that asks for no job.
+fn no_job_message(matches: &ArgMatches) -> &'static str
     ensures { result.now ≡ unasked_words (subcommand_rows_of matches.now) }
 {
     match matches.subcommand() {
@@ -445,21 +455,21 @@ fn unasked(matches: &ArgMatches) -> &'static str
     }
 }
 
-/// Returns the message for a command line that `clap` accepts, but that asks for no job. The error is that memory ran
-/// out.
+/// Returns the error message for a command line that `clap` accepts, but that asks for no job. The error is that memory
+/// ran out.
 fn unasked_text(alloc: Global, matches: &ArgMatches) -> Result<String, AllocError>
     ensures { IfOk result (λ text. string_bytes text ≡ unasked_text (subcommand_rows_of matches.now)) }
 {
-    let words = unasked(matches);
+    let words = no_job_message(matches);
     format!(in alloc; "{words}\n\nFor more information, try '--help'.\n")
 }
 
 /// Returns the job of a parsed command line. The error is `Usage` with a message if the command line asks for no job,
-/// or that memory ran out.
+/// or that memory ran out. Without a subcommand there is no error.
 fn found_job(alloc: Global, matches: &ArgMatches) -> Result<Job, CommandFault>
-    ensures asked { IfOk result (λ job. asked_of (subcommand_rows_of matches.now) ≡ asked job) }
-    ensures some { IfOk result (λ job. IsSome (asked job)) }
-    ensures none { IfErr result (IsUnasked (subcommand_rows_of matches.now)) }
+    ensures requested { IfOk result (λ job. parsed_request (subcommand_rows_of matches.now) ≡ requested job) }
+    ensures some { IfOk result (λ job. IsSome (requested job)) }
+    ensures none { IfErr result (IsNoJobMessage (subcommand_rows_of matches.now)) }
     ensures nothing { subcommand_rows_of matches.now ≡ None → IsOk result }
 {
     match job_of(alloc, matches)? {
@@ -468,18 +478,21 @@ fn found_job(alloc: Global, matches: &ArgMatches) -> Result<Job, CommandFault>
     }
 }
 
-/// Returns whether an error of `clap` is a text that the user asked for: the help or the version.
+/// Returns whether a `clap` error of this kind is a text that the user asked for: the help or the version.
 fn is_asked_text(kind: ErrorKind) -> bool
-    ensures { IsTrue result ↔ IsShown kind }
+    ensures { IsTrue result ↔ IsHelpOrVersion kind }
 {
     matches!(kind, ErrorKind::DisplayHelp | ErrorKind::DisplayVersion)
 }
 
-/// Returns `Show` with the text `made` if an error of `clap` of this kind is the help or the version. For any other
-/// kind, the error is `Usage` with that text. If memory ran out, in `clap` or for the text, it is `OutOfMemory`.
-fn told_of(kind: ErrorKind, made: Result<String, AllocError>) -> Result<Job, CommandFault>
-    ensures none { IfOk result (λ job. asked job ≡ None) }
-    ensures shown { OnOk result (IsShown kind) }
+/// Returns what follows from an error of `clap` with this kind and the text `made`:
+///
+/// - the error `OutOfMemory`, if that is the kind, or if memory ran out when the text was made
+/// - else the job `Show` with the text, if the kind is the help or the version
+/// - else the error `Usage` with the text
+fn job_from_error(kind: ErrorKind, made: Result<String, AllocError>) -> Result<Job, CommandFault>
+    ensures none { IfOk result (λ job. requested job ≡ None) }
+    ensures shown { OnOk result (IsHelpOrVersion kind) }
     ensures text { IfOk result (λ job. IsOkAnd made (λ text. job ≡ Job.Show text)) }
     ensures refused { IfErr result (IsRefusalOf kind made) }
 {
@@ -497,11 +510,14 @@ fn told_of(kind: ErrorKind, made: Result<String, AllocError>) -> Result<Job, Com
 /// Parses a command line, whose first argument is the program's name, and returns its job. The error is the message for
 /// a command line that isn't valid, or that memory ran out.
 pub fn command(alloc: Global, words: Vec<String>) -> Result<Job, CommandFault>
-    ensures asked { IfOk result
-        (λ job. IsSome (asked job) → asked_of (subcommand_of fc_app (map string_bytes words.items)) ≡ asked job) }
-    ensures shown { IfOk result (λ job. asked job ≡ None → takes fc_app (map string_bytes words.items) ≡ false) }
-    ensures faultless { IfOk result (λ job. IsSome (asked job) → fault_of fc_app (map string_bytes words.items) ≡ []) }
-    ensures helps { IfOk result (λ job. asked job ≡ None → MayShow (fault_of fc_app (map string_bytes words.items))) }
+    ensures requested { IfOk result
+        (λ job. IsSome (requested job) → parsed_request (subcommand_of fc_app (map string_bytes words.items)) ≡
+        requested job) }
+    ensures shown { IfOk result (λ job. requested job ≡ None → takes fc_app (map string_bytes words.items) ≡ false) }
+    ensures faultless { IfOk result (λ job. IsSome (requested job)
+        → fault_of fc_app (map string_bytes words.items) ≡ []) }
+    ensures helps { IfOk result (λ job. requested job ≡ None → MayShow (fault_of fc_app (map string_bytes
+        words.items))) }
     ensures refused { IfErr result
         (RefusesBy (fault_of fc_app (map string_bytes words.items))
         (subcommand_of fc_app (map string_bytes words.items))) }
@@ -509,6 +525,6 @@ pub fn command(alloc: Global, words: Vec<String>) -> Result<Job, CommandFault>
     let command = fc(alloc)?;
     match command.try_get_matches_from(words.as_slice()) {
         Ok(matches) => found_job(alloc, &matches),
-        Err(error) => told_of(error.kind(), error.to_string(alloc)),
+        Err(error) => job_from_error(error.kind(), error.to_string(alloc)),
     }
 }

@@ -2,8 +2,8 @@
 use Rattle.std.proofs.Common.{◌≡◌, ℕ, List, Option, Some, None, Result, Ok, Err, refl, sym, ◌∙◌, ap, ap₂}
 use Rattle.reg_types.specs.declared.refusal.Refusal.{Refusal}
 use Rattle.reg_types.specs.declared.refusal.Refusal.TheVariants as refusals
-use Rattle.reg_types.specs.Refusals.{Numbers, shown_by}
-use Rattle.reg_types.specs.Shown.{IsRefusal, refusal_of}
+use Rattle.reg_types.specs.Refusals.{Numbers, refusal_numbers}
+use Rattle.reg_types.specs.RefusedPrograms.{IsRefusal, refusal_of}
 use Rattle.bpf_model.specs.Program.{ProgramText, as_loaded}
 use Rattle.till_request.specs.declared.act.Act.{Act}
 use Rattle.till_request.specs.declared.act.Act.TheVariants as acts
@@ -12,12 +12,12 @@ use Rattle.till_request.specs.declared.act.Answer.TheVariants as answers
 use Rattle.till_request.specs.declared.act.LineFault.{LineFault}
 use Rattle.till_request.specs.Answer.{answer_line}
 use Rattle.site_core.specs.Site.{SiteValue}
-use Rattle.line_session.specs.Cut.{IsWantTold, IsDetermined}
+use Rattle.line_session.specs.ReadSizes.{IsOutOfMemoryText, IsDetermined}
 use Rattle.line_session.proofs.Cutting.{cuts_alike}
 use Rattle.console.specs.declared.script.ScriptLine.{ScriptLine}
 use Rattle.console.specs.declared.script.ScriptLine.TheVariants as lines
 use Rattle.console.specs.Script.{line_of}
-use Rattle.console.specs.Play.{EventAnswered, IsAccepted, LoadAnswered, load_of, ActAnswered, LineSaid, Plays, PlaysAlike}
+use Rattle.console.specs.Play.{EventAnswered, IsAccepted, LoadAnswered, load_of, ActAnswered, IsLineAnswerText, AnswersScriptLine, PlaysAlike}
 
 second : {A B : Type 0} → A × B → B
 second p = p.1
@@ -43,9 +43,10 @@ event_alike old moment act (answers.Line fault) b new other h k p q = absurd h
 event_alike old moment act (answers.Program n u t) b new other h k p q = absurd h
 event_alike old moment act answers.JournalFailed b new other h k p q = absurd h
 
--- A refusal with numbers to print is the refusal that the verifier's definition gives for the program.
+-- If `refusal` has numbers (so memory didn't run out), it is the refusal in `wanted`, which the verifier's definition
+-- gives.
 wanted_is : (wanted : Option Refusal) (refusal : Refusal) (numbers : ℕ × (Option ℕ) × (Option ℕ)) → IsRefusal wanted refusal
-    → shown_by refusal ≡ Some numbers → wanted ≡ Some refusal
+    → refusal_numbers refusal ≡ Some numbers → wanted ≡ Some refusal
 wanted_is wanted refusals.OutOfMemory numbers h e = absurd (cc)
 wanted_is wanted (refusals.Decode fault) numbers h e = h
 wanted_is wanted (refusals.Flow fault) numbers h e = h
@@ -93,7 +94,7 @@ module _ (old : SiteValue) (moment slot : ℕ) (text : ProgramText) where
       let same : h.refusal ≡ k.refusal = cc in
       let numbers : Numbers = (number, unit, part) in
       let others : Numbers = (n, u, t) in
-      let alike : numbers ≡ others = some_alike numbers others (sym h.shown ∙ ap shown_by same ∙ k.shown) in
+      let alike : numbers ≡ others = some_alike numbers others (sym h.shown ∙ ap refusal_numbers same ∙ k.shown) in
       let e : number ≡ n = ap (λ (x : Numbers). x.0) alike in
       let f : unit ≡ u = ap (λ (x : Numbers). x.1) alike in
       let g : part ≡ t = ap (λ (x : Numbers). x.2) alike in
@@ -106,9 +107,9 @@ act_alike old moment (acts.Till till request) a b new other h k p q = event_alik
 act_alike old moment (acts.Dispenser point event) a b new other h k p q = event_alike old moment (acts.Dispenser point event) a b new other h k p q
 act_alike old moment (acts.Load slot mask layout bytes) a b new other h k p q = load_alike old moment slot (as_loaded bytes mask layout) a b new other h k p q
 
-line_alike : (line : Result ScriptLine LineFault) (s : ℕ × SiteValue) (text other : List ℕ) (m n : ℕ × SiteValue) → LineSaid line s text m
-    → LineSaid line s other n
-    → ¬ IsWantTold text → ¬ IsWantTold other → (text ≡ other) × (m ≡ n)
+line_alike : (line : Result ScriptLine LineFault) (s : ℕ × SiteValue) (text other : List ℕ) (m n : ℕ × SiteValue) → IsLineAnswerText line s text m
+    → IsLineAnswerText line s other n
+    → ¬ IsOutOfMemoryText text → ¬ IsOutOfMemoryText other → (text ≡ other) × (m ≡ n)
 line_alike (Err fault) s text other m n h k w v = (h.0 ∙ sym k.0, h.1 ∙ sym k.1)
 line_alike (Ok (lines.Act act)) s text other m n h k w v =
     let e = act_alike s.1 s.0 act h.0.answer k.0.answer m.1 n.1 h.0.answered k.0.answered (λ is. w (h.0.text_is ∙ ap answer_line is))
@@ -118,10 +119,10 @@ line_alike (Ok (lines.Moment moment)) s text other m n h k w v = (h.0 ∙ sym k.
 line_alike (Ok (lines.Counter counter)) s text other m n h k w v = (h.0 ∙ sym k.0, h.1 ∙ sym k.1)
 line_alike (Ok lines.Journal) s text other m n h k w v = (h.0 ∙ sym k.0, h.2 ∙ sym k.2)
 
-plays_determined : IsDetermined Plays
+plays_determined : IsDetermined AnswersScriptLine
 plays_determined s line text other m n h k w v = line_alike (line_of line) s text other m n h k w v
 
 pub plays_alike : PlaysAlike
 plays_alike site bytes out out_t out_u in_t in_u count_t count_u cut_t cut_u one other w v =
-    cuts_alike Plays plays_determined (0, site) (one.moment, one.left) (other.moment, other.left) bytes out out_t out_u in_t in_u count_t count_u cut_t
+    cuts_alike AnswersScriptLine plays_determined (0, site) (one.moment, one.left) (other.moment, other.left) bytes out out_t out_u in_t in_u count_t count_u cut_t
     cut_u one.ends other.ends w v

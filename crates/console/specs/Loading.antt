@@ -1,32 +1,33 @@
--- Definitions: why the verifier refuses the program of a load (this profile).
+-- Definitions: why the verifier refuses the program of a load, and which answer the load then has (this profile).
 use Rattle.std.specs.Prelude.{◌≡◌, ◌⊎◌, Option, Some, None, ⊤}
 use Rattle.bpf_model.specs.Program.{as_loaded}
 use Rattle.reg_types.specs.declared.refusal.Refusal.{Refusal}
-use Rattle.reg_types.specs.Refusals.{shown_by}
-use Rattle.reg_types.specs.Shown.{refusal_of}
+use Rattle.reg_types.specs.Refusals.{refusal_numbers}
+use Rattle.reg_types.specs.RefusedPrograms.{refusal_of}
 use Rattle.till_request.specs.declared.act.Act.{Act}
 use Rattle.till_request.specs.declared.act.Act.TheVariants as acts
 use Rattle.till_request.specs.declared.act.Answer.{Answer}
 use Rattle.till_request.specs.declared.act.Answer.TheVariants as answers
-use Rattle.job_texts.specs.Told.{Passes}
+use Rattle.job_texts.specs.JobOutput.{IsAcceptedAndGood}
 
 -- The act loads a program that the verifier refuses with this refusal.
-abbrev pub IsRefusedAct : Act → Refusal → Type 0
-IsRefusedAct (acts.Load slot mask layout bytes) refusal = refusal_of (as_loaded bytes mask layout) ≡ Some refusal
-IsRefusedAct act refusal = ⊥
+abbrev pub IsRefusedLoad : Act → Refusal → Type 0
+IsRefusedLoad (acts.Load slot mask layout bytes) refusal = refusal_of (as_loaded bytes mask layout) ≡ Some refusal
+IsRefusedLoad act refusal = ⊥
 
--- If the act is a load, then its program is accepted and good, or the answer is that memory ran out.
+-- If the act is a load, then its program fulfils `IsAcceptedAndGood`, or the answer is that memory ran out.
 abbrev pub IsNotRefused : Act → Answer → Type 0
-IsNotRefused (acts.Load slot mask layout bytes) answer = Passes (as_loaded bytes mask layout) ⊎ (answer ≡ answers.OutOfMemory)
+IsNotRefused (acts.Load slot mask layout bytes) answer = IsAcceptedAndGood (as_loaded bytes mask layout) ⊎ (answer ≡ answers.OutOfMemory)
 IsNotRefused act answer = ⊤
 
--- The answer shows the numbers of this refusal.
-abbrev pub Shows : Answer → Refusal → Type 0
-Shows (answers.Program number unit part) refusal = shown_by refusal ≡ Some (number, unit, part)
-Shows answer refusal = ⊥
+-- The answer says that a program is refused, and has the numbers of this refusal.
+abbrev pub HasRefusalNumbers : Answer → Refusal → Type 0
+HasRefusalNumbers (answers.Program number unit part) refusal = refusal_numbers refusal ≡ Some (number, unit, part)
+HasRefusalNumbers answer refusal = ⊥
 
--- The verifier's refusal of the program that the act loads, whose numbers the answer shows. None if the act isn't a
--- load, if its program is accepted, or if the answer is that memory ran out.
-abbrev pub IsWhyRefused : Act → Answer → Option Refusal → Type 0
-IsWhyRefused act answer (Some refusal) = IsRefusedAct act refusal × Shows answer refusal
-IsWhyRefused act answer None = IsNotRefused act answer
+-- The optional refusal fits the act and its answer:
+-- - Some: the act loads a program that the verifier refuses with this refusal, and the answer has its numbers.
+-- - None: the act isn't a load, its program is accepted, or the answer is that memory ran out.
+abbrev pub IsLoadRefusal : Act → Answer → Option Refusal → Type 0
+IsLoadRefusal act answer (Some refusal) = IsRefusedLoad act refusal × HasRefusalNumbers answer refusal
+IsLoadRefusal act answer None = IsNotRefused act answer

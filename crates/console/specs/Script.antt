@@ -1,5 +1,5 @@
--- Definitions: the lines of a script (this profile). They are the lines of all roles, and `moment N`, `counter C` and
--- `journal`. If the words have none of these forms, the line is bad. Otherwise the value is read as a number.
+-- Definitions: the lines of a script (this profile). A line is an act of any role, `moment N`, `counter C` or
+-- `journal`. A line of none of these forms is bad. N is read as a number of 64 bits, and C as one of 32 bits.
 use Rattle.std.specs.Prelude.{ℕ, List, [], ◌∷◌, codes, Bool, ◌&&◌, Result, Ok, if◌then◌else◌}
 use Rattle.std.specs.Str.{bytes_eq}
 use Rattle.till_request.specs.declared.act.LineFault.{LineFault}
@@ -8,7 +8,7 @@ use Rattle.till_request.specs.Grammar.{words, number, is_some_word, act_of_words
 use Rattle.console.specs.declared.script.ScriptLine.{ScriptLine}
 use Rattle.console.specs.declared.script.ScriptLine.TheVariants as lines
 
--- Reads the words of a line as an act of any role.
+-- Parses the words of a line as an act of any role.
 abbrev pub act_line : List (List ℕ) → Result ScriptLine LineFault
 act_line ws = do
   act ← act_of_words All ws

@@ -1,10 +1,10 @@
 //! Carries out the acts of a script on a site.
 ghost use Rattle.std.specs.Prelude.{◌≡◌, ℕ, None, Option, Some};
-ghost use Rattle.reg_types.specs.Refusals.{shown_by};
+ghost use Rattle.reg_types.specs.Refusals.{refusal_numbers};
 ghost use Rattle.bpf_model.specs.Program.{ProgramText, as_loaded};
-ghost use Rattle.reg_types.specs.Shown.{IsRefused, IsRefusal, MayRunOut, refusal_of};
+ghost use Rattle.reg_types.specs.RefusedPrograms.{IsRefused, IsRefusal, MayRunOutOfMemory, refusal_of};
 ghost use Rattle.site_core.specs.Site.{SiteValue, act_of};
-ghost use Rattle.console.specs.Loading.{IsWhyRefused};
+ghost use Rattle.console.specs.Loading.{IsLoadRefusal};
 ghost use Rattle.console.specs.Play.{EventAnswered, LoadAnswered, ActAnswered};
 
 use reg_types::verifier::verify;
@@ -18,7 +18,7 @@ use till_request::{Act, Answer, Bytes};
 const PASS: u32 = 1;
 
 /// Applies an event to a site at a moment, and returns the answer. If the journal is full or memory runs out, the
-/// answer says so, and the site is unchanged.
+/// answer is `JournalFull` or `OutOfMemory`, and the site is unchanged.
 fn enter_event(site: &mut Site, moment: u64, what: What) -> Answer
     ensures { EventAnswered site.old moment (act_of what) result site.new }
 {
@@ -37,7 +37,7 @@ fn enter_event(site: &mut Site, moment: u64, what: What) -> Answer
     }
 }
 
-/// The answer to an act, and why the verifier refused its program, if it did.
+/// The answer to an act. If the act is a load whose program the verifier refused, also the refusal.
 #[derive(Clone, Copy)]
 pub struct Entered {
     pub answer: Answer,
@@ -46,18 +46,19 @@ pub struct Entered {
     pub refusal: Option<Refusal>,
 }
 
-/// Returns the answer to a load that the verifier refuses, with the refusal. If memory ran out in the verifier, the
-/// answer says so, and there is no refusal.
+/// Returns the answer to a load that the verifier refuses, with the refusal. If the verifier ran out of memory, the
+/// answer is `OutOfMemory`, and the refusal is `None`.
 fn refuse_load(refusal: Refusal) -> Entered
-    ensures told { (number : ℕ) (unit part : Option ℕ) → shown_by refusal ≡ Some (number, unit, part)
+    ensures program_fault { (number : ℕ) (unit part : Option ℕ) → refusal_numbers refusal ≡ Some (number, unit, part)
         → result.answer ≡ Answer.Program number unit part }
     ensures answered { (old : SiteValue) (moment slot : ℕ) (p : ProgramText) → IsRefused p refusal
-        → IsRefusal (refusal_of p) refusal → (shown_by refusal ≡ None → MayRunOut p)
+        → IsRefusal (refusal_of p) refusal → (refusal_numbers refusal ≡ None → MayRunOutOfMemory p)
         → LoadAnswered old moment slot p result.answer old }
-    ensures refused { (slot mask : ℕ) (layout : _) (bytes : _) → IsRefusal (refusal_of (as_loaded bytes mask layout)) refusal
-        → IsWhyRefused (Act.Load slot mask layout bytes) result.answer result.refusal }
+    ensures refused { (slot mask : ℕ) (layout : _) (bytes : _)
+        → IsRefusal (refusal_of (as_loaded bytes mask layout)) refusal
+        → IsLoadRefusal (Act.Load slot mask layout bytes) result.answer result.refusal }
 {
-    match refusal.shown() {
+    match refusal.fault_numbers() {
         Some((number, unit, part)) => Entered {
             answer: Answer::Program(number, unit, part),
             refusal: Some(refusal),
@@ -69,8 +70,9 @@ fn refuse_load(refusal: Refusal) -> Entered
     }
 }
 
-/// Verifies the bytes of a load, and enters the load if they are accepted. If they are refused, returns what
-/// `refuse_load` returns. The site is unchanged if they are refused, if the journal is full, or if memory ran out.
+/// Verifies `bytes`, the program of a load. If it is accepted, enters the load in the site's history. Returns the
+/// answer, and the refusal if it is refused. The site is unchanged if the program is refused, if the journal is full,
+/// or if memory ran out.
 fn enter_load(
     alloc: Global,
     site: &mut Site,
@@ -81,7 +83,7 @@ fn enter_load(
     bytes: &Bytes,
 ) -> Entered
     ensures answered { LoadAnswered site.old moment slot (as_loaded bytes.now mask layout) result.answer site.new }
-    ensures refused { IsWhyRefused (Act.Load slot mask layout bytes.now) result.answer result.refusal }
+    ensures refused { IsLoadRefusal (Act.Load slot mask layout bytes.now) result.answer result.refusal }
 {
     match verify(alloc, bytes.as_slice(), mask, layout) {
         Ok(program) => match Arc::new(alloc, program) {
@@ -92,7 +94,7 @@ fn enter_load(
     }
 }
 
-/// Returns the result for an act without a refused program: its answer alone.
+/// Returns this answer, with no refusal.
 fn unrefused(answer: Answer) -> Entered
     ensures { result ≡ record { answer = answer; refusal = None } }
 {
@@ -106,7 +108,7 @@ fn unrefused(answer: Answer) -> Entered
 /// a load. The site is unchanged if the program is refused, if the journal is full, or if memory ran out.
 pub fn enter(alloc: Global, site: &mut Site, moment: u64, act: &Act) -> Entered
     ensures answered { ActAnswered site.old moment act.now result.answer site.new }
-    ensures refused { IsWhyRefused act.now result.answer result.refusal }
+    ensures refused { IsLoadRefusal act.now result.answer result.refusal }
 {
     match act {
         Act::Till { till, request } => {

@@ -2,11 +2,11 @@
 use reg_types::Refusal;
 use till_request::Act;
 
-/// Receives what a play reports besides its answers.
+/// A receiver of what a play (a run of a script) reports besides its answers.
 pub trait PlayNotices {
     ghost use Rattle.reg_types.specs.declared.refusal.Refusal.{Refusal};
     ghost use Rattle.till_request.specs.declared.act.Act.{Act};
-    ghost use Rattle.console.specs.Loading.{IsRefusedAct};
+    ghost use Rattle.console.specs.Loading.{IsRefusedLoad};
 
     /// For proofs: this refusal of this load's program was reported.
     ghost reported: { Self → Act → Refusal → Type 0 } = { λ _ _ _. Unit {0} };
@@ -17,7 +17,7 @@ pub trait PlayNotices {
     /// Reports that the verifier refuses the program of a load. `load` must be a load, and `refusal` must be the
     /// verifier's refusal of its program.
     fn refused_load(&self, load: &Act, refusal: Refusal)
-        requires { IsRefusedAct load.now refusal }
+        requires { IsRefusedLoad load.now refusal }
         ensures { reported self.now load.now refusal };
 }
 

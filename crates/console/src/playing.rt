@@ -3,7 +3,7 @@ ghost use Rattle.std.specs.Prelude.{◌≡◌, ◌≢◌, ◌≤◌, ◌-◌, �
 ghost use Rattle.till_request.specs.Count.{RoseBy, one_if};
 ghost use Rattle.line_session.specs.Answering.{SpendsReads, is_read, is_write, session_reads};
 ghost use Rattle.site_core.specs.Site.{new_site};
-ghost use Rattle.console.specs.Play.{PlaysOut, PlayBreaks, PlayStops, PlaysAlike};
+ghost use Rattle.console.specs.Play.{PlayEnds, PlayBreaks, PlayStops, PlaysAlike};
 
 use crate::notices::{NoNotices, PlayNotices};
 use crate::player::Player;
@@ -14,7 +14,8 @@ use std::alloc::Global;
 use till_request::{LineIn, LineOut};
 
 /// Answers a script line by line, like `play`, but with at most `left` reads of one byte each. `left` must be at most
-/// `READS`, and is set to the number of reads that remain. Reports each line and each refused load to `notices`.
+/// `READS`, and is set to the number of reads that remain. Reports each line and each refused load to `notices`. The
+/// errors are those of `play`.
 pub fn play_within<I: LineIn, O: LineOut, N: PlayNotices>(
     alloc: Global,
     config: Config,
@@ -24,8 +25,8 @@ pub fn play_within<I: LineIn, O: LineOut, N: PlayNotices>(
     left: &mut u32,
 ) -> Result<Ended, SessionFault>
     requires { left.old ≤ READS }
-    ensures said { IfOk result
-        (λ ended. PlaysOut (new_site config) (I.remaining input.old) (I.remaining input.new) (O.written output.old)
+    ensures all_answered { IfOk result
+        (λ ended. PlayEnds (new_site config) (I.remaining input.old) (I.remaining input.new) (O.written output.old)
         (O.written output.new) ended.lines ended.cut) }
     ensures broken { OnErr result
         (PlayBreaks (new_site config) (I.remaining input.old) (I.remaining input.new) (O.written output.old)
@@ -49,9 +50,9 @@ pub fn play_within<I: LineIn, O: LineOut, N: PlayNotices>(
     answer_lines_within(alloc, input, output, &player, &mut moment, &mut site, left)
 }
 
-/// Answers a script line by line, on a new site of this configuration. The moment is 0 until a line sets it. At most
-/// 67,108,864 reads of one byte are made. Returns how many lines were answered, and the fault of the last line if that
-/// was too long (L1) or had no LF (L4).
+/// Answers a script line by line, on a new site of this configuration. The moment (the time of an act) is 0 until a
+/// line sets it. At most 67,108,864 reads of one byte are made. Returns how many lines were answered, and the fault of
+/// the last line if that was too long (L1) or had no LF (L4).
 ///
 /// The error is that a read or a write failed, that more reads would be needed, or that memory ran out. After an error,
 /// some of the first bytes of the answers may have been written.
@@ -61,8 +62,8 @@ pub fn play<I: LineIn, O: LineOut>(
     input: &mut I,
     output: &mut O,
 ) -> Result<Ended, SessionFault>
-    ensures said { IfOk result
-        (λ ended. PlaysOut (new_site config) (I.remaining input.old) (I.remaining input.new) (O.written output.old)
+    ensures all_answered { IfOk result
+        (λ ended. PlayEnds (new_site config) (I.remaining input.old) (I.remaining input.new) (O.written output.old)
         (O.written output.new) ended.lines ended.cut) }
     ensures broken { OnErr result
         (PlayBreaks (new_site config) (I.remaining input.old) (I.remaining input.new) (O.written output.old)
@@ -80,12 +81,11 @@ pub fn play<I: LineIn, O: LineOut>(
     play_within(alloc, config, input, output, &NoNotices, &mut left)
 }
 
-/// Does nothing. Its contract is a law: the answers to a script don't depend on the sizes of the reads. Let two plays
-/// of the same bytes with the same configuration both end, and neither run out of memory at a line. Then they wrote the
-/// same and left the same site.
+/// Does nothing. Its contract is a law: the answers to a script don't depend on the sizes of the reads. Two plays of
+/// the same bytes, with the same configuration, write the same answers and leave the same site. Both must have ended
+/// without an error, and no answer may be that memory ran out.
 ///
-/// The law follows from the contract of `play`, which depends on the bytes of its input, but not on the device that
-/// gives them.
-pub fn law_of_the_cut()
+/// The law follows from the contract of `play`.
+pub fn law_of_read_sizes()
     ensures { PlaysAlike }
 {}

@@ -8,14 +8,14 @@ ghost use Rattle.console.specs.Script.{act_line, line_alone, line_with_value, li
 use std::alloc::Global;
 use till_request::grammar::parse_words;
 use till_request::numbers::{number_u32, number_u64};
-use till_request::parts::few_parts;
+use till_request::parts::split_at_most;
 use till_request::{Act, LINE_WORDS, LineFault, Role};
 
 /// A parsed line of a script.
 #[derive(Drop)]
 pub enum ScriptLine {
     Act(Act),
-    /// `moment N` sets the moment of the acts in later lines.
+    /// `moment N` sets the moment (the time) of the acts in later lines.
     Moment(u64),
     /// `counter C` asks for the value and the bound of counter C, counted from 0.
     Counter(u32),
@@ -30,7 +30,7 @@ fn is_pair(word: &[u8], name: &[u8], value: &[u8]) -> bool
     word == name && !value.is_empty()
 }
 
-/// Parses the words of a line as an act of any role.
+/// Parses the words of a line as an act of any role. The errors are those of `parse_script_line`.
 fn read_act(alloc: Global, words: &[&[u8]]) -> Result<ScriptLine, LineFault>
     ensures given { Gives result (act_line (map (λ w. w.now) words.now)) }
     ensures memory { result ≡ Err LineFault.OutOfMemory → IsLoad Role.All (map (λ w. w.now) words.now) }
@@ -38,7 +38,8 @@ fn read_act(alloc: Global, words: &[&[u8]]) -> Result<ScriptLine, LineFault>
     Ok(ScriptLine::Act(parse_words(alloc, Role::All, words)?))
 }
 
-/// Parses a line of one word. `words` has only this word.
+/// Parses a line of one word: `journal`, or else an act. `words` has only this word. The errors are those of
+/// `parse_script_line`.
 fn read_alone(alloc: Global, word: &[u8], words: &[&[u8]]) -> Result<ScriptLine, LineFault>
     ensures given { Gives result (line_alone word.now (map (λ w. w.now) words.now)) }
     ensures memory { result ≡ Err LineFault.OutOfMemory → IsLoad Role.All (map (λ w. w.now) words.now) }
@@ -50,7 +51,8 @@ fn read_alone(alloc: Global, word: &[u8], words: &[&[u8]]) -> Result<ScriptLine,
     }
 }
 
-/// Parses a line of two words. `words` has both.
+/// Parses a line of two words: `moment N`, `counter C`, or else an act. `words` has both words. The errors are those of
+/// `parse_script_line`.
 fn read_with_value(
     alloc: Global,
     word: &[u8],
@@ -71,7 +73,7 @@ fn read_with_value(
     read_act(alloc, words)
 }
 
-/// Parses the words of a line.
+/// Parses the words of a script's line. The errors are those of `parse_script_line`.
 fn read_words(alloc: Global, words: &[&[u8]]) -> Result<ScriptLine, LineFault>
     ensures given { Gives result (line_of_words (map (λ w. w.now) words.now)) }
     ensures memory { result ≡ Err LineFault.OutOfMemory → IsLoad Role.All (map (λ w. w.now) words.now) }
@@ -89,7 +91,7 @@ pub fn parse_script_line(alloc: Global, line: &[u8]) -> Result<ScriptLine, LineF
     ensures given { Gives result (line_of line.now) }
     ensures memory { result ≡ Err LineFault.OutOfMemory → IsLoad Role.All (words_of line.now) }
 {
-    match few_parts::<LINE_WORDS>(line, b' ') {
+    match split_at_most::<LINE_WORDS>(line, b' ') {
         Some(words) => read_words(alloc, words.as_slice()),
         None => Err(LineFault::BadLine),
     }

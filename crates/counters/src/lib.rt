@@ -71,8 +71,8 @@ impl Counters {
         true
     }
 
-    /// Copies from `other` the counters that the mask `declared` names, with their values and bounds. Bit c of a mask
-    /// names counter c. The counters that the mask doesn't name stay as they are.
+    /// Copies from `other` the counters that the mask `declared` names, with their values and bounds. Bit c of the mask
+    /// names counter c. Counters that the mask doesn't name stay as they are.
     pub fn adopt(&mut self, declared: u32, other: &Counters)
         ensures { (c : ℕ) → counter self.new c ≡ adopted declared other.now self.old c }
     {
@@ -102,7 +102,7 @@ impl Counters {
     }
 }
 
-// Changes nothing. Its contract is a law: each bound is below 2^64, which follows from the bound's type.
+// Does nothing. Its contract is a law (a theorem): the bound of each counter is below 2^64, because it is a `u64`.
 fn prove_small(cells: &[(u64, u64); 32])
     ensures { All (λ c. c.1 < 2 ^ 64) cells.now }
 {

@@ -1,17 +1,17 @@
--- What a writer of CSV has written, from its start to its end, is the header and then the rows.
+-- All that the CSV writer writes is the header, followed by the rows.
 use Rattle.std.proofs.Common.{◌≡◌, ℕ, List, [], ◌++◌, Option, Some, None, Result, Ok, Err, ap, ◌∙◌}
 use Rattle.std.specs.Prelude.{IfOk}
 use Rattle.std.specs.Io.KnownBytes.{Appends, Keeps, append_known}
 use Rattle.std.proofs.KnownBytes.{Appends-kept, Appends-trans}
 use Rattle.std.proofs.lemmas.List.{append-nil}
 
--- If a writer buffers nothing at first, then bytes that are appended to the writer are appended to what it has written.
+-- If b is `a ++ held ++ bs`, and the buffer `held` is empty, then b is `a ++ bs`.
 pub from-empty : (a b : Option (List ℕ)) (held bs : List ℕ) → held ≡ [] → Appends (append_known a held) b bs → Appends a b bs
 from-empty None b held bs e p = tt
 from-empty (Some xs) None held bs e p = p
 from-empty (Some xs) (Some ys) held bs e p = p ∙ ap (λ l. l ++ bs) (ap (λ h. xs ++ h) e ∙ append-nil xs)
 
--- If the header and then the rows are appended to a writer, then the writer that is returned has both.
+-- If b is `a ++ header`, c is `b ++ rows`, and the returned writer contains c, then it contains `a ++ header ++ rows`.
 pub whole : {W E : Type 0} (contents : W → Option (List ℕ)) (r : Result W E) (a b c : Option (List ℕ)) (header rows : List ℕ) → Appends a b header
     → Appends b c rows → IfOk r (λ out. Keeps c (contents out)) → IfOk r (λ out. Appends a (contents out) (header ++ rows))
 whole contents (Ok out) a b c header rows p q k = Appends-kept a c (contents out) (header ++ rows) (Appends-trans a b c header rows p q) k

@@ -19,10 +19,10 @@ use Rattle.day_report.specs.Sales.{sale_of, unpaid_at}
 use Rattle.day_report.specs.declared.sales.Sale.{Sale}
 use Rattle.day_export.specs.declared.cells.Rows.TheVariants as rows
 use Rattle.day_export.specs.declared.cells.Cell.{Cell}
-use Rattle.day_export.specs.declared.standing.Delivery.{Delivery}
-use Rattle.day_export.specs.Standing.{Stand, became, ended_as, ended_between, ended_by, number_cleared, point_named, stand_after, uncleared, without}
+use Rattle.day_export.specs.declared.day_state.Delivery.{Delivery}
+use Rattle.day_export.specs.DayState.{DayStateValue, is_delivery_of, delivery_of, ended_between, ended_by, transaction_cleared, point_of_act, state_after_entry, uncleared, without}
 use Rattle.day_export.specs.Rows.{rows_from, sale_cells, sale_row}
-use Rattle.day_export.specs.Laws.{HasNoDelivery, OpensWithPoints, cell_at, was_unpaid}
+use Rattle.day_export.specs.Laws.{HasNoDelivery, HasValidOpeningPoints, cell_at, was_unpaid}
 use Rattle.day_export.proofs.Growing.{Grows}
 use Rattle.day_export.proofs.Changing.{Changes, act-changes, at-other, at-same, is-numbered}
 
@@ -59,7 +59,7 @@ all-at P points n p all h = if-all P points (n - 1) p (nat_le 1 n) all h
 
 -- ---- numbers that the points gave out
 
--- the number of each unpaid transaction is one that its point gave out
+-- No unpaid transaction has a number greater than the last number that its point gave out.
 abbrev pub GivenOut : List PointState → Type 0
 GivenOut points = (n x : ℕ) (p : PointState) → at_number points n ≡ Some p → IsSome (find_number x p.unpaid) → x ≤ p.last
 
@@ -78,7 +78,7 @@ none-unpaid : (points : List (ℕ × ℕ)) → All (λ (p : PointState). p.unpai
 none-unpaid [] = All-nil (λ (p : PointState). p.unpaid ≡ [])
 none-unpaid (x ∷ points) = All-cons (λ (p : PointState). p.unpaid ≡ []) fresh_point _ refl (none-unpaid points)
 
-pub opened-points : (config : ConfigValue) (o : Option OpeningValue) → config.opening ≡ o → OpensWithPoints config → GivenOut (opening_state config).points
+pub opened-points : (config : ConfigValue) (o : Option OpeningValue) → config.opening ≡ o → HasValidOpeningPoints config → GivenOut (opening_state config).points
 opened-points config None is fits = λ n x p at found.
     let same : (opening_state config).points ≡ (fresh_state config).points =
     ap (λ (y : Option OpeningValue). (elim y as (λ _. SiteState) [ None ↦ fresh_state config | Some o ↦ opened_state o ]).points) is in
@@ -100,26 +100,26 @@ none-head false u o h = (refl, h)
 none-if : (b : Bool) (u : Delivery) (o : Option Delivery) → b ≡ false → o ≡ None → (if b then Some u else o) ≡ None
 none-if b u o p q = rw p q
 
-none-both : (us vs : List Delivery) (n x : ℕ) → ended_as us n x ≡ None → ended_as vs n x ≡ None → ended_as (us ++ vs) n x ≡ None
+none-both : (us vs : List Delivery) (n x : ℕ) → delivery_of us n x ≡ None → delivery_of vs n x ≡ None → delivery_of (us ++ vs) n x ≡ None
 none-both [] vs n x g h = h
 none-both (u ∷ us) vs n x g h =
-    let two = none-head (became n x u) u (ended_as us n x) g in
-    none-if (became n x u) u (ended_as (us ++ vs) n x) two.0 (none-both us vs n x two.1 h)
+    let two = none-head (is_delivery_of n x u) u (delivery_of us n x) g in
+    none-if (is_delivery_of n x u) u (delivery_of (us ++ vs) n x) two.0 (none-both us vs n x two.1 h)
 
-none-kept : (n x : ℕ) (u : Delivery) (ws : List Delivery) (c : Bool) → became n x u ≡ false → ended_as ws n x ≡ None
-    → ended_as (if not c then u ∷ ws else ws) n x ≡ None
+none-kept : (n x : ℕ) (u : Delivery) (ws : List Delivery) (c : Bool) → is_delivery_of n x u ≡ false → delivery_of ws n x ≡ None
+    → delivery_of (if not c then u ∷ ws else ws) n x ≡ None
 none-kept n x u ws true other h = h
-none-kept n x u ws false other h = none-if (became n x u) u (ended_as ws n x) other h
+none-kept n x u ws false other h = none-if (is_delivery_of n x u) u (delivery_of ws n x) other h
 
-none-without : (us : List Delivery) (m y n x : ℕ) → ended_as us n x ≡ None → ended_as (without us m y) n x ≡ None
+none-without : (us : List Delivery) (m y n x : ℕ) → delivery_of us n x ≡ None → delivery_of (without us m y) n x ≡ None
 none-without [] m y n x h = refl
 none-without (u ∷ us) m y n x h =
-    let two = none-head (became n x u) u (ended_as us n x) h in
-    none-kept n x u (without us m y) (became m y u) two.0 (none-without us m y n x two.1)
+    let two = none-head (is_delivery_of n x u) u (delivery_of us n x) h in
+    none-kept n x u (without us m y) (is_delivery_of m y u) two.0 (none-without us m y n x two.1)
 
-none-uncleared : (us : List Delivery) (o : Option Sale) (a : Act) (n x : ℕ) → ended_as us n x ≡ None → ended_as (uncleared us o a) n x ≡ None
+none-uncleared : (us : List Delivery) (o : Option Sale) (a : Act) (n x : ℕ) → delivery_of us n x ≡ None → delivery_of (uncleared us o a) n x ≡ None
 none-uncleared us None a n x h = h
-none-uncleared us (Some sale) a n x h = none-without us sale.point (number_cleared a) n x h
+none-uncleared us (Some sale) a n x h = none-without us sale.point (transaction_cleared a) n x h
 
 and-false : (a b : Bool) → (a ≡ true → b ≡ false) → (a && b) ≡ false
 and-false true b h = h refl
@@ -127,7 +127,7 @@ and-false false b h = refl
 
 none-at : (number m price : ℕ) (p q : PointState) (n x : ℕ) (b : Bool) → (q.last == p.last + 1) ≡ b
     → ((m == n) ≡ true → q.last ≡ p.last + 1 → (q.last == x) ≡ false)
-    → ended_as (option_to_list (if b then Some (record {
+    → delivery_of (option_to_list (if b then Some (record {
       point = m;
       transaction = q.last;
       number = number;
@@ -140,7 +140,7 @@ none-at number m price p q n x false is apart = refl
 
 none-between : (prices : List ℕ) (number m : ℕ) (a b : Option PointState) (n x : ℕ)
     → ((p q : PointState) → a ≡ Some p → b ≡ Some q → (m == n) ≡ true → q.last ≡ p.last + 1 → (q.last == x) ≡ false)
-    → ended_as (option_to_list (ended_between prices number m a b)) n x ≡ None
+    → delivery_of (option_to_list (ended_between prices number m a b)) n x ≡ None
 none-between prices number m None b n x apart = refl
 none-between prices number m (Some p) None n x apart = refl
 none-between prices number m (Some p) (Some q) n x apart =
@@ -148,11 +148,12 @@ none-between prices number m (Some p) (Some q) n x apart =
 
 -- ---- the state of a day
 
--- Each point gave out at least the numbers that it had given out at first, and no delivery in the list became a
--- transaction that was unpaid then.
-pub record Holds (first : List PointState) (s : Stand) : Type 0 where
+-- `first` are the points when the day began, and s is the state now:
+-- - The last transaction number of each point is at least what it was when the day began.
+-- - No delivery in `s.unpaid` became a transaction that was unpaid when the day began.
+pub record Holds (first : List PointState) (s : DayStateValue) : Type 0 where
   later : (n : ℕ) (p q : PointState) → at_number first n ≡ Some p → at_number s.points n ≡ Some q → p.last ≤ q.last
-  none : (n x : ℕ) → IsSome (unpaid_at first n x) → ended_as s.unpaid n x ≡ None
+  none : (n x : ℕ) → IsSome (unpaid_at first n x) → delivery_of s.unpaid n x ≡ None
 
 pub carried-first : (first : List PointState) (prices : List ℕ) → Holds first (record { points = first; prices = prices; unpaid = [] })
 carried-first first prices = record {
@@ -167,7 +168,7 @@ last-grows p q (inr adds) = let more : q.last ≡ p.last + 1 = adds.0 in omega (
 not-equal : (n m : ℕ) → (n == m) ≡ false → n ≡ m → ⊥
 not-equal n m other same = let e : (n == m) ≡ true = grind (arith, nat_tests, same) in nothing-there (sym other ∙ e)
 
-later-changed : (first : List PointState) (s : Stand) (m : ℕ) (points : List PointState) → Holds first s → Changes m s.points points
+later-changed : (first : List PointState) (s : DayStateValue) (m : ℕ) (points : List PointState) → Holds first s → Changes m s.points points
     → (n : ℕ) (p q : PointState) → at_number first n ≡ Some p → at_number points n ≡ Some q → p.last ≤ q.last
 later-changed first s m points holds (inl same) = λ n p q at now. holds.later n p q at (ap (λ ps. at_number ps n) (sym same) ∙ now)
 later-changed first s m points holds (inr b) = λ n p q at now.
@@ -185,11 +186,11 @@ later-changed first s m points holds (inr b) = λ n p q at now.
           holds.later n p q at before
     ]
 
-none-ended : (first : List PointState) (s : Stand) (e : Entry) (n x : ℕ) → GivenOut first → Holds first s → IsSome (unpaid_at first n x)
-    → ended_as (option_to_list (ended_by s.points s.prices e)) n x ≡ None
+none-ended : (first : List PointState) (s : DayStateValue) (e : Entry) (n x : ℕ) → GivenOut first → Holds first s → IsSome (unpaid_at first n x)
+    → delivery_of (option_to_list (ended_by s.points s.prices e)) n x ≡ None
 unfolding ended_by
 none-ended first s e n x given holds old =
-    let m = point_named e.act in
+    let m = point_of_act e.act in
     let there = unpaid-there first n x (at_number first n) refl old in
     none-between s.prices e.number m (at_number s.points m) (at_number (with_entry s.points e) m) n x
     (λ p q before after same grew.
@@ -198,37 +199,38 @@ none-ended first s e n x given holds old =
     let later : there.0.last ≤ p.last = holds.later n there.0 p there.1 (ap (at_number s.points) (sym is) ∙ before) in
     grind (arith, nat_tests, le, later, grew))
 
-holds-more : (first : List PointState) (s : Stand) (e : Entry) → GivenOut first → Holds first s → Holds first (stand_after s e)
-unfolding stand_after with_entry
+holds-more : (first : List PointState) (s : DayStateValue) (e : Entry) → GivenOut first → Holds first s → Holds first (state_after_entry s e)
+unfolding state_after_entry with_entry
 holds-more first s e given holds = record {
-  later = later-changed first s (point_named e.act) (with_act s.points e.act e.reply) holds (act-changes s.points e.act e.reply);
+  later = later-changed first s (point_of_act e.act) (with_act s.points e.act e.reply) holds (act-changes s.points e.act e.reply);
   none = λ n x old. none-both (uncleared s.unpaid (sale_of s.points e) e.act) (option_to_list (ended_by s.points s.prices e)) n x
       (none-uncleared s.unpaid (sale_of s.points e) e.act n x (holds.none n x old)) (none-ended first s e n x given holds old);
 }
 
 -- ---- the rows of sales
 
--- If the sale of a row clears a transaction that was unpaid when the day began, then the row has no delivery.
-abbrev TellsNone : List PointState → List Cell → Type 0
-TellsNone first row = was_unpaid first (cell_at row 2) (cell_at row 3) ≡ true → HasNoDelivery row
+-- If a sale's transaction was unpaid when the day began, then the sale's row has no delivery. The first argument is the
+-- list of the points when the day began.
+abbrev HasNoDeliveryIfCarriedIn : List PointState → List Cell → Type 0
+HasNoDeliveryIfCarriedIn first row = was_unpaid first (cell_at row 2) (cell_at row 3) ≡ true → HasNoDelivery row
 
 bare-cells : (sale : Sale) (x : ℕ) (o : Option Delivery) → o ≡ None → HasNoDelivery (sale_cells sale x o)
 bare-cells sale x o none = subst (λ y. HasNoDelivery (sale_cells sale x y)) (sym none) (refl, refl, refl)
 
-row-told : (first : List PointState) (s : Stand) (e : Entry) (o : Option Sale) (more : List (List Cell)) → Holds first s → All (TellsNone first) more
-    → All (TellsNone first) (cons_option (elim o as (λ _. Option (List Cell)) [
+row-told : (first : List PointState) (s : DayStateValue) (e : Entry) (o : Option Sale) (more : List (List Cell)) → Holds first s → All (HasNoDeliveryIfCarriedIn first) more
+    → All (HasNoDeliveryIfCarriedIn first) (cons_option (elim o as (λ _. Option (List Cell)) [
       | None ↦ None
-      | Some sale ↦ Some (sale_cells sale (number_cleared e.act) (ended_as s.unpaid sale.point (number_cleared e.act)))
+      | Some sale ↦ Some (sale_cells sale (transaction_cleared e.act) (delivery_of s.unpaid sale.point (transaction_cleared e.act)))
     ]) more)
 row-told first s e None more holds all = all
 row-told first s e (Some sale) more holds all =
-    let x = number_cleared e.act in
-    All-cons (TellsNone first) _ more (λ old. bare-cells sale x (ended_as s.unpaid sale.point x) (holds.none sale.point x old)) all
+    let x = transaction_cleared e.act in
+    All-cons (HasNoDeliveryIfCarriedIn first) _ more (λ old. bare-cells sale x (delivery_of s.unpaid sale.point x) (holds.none sale.point x old)) all
 
-pub carried-told : (first : List PointState) → GivenOut first → (s : Stand) (entries : List Entry) → Holds first s
-    → All (TellsNone first) (rows_from rows.Sales s entries)
+pub carried-told : (first : List PointState) → GivenOut first → (s : DayStateValue) (entries : List Entry) → Holds first s
+    → All (HasNoDeliveryIfCarriedIn first) (rows_from rows.Sales s entries)
 unfolding sale_row
-carried-told first given s [] holds = All-nil (TellsNone first)
+carried-told first given s [] holds = All-nil (HasNoDeliveryIfCarriedIn first)
 carried-told first given s (e ∷ entries) holds =
-    row-told first s e (sale_of s.points e) (rows_from rows.Sales (stand_after s e) entries) holds
-    (carried-told first given (stand_after s e) entries (holds-more first s e given holds))
+    row-told first s e (sale_of s.points e) (rows_from rows.Sales (state_after_entry s e) entries) holds
+    (carried-told first given (state_after_entry s e) entries (holds-more first s e given holds))

@@ -1,4 +1,4 @@
--- An entry changes at most one point, and it is the one that its act names.
+-- An entry changes at most one point: the point that its act names.
 use Rattle.std.proofs.Common.{◌≡◌, ◌≤◌, ◌⊎◌, ℕ, ◌-◌, arith, Bool, true, false, List, [], ◌∷◌, zero, suc, Option, Some, None, slice_get, slice_set}
 use Rattle.std.proofs.Common.{refl, ap, sym, subst, inl, inr}
 use Rattle.std.specs.Prelude.{nat_le, nat_lt, if◌then◌else◌}
@@ -15,10 +15,10 @@ use Rattle.site_core.specs.State.{at_number}
 use Rattle.site_core.specs.Decide.{after_command}
 use Rattle.day_report.specs.Walk.{after_event, done_command, granted_command, with_act, with_changed, with_command}
 use Rattle.day_report.proofs.Walking.{changed-at, changed-nowhere}
-use Rattle.day_export.specs.Standing.{point_asked, point_named}
+use Rattle.day_export.specs.DayState.{point_of_request, point_of_act}
 use Rattle.day_export.proofs.Growing.{Grows, command-grows, event-grows}
 
--- the list `later` is `points` with point m changed from p to q, and this adds at most one transaction
+-- The list `later` is `points` with point m changed from p to q. The change adds at most one transaction.
 pub record Became (m : ℕ) (points later : List PointState) : Type 0 where
   pub p : PointState
   pub q : PointState
@@ -39,7 +39,7 @@ command-by : (points : List PointState) (till m : ℕ) (c : Command) (b : Bool)
 command-by points till m c true = changes points m (λ p. after_command p till c) (λ p. command-grows p till c) (at_number points m) refl
 command-by points till m c false = inl refl
 
--- If the command that a request carried out is one at point m, then at most point m changes.
+-- If the optional command o is None or is for point m, then executing it changes at most point m.
 told-at : (points : List PointState) (till m : ℕ) (o : Option (ℕ × Command)) → ((n : ℕ) (c : Command) → o ≡ Some (n, c) → n ≡ m)
     → Changes m points (elim o as (λ _. List PointState) [ None ↦ points | Some c ↦ with_command points till c ])
 told-at points till m None here = inl refl
@@ -54,7 +54,7 @@ first-is a b c d h =
 no-command : {P : Type 0} (n : ℕ) (c : Command) → ◌≡◌ {A = Option (ℕ × Command)} None (Some (n, c)) → P
 no-command n c h = absurd (cc)
 
-done-here : (r : Request) (n : ℕ) (c : Command) → done_command r ≡ Some (n, c) → n ≡ point_asked r
+done-here : (r : Request) (n : ℕ) (c : Command) → done_command r ≡ Some (n, c) → n ≡ point_of_request r
 done-here (request.Release m a) n c h = no-command n c h
 done-here (request.Preset m a) n c h = no-command n c h
 done-here (request.Price m a) n c h = no-command n c h
@@ -68,7 +68,7 @@ done-here (request.Unlock m x) n c h = first-is m n _ c h
 done-here (request.Clear m x) n c h = first-is m n _ c h
 done-here (request.Show m) n c h = no-command n c h
 
-granted-here : (r : Request) (g n : ℕ) (c : Command) → granted_command r g ≡ Some (n, c) → n ≡ point_asked r
+granted-here : (r : Request) (g n : ℕ) (c : Command) → granted_command r g ≡ Some (n, c) → n ≡ point_of_request r
 granted-here (request.Release m a) g n c h = first-is m n _ c h
 granted-here (request.Preset m a) g n c h = first-is m n _ c h
 granted-here (request.Price m a) g n c h = no-command n c h
@@ -82,9 +82,9 @@ granted-here (request.Unlock m x) g n c h = no-command n c h
 granted-here (request.Clear m x) g n c h = no-command n c h
 granted-here (request.Show m) g n c h = no-command n c h
 
-pub act-changes : (points : List PointState) (a : Act) (r : Reply) → Changes (point_named a) points (with_act points a r)
-act-changes points (act.Till till q) reply.Done = told-at points till (point_asked q) (done_command q) (done-here q)
-act-changes points (act.Till till q) (reply.Granted g v) = told-at points till (point_asked q) (granted_command q g) (granted-here q g)
+pub act-changes : (points : List PointState) (a : Act) (r : Reply) → Changes (point_of_act a) points (with_act points a r)
+act-changes points (act.Till till q) reply.Done = told-at points till (point_of_request q) (done_command q) (done-here q)
+act-changes points (act.Till till q) (reply.Granted g v) = told-at points till (point_of_request q) (granted_command q g) (granted-here q g)
 act-changes points (act.Till till q) (reply.Version v) = inl refl
 act-changes points (act.Till till q) (reply.Order o) = inl refl
 act-changes points (act.Till till q) (reply.Point a b c d e f g) = inl refl

@@ -1,9 +1,9 @@
--- After a clearing of a legal history was answered `done`, its transaction is no longer among the point's unpaid ones.
+-- When a site answers a till's request Clear with `done`, the cleared transaction is no longer unpaid afterwards.
 use Rattle.std.proofs.Common.{◌≡◌, ℕ, ◌-◌, ◌<◌, Bool, true, false, List, Option, Some, None, Ok, Err, slice_set, refl, ap, sym, subst, arith, ◌∙◌}
 use Rattle.std.specs.Prelude.{IsSome, if◌then◌else◌, ◌==◌}
 use Rattle.std.proofs.lemmas.Bool.{lt-ltb}
 use Rattle.std.proofs.lemmas.Bool.Decides.{nat_tests}
-use Rattle.fuelling_point.specs.Table.{PointState, Answer, command_step, find_number, without}
+use Rattle.fuelling_point.specs.Table.{PointState, StepResult, command_step, find_number, without}
 use Rattle.fuelling_point.specs.declared.kinds.Command.TheVariants as command
 use Rattle.fuelling_point.specs.declared.kinds.PointFault.{PointFault}
 use Rattle.fuelling_point.specs.declared.kinds.PointFault.TheVariants.{WrongState, TransactionsFull, NotYourTransaction, NoSuchTransaction, NoOrder}
@@ -19,18 +19,19 @@ use Rattle.site_core.specs.Limits.{ConfigValue}
 use Rattle.site_core.specs.State.{SiteState, at_number}
 use Rattle.site_core.specs.Decide.{after_command, is_till, no_such_till, replied}
 use Rattle.site_core.specs.Step.{asked, command_effect, effect, fault_reply}
-use Rattle.site_core.proofs.Points.{commanded-some}
+use Rattle.site_core.proofs.Points.{till_command_effect-some}
 use Rattle.day_report.specs.Walk.{with_act, with_changed}
 use Rattle.day_report.specs.Sales.{clearing_of, unpaid_at}
 use Rattle.day_report.specs.declared.sales.Sale.{Sale}
 use Rattle.day_report.proofs.Walking.{changed-at}
-use Rattle.day_export.specs.Standing.{number_cleared}
+use Rattle.day_export.specs.DayState.{transaction_cleared}
 use Rattle.day_export.proofs.Growing.{gone}
 use Rattle.day_export.proofs.Changing.{at-same}
 
 -- ---- the act of a sale
 
--- the sale of an entry, if its act and its reply were these
+-- The sale that an entry makes with this act and this reply; None if it makes none. The first argument is the list of
+-- the points before the entry.
 abbrev pub made : List PointState → Entry → Act → Reply → Option Sale
 made points e a r =
     elim (clearing_of a r) [
@@ -44,9 +45,9 @@ made points e a r =
 
 -- The act that made this sale is a till's request Clear for an unpaid transaction, and it was answered `done`.
 pub record Cleared (points : List PointState) (a : Act) (r : Reply) (sale : Sale) : Type 0 where
-  pub act_is : a ≡ act.Till sale.till (request.Clear sale.point (number_cleared a))
+  pub act_is : a ≡ act.Till sale.till (request.Clear sale.point (transaction_cleared a))
   pub reply_is : r ≡ reply.Done
-  pub found : IsSome (unpaid_at points sale.point (number_cleared a))
+  pub found : IsSome (unpaid_at points sale.point (transaction_cleared a))
 
 clear-made : (points : List PointState) (e : Entry) (till n y : ℕ) (o : Option Transaction) (sale : Sale) → unpaid_at points n y ≡ o
     → ◌≡◌ {A = Option Sale} (elim o as (λ _. Option Sale) [
@@ -85,9 +86,10 @@ made-clears points e a (reply.Refused n v) sale h = absurd (cc)
 
 -- ---- the point after a clearing
 
--- If a clearing is accepted, then the point has its transactions without the one that was cleared.
+-- If point p accepts the clearing of transaction y and becomes q, then the unpaid transactions of q are those of p
+-- without y.
 cleared-by : (b : Bool) (p q : PointState) (y : ℕ) (what d : Option ℕ)
-    → ◌≡◌ {A = Answer (Option ℕ)} (if b then Ok (record p { unpaid = without y p.unpaid }, what) else Err NotYourTransaction) (Ok (q, d))
+    → ◌≡◌ {A = StepResult (Option ℕ)} (if b then Ok (record p { unpaid = without y p.unpaid }, what) else Err NotYourTransaction) (Ok (q, d))
     → q.unpaid ≡ without y p.unpaid
 cleared-by true p q y what d h =
     let both : ◌≡◌ {A = PointState × Option ℕ} (record p { unpaid = without y p.unpaid }, what) (q, d) = cc in
@@ -95,7 +97,7 @@ cleared-by true p q y what d h =
 cleared-by false p q y what d h = absurd (cc)
 
 cleared-is : (o : Option Transaction) (b : Transaction → Bool) (p q : PointState) (y : ℕ) (d : Option ℕ)
-    → ◌≡◌ {A = Answer (Option ℕ)} (elim o as (λ _. Answer (Option ℕ)) [
+    → ◌≡◌ {A = StepResult (Option ℕ)} (elim o as (λ _. StepResult (Option ℕ)) [
       | None ↦ Err NoSuchTransaction
       | Some t ↦ if b t then Ok (record p { unpaid = without y p.unpaid }, Some t.amount) else Err NotYourTransaction
     ]) (Ok (q, d)) → q.unpaid ≡ without y p.unpaid
@@ -110,14 +112,14 @@ fault-no NoSuchTransaction h = absurd (cc)
 fault-no NoOrder h = absurd (cc)
 fault-no Unexpected h = absurd (cc)
 
--- If a clearing is answered `done`, then its point no longer has an unpaid transaction of this number.
-point-clears : (s : SiteState) (n y till : ℕ) (p : PointState) (a : Answer (Option ℕ)) → command_step p till (command.Clear y) ≡ a
+-- If the command Clear for transaction y at point p is answered `done`, then p has no unpaid transaction y afterwards.
+point-clears : (s : SiteState) (n y till : ℕ) (p : PointState) (a : StepResult (Option ℕ)) → command_step p till (command.Clear y) ≡ a
     → (command_effect s n a).reply ≡ reply.Done → find_number y (after_command p till (command.Clear y)).unpaid ≡ None
 point-clears s n y till p (Err f) is h = fault-no f h
 point-clears s n y till p (Ok (q, d)) is h =
     let left : q.unpaid ≡ without y p.unpaid = cleared-is (find_number y p.unpaid) (λ t. t.holder == till) p q y d is in
-    let became : after_command p till (command.Clear y) ≡ q = ap (λ (x : Answer (Option ℕ)). elim x as (λ _. PointState) [ Ok o ↦ o.0 | Err _ ↦ p ]) is in
-    ap (λ (x : PointState). find_number y x.unpaid) became ∙ ap (find_number y) left ∙ gone y p.unpaid
+    let is_delivery_of : after_command p till (command.Clear y) ≡ q = ap (λ (x : StepResult (Option ℕ)). elim x as (λ _. PointState) [ Ok o ↦ o.0 | Err _ ↦ p ]) is in
+    ap (λ (x : PointState). find_number y x.unpaid) is_delivery_of ∙ ap (find_number y) left ∙ gone y p.unpaid
 
 positive : (config : ConfigValue) (till : ℕ) → is_till config till ≡ true → 0 < till
 positive config till h = grind (arith, nat_tests, h)
@@ -125,7 +127,8 @@ positive config till h = grind (arith, nat_tests, h)
 some-same : (a b : PointState) → ◌≡◌ {A = Option PointState} (Some a) (Some b) → a ≡ b
 some-same a b h = cc
 
--- A clearing at point n that was answered `done` changes point n as the command Clear does, and no other point.
+-- If a till's request Clear for point n was answered `done`, then only point n changes, and it changes as the command
+-- Clear says.
 points-after : (points : List PointState) (till n y : ℕ) (p : PointState) → 0 < till → at_number points n ≡ Some p
     → with_act points (act.Till till (request.Clear n y)) reply.Done ≡ slice_set points (n - 1) (after_command p till (command.Clear y))
 points-after points till n y p some at =
@@ -139,7 +142,7 @@ till-clears config past s till moment n y p q false is done at later = absurd (c
 till-clears config past s till moment n y p q true is done at later =
     let next : PointState = after_command p till (command.Clear y) in
     let told : (command_effect s n (command_step p till (command.Clear y))).reply ≡ reply.Done =
-    sym (ap (λ e. e.reply) (commanded-some s till n (command.Clear y) p at)) ∙ done in
+    sym (ap (λ e. e.reply) (till_command_effect-some s till n (command.Clear y) p at)) ∙ done in
     let there : at_number (slice_set s.points (n - 1) next) n ≡ Some next = at-same s.points n p next at in
     let same : next ≡ q = some-same next q
     (sym there ∙ ap (λ ps. at_number ps n) (sym (points-after s.points till n y p (positive config till is) at)) ∙ later) in

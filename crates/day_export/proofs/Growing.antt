@@ -1,7 +1,8 @@
--- An event or a command adds at most one transaction to the unpaid ones of a point, and that one has the next number.
+-- An event or a command adds at most one unpaid transaction to a point. An added transaction has the point's next
+-- number.
 use Rattle.std.proofs.Common.{◌≡◌, ◌⊎◌, ℕ, ◌+◌, Bool, true, false, List, [], ◌∷◌, ◌++◌, length, Option, Some, None, Ok, Err, refl, ap, ◌∙◌, inl, inr}
 use Rattle.std.specs.Prelude.{◌==◌, ◌&&◌, ◌||◌, not, nat_lt, if◌then◌else◌}
-use Rattle.fuelling_point.specs.Table.{PointState, Answer, find_number, hand_out, held_by, keep_delivery, rest_in, without}
+use Rattle.fuelling_point.specs.Table.{PointState, StepResult, find_number, take_order, held_by, add_unpaid_delivery, end_delivery_in, without}
 use Rattle.fuelling_point.specs.States.{is_busy, is_ready, has_flowed}
 use Rattle.fuelling_point.specs.declared.kinds.State.{State}
 use Rattle.fuelling_point.specs.declared.kinds.State.TheVariants as state
@@ -43,7 +44,8 @@ none-held x holder y (t ∷ ts) h =
     let both = none-first (t.number == x) t (find_number x ts) h in
     none-if _ _ (find_number x (held_by holder y ts)) (ap (λ n. n == x) (held-number (t.number == y) t holder) ∙ both.0) (none-held x holder y ts both.1)
 
--- If neither t nor the rest of a list has the number x, then the list has no x, whether t is kept in it or not.
+-- If t doesn't have the number x, and x isn't found in the list `rest`, then x isn't found in `rest` with or without t
+-- before it.
 none-kept : (b c : Bool) (t : Transaction) (x : ℕ) (rest : List Transaction) → (t.number == x) ≡ false → find_number x rest ≡ None
     → find_number x (if b then t ∷ rest else rest) ≡ None
 none-kept true c t x rest other h = none-if (t.number == x) t (find_number x rest) other h
@@ -66,8 +68,8 @@ gone y (t ∷ ts) = gone-first (t.number == y) t y (without y ts) refl (gone y t
 
 -- ---- the transactions that a point adds
 
--- as the point changed from p to q it gave out no transaction number, and each unpaid transaction of q has the number
--- of an unpaid one of p
+-- A point changed from the first state to the second, and gave out no transaction number. Each unpaid transaction
+-- of the second state has the number of an unpaid one of the first.
 abbrev pub Stays : PointState → PointState → Type 0
 Stays p q = (q.last ≡ p.last) × ((x : ℕ) → find_number x p.unpaid ≡ None → find_number x q.unpaid ≡ None)
 
@@ -77,8 +79,8 @@ Adds p q = (q.last ≡ p.last + 1) × ((x : ℕ) → find_number x p.unpaid ≡ 
 abbrev pub Grows : PointState → PointState → Type 0
 Grows p q = Stays p q ⊎ Adds p q
 
--- the point after a command or an event: the new point if it was accepted, or the old one if it was refused
-abbrev after : {T : Type 0} → PointState → Answer T → PointState
+-- the point after a step (a command or an event): the new point if the step was accepted, the old one if it was refused
+abbrev after : {T : Type 0} → PointState → StepResult T → PointState
 after p a = elim a as (λ _. PointState) [ Ok o ↦ o.0 | Err f ↦ p ]
 
 same : (p : PointState) → Grows p p
@@ -99,11 +101,11 @@ keep-grows true p = inr (refl, λ x h other. none-added x p.unpaid _ h other)
 keep-grows false p = same p
 
 rest-by : (b : Bool) (next : State) (p : PointState) → Grows p (if b then
-    record (keep_delivery p) { state = next; limit = 0; amount = 0; volume = 0; taken = false } else record p { state = next })
+    record (add_unpaid_delivery p) { state = next; limit = 0; amount = 0; volume = 0; taken = false } else record p { state = next })
 rest-by true next p = keep-grows (has_flowed p.state && nat_lt 0 p.amount) p
 rest-by false next p = same p
 
-rest-grows : (next : State) (p : PointState) → Grows p (rest_in next p)
+rest-grows : (next : State) (p : PointState) → Grows p (end_delivery_in next p)
 rest-grows next p = rest-by (is_busy p.state) next p
 
 flow-by : (b : Bool) (p q r : PointState) → Stays p q → Stays p r → Grows p (if b then q else r)
@@ -122,7 +124,7 @@ flow-grows state.SuspendedStarted p q r s b i j k = flow-by b p r s j k
 flow-grows state.Fuelling p q r s b i j k = flow-by b p r s j k
 flow-grows state.SuspendedFuelling p q r s b i j k = inl i
 
-hand-grows : (o : Option Order) (p : PointState) → Grows p (after p (hand_out p o))
+hand-grows : (o : Option Order) (p : PointState) → Grows p (after p (take_order p o))
 hand-grows None p = same p
 hand-grows (Some o) p = same p
 
@@ -137,7 +139,7 @@ event-grows p event.Repaired = if-grows _ p _ None Unexpected (same p)
 event-grows p event.TakeOrder = hand-grows p.order p
 
 suspend-grows : (st : State) (p x y : PointState) → Grows p x → Grows p y
-    → Grows p (after p (elim st as (λ _. Answer (Option ℕ)) [ state.Started ↦ Ok (x, None) | state.Fuelling ↦ Ok (y, None) | s ↦ Err (WrongState s) ]))
+    → Grows p (after p (elim st as (λ _. StepResult (Option ℕ)) [ state.Started ↦ Ok (x, None) | state.Fuelling ↦ Ok (y, None) | s ↦ Err (WrongState s) ]))
 suspend-grows state.Inoperative p x y g h = same p
 suspend-grows state.Closed p x y g h = same p
 suspend-grows state.Idle p x y g h = same p
@@ -149,7 +151,7 @@ suspend-grows state.Fuelling p x y g h = h
 suspend-grows state.SuspendedFuelling p x y g h = same p
 
 resume-grows : (st : State) (b : Bool) (p x y : PointState) (f : PointFault) → Grows p x → Grows p y
-    → Grows p (after p (elim st as (λ _. Answer (Option ℕ)) [
+    → Grows p (after p (elim st as (λ _. StepResult (Option ℕ)) [
       | state.SuspendedStarted ↦ Ok (x, None)
       | state.SuspendedFuelling ↦ if b then Ok (y, None) else Err f
       | s ↦ Err (WrongState s)
@@ -165,7 +167,7 @@ resume-grows state.Fuelling b p x y f g h = same p
 resume-grows state.SuspendedFuelling b p x y f g h = if-grows b p y None f h
 
 found-grows : (o : Option Transaction) (b : Transaction → Bool) (p q : PointState) (what : Transaction → Option ℕ) → Grows p q
-    → Grows p (after p (elim o as (λ _. Answer (Option ℕ)) [ None ↦ Err NoSuchTransaction | Some t ↦ if b t then Ok (q, what t) else Err NotYourTransaction ]))
+    → Grows p (after p (elim o as (λ _. StepResult (Option ℕ)) [ None ↦ Err NoSuchTransaction | Some t ↦ if b t then Ok (q, what t) else Err NotYourTransaction ]))
 found-grows None b p q what h = same p
 found-grows (Some t) b p q what h = if-grows (b t) p q (what t) NotYourTransaction h
 

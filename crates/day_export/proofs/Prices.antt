@@ -1,10 +1,10 @@
--- The prices that follow from the entries of a legal history are those of its site.
+-- After a legal history, the prices that follow from its entries are the site's prices.
 use Rattle.std.proofs.Common.{◌≡◌, ◌≤◌, ◌<◌, ℕ, ◌-◌, Bool, true, false, List, [], ◌∷◌, zero, suc, length, Option, Some, None, Result, Ok, Err}
 use Rattle.std.proofs.Common.{slice_set, refl, ap, sym, subst, arith, ◌∙◌}
 use Rattle.std.specs.Prelude.{◌==◌, ◌&&◌, nat_le, nat_lt, if◌then◌else◌}
 use Rattle.std.proofs.lemmas.Bool.{le-leb}
 use Rattle.std.proofs.lemmas.Bool.Decides.{nat_tests}
-use Rattle.fuelling_point.specs.Table.{PointState, Answer, command_step, event_step}
+use Rattle.fuelling_point.specs.Table.{PointState, StepResult, command_step, event_step}
 use Rattle.fuelling_point.specs.States.{is_ready}
 use Rattle.fuelling_point.specs.declared.kinds.State.{State}
 use Rattle.fuelling_point.specs.declared.kinds.Order.{Order}
@@ -27,39 +27,39 @@ use Rattle.site_core.specs.Limits.{ConfigValue}
 use Rattle.site_core.specs.State.{SiteState, at_number, first_busy, view_of, with_point}
 use Rattle.site_core.specs.Context.{context}
 use Rattle.site_core.specs.History.{in_force}
-use Rattle.site_core.specs.Decide.{Effect, after_command, bad_amount, command_of, decided, grant, granted_point, is_till, is_within, need}
-use Rattle.site_core.specs.Decide.{no_such_till, preset_of, preset_question, price_at, price_question, ran, release_of, release_question, replied}
+use Rattle.site_core.specs.Decide.{Effect, after_command, bad_amount, command_of, decided, grant, granted_amount, is_till, is_within, refuse_unless}
+use Rattle.site_core.specs.Decide.{no_such_till, preset_of, preset_question, price_at, price_question, run_result, release_of, release_question, replied}
 use Rattle.site_core.specs.Decide.{transactions_full, verdict, wrong_state}
-use Rattle.site_core.specs.Step.{asked, command_effect, commanded, effect, event_effect, reported}
-use Rattle.site_core.proofs.Points.{commanded-none, commanded-some, preset-none, preset-some, release-none, release-some, reported-none, reported-some}
+use Rattle.site_core.specs.Step.{asked, command_effect, till_command_effect, effect, event_effect, dispenser_effect}
+use Rattle.site_core.proofs.Points.{till_command_effect-none, till_command_effect-some, preset-none, preset-some, release-none, release-some, dispenser_effect-none, dispenser_effect-some}
 use Rattle.site_core.proofs.Decisions.{decided-none, decided-refused, decided-some}
 use Rattle.site_core.proofs.Grants.{grant-none, verdict-deny, verdict-grant}
-use Rattle.day_export.specs.Standing.{prices_after, with_price}
+use Rattle.day_export.specs.DayState.{prices_after, with_price}
 
 abbrev Same : SiteState → Effect → Type 0
 Same s e = e.after.prices ≡ s.prices
 
 -- ---- requests that change no price
 
-command-same : (s : SiteState) (n : ℕ) (a : Answer (Option ℕ)) → Same s (command_effect s n a)
+command-same : (s : SiteState) (n : ℕ) (a : StepResult (Option ℕ)) → Same s (command_effect s n a)
 command-same s n (Err f) = refl
 command-same s n (Ok (q, d)) = refl
 
-commanded-same : (s : SiteState) (till n : ℕ) (c : Command) (o : Option PointState) → at_number s.points n ≡ o → Same s (commanded s till n c)
-commanded-same s till n c None at = subst (Same s) (sym (commanded-none s till n c at)) refl
-commanded-same s till n c (Some p) at = subst (Same s) (sym (commanded-some s till n c p at)) (command-same s n (command_step p till c))
+till_command_effect-same : (s : SiteState) (till n : ℕ) (c : Command) (o : Option PointState) → at_number s.points n ≡ o → Same s (till_command_effect s till n c)
+till_command_effect-same s till n c None at = subst (Same s) (sym (till_command_effect-none s till n c at)) refl
+till_command_effect-same s till n c (Some p) at = subst (Same s) (sym (till_command_effect-some s till n c p at)) (command-same s n (command_step p till c))
 
--- the result for a request is a question about a point that exists, or a reply at once
+-- If the result of a request is a question to a rule, then the site has the point that the question is about.
 abbrev AsksThere : SiteState → Result Question Reply → Type 0
 AsksThere s (Ok q) = (p : PointState) × (at_number s.points q.point ≡ Some p)
 AsksThere s (Err r) = Unit {0}
 
-needs : (s : SiteState) (b : Bool) (r : Reply) (x : Result Question Reply) → AsksThere s x → AsksThere s (need b r x)
+needs : (s : SiteState) (b : Bool) (r : Reply) (x : Result Question Reply) → AsksThere s x → AsksThere s (refuse_unless b r x)
 needs s true r x h = h
 needs s false r x h = tt
 
 two-there : (s : SiteState) (b c : Bool) (f g : Reply) (q : Question) (p : PointState) → at_number s.points q.point ≡ Some p
-    → AsksThere s (need b f (need c g (Ok q)))
+    → AsksThere s (refuse_unless b f (refuse_unless c g (Ok q)))
 two-there s true true f g q p at = (p, at)
 two-there s true false f g q p at = tt
 two-there s false c f g q p at = tt
@@ -70,7 +70,7 @@ release-there config s n amount None at = subst (AsksThere s) (sym (release-none
 release-there config s n amount (Some p) at =
     let q : Question = release_of config n amount in
     subst (AsksThere s) (sym (release-some config s n amount p at))
-    (needs s (is_within 1 amount 999999999) bad_amount (need (is_ready p.state) (wrong_state p.state) (need (nat_lt (length p.unpaid) 2) transactions_full (Ok q)))
+    (needs s (is_within 1 amount 999999999) bad_amount (refuse_unless (is_ready p.state) (wrong_state p.state) (refuse_unless (nat_lt (length p.unpaid) 2) transactions_full (Ok q)))
     (two-there s (is_ready p.state) (nat_lt (length p.unpaid) 2) (wrong_state p.state) transactions_full q p at))
 
 preset-there : (config : ConfigValue) (s : SiteState) (n amount : ℕ) (o : Option PointState) → at_number s.points n ≡ o
@@ -80,7 +80,7 @@ preset-there config s n amount (Some p) at = subst (AsksThere s) (sym (preset-so
     (two-there s (is_within 1 amount 999999999) (is_ready p.state) bad_amount (wrong_state p.state) (preset_of config n amount) p at)
 
 grant-at : (s : SiteState) (till r : ℕ) (q : Question) (p : PointState) → at_number s.points q.point ≡ Some p
-    → grant s till q r ≡ (let g : ℕ = granted_point q.kind q.asked r p.preset in (g, with_point s q.point (after_command p till (command_of q.kind g))))
+    → grant s till q r ≡ (let g : ℕ = granted_amount q.kind q.asked r p.preset in (g, with_point s q.point (after_command p till (command_of q.kind g))))
 unfolding grant
 grant-at s till r q p at = rw (at, grant)
 
@@ -89,7 +89,7 @@ verdict-same : (s : SiteState) (till moment : ℕ) (q : Question) (v : Version) 
 verdict-same s till moment q v x c p true denies at = subst (Same s) (sym (verdict-deny s till moment x q v c denies)) refl
 verdict-same s till moment q v x c p false grants at =
     let counted : SiteState = record s { counters = c } in
-    let g : ℕ = granted_point q.kind q.asked x p.preset in
+    let g : ℕ = granted_amount q.kind q.asked x p.preset in
     subst (Same s) (sym (verdict-grant s till moment x g q v c (with_point counted q.point (after_command p till (command_of q.kind g))) grants
     (grant-at counted till x q p at))) refl
 
@@ -97,7 +97,7 @@ version-same : (config : ConfigValue) (past : List Entry) (s : SiteState) (till 
     → at_number s.points q.point ≡ Some p → Same s (decided config past s till moment (Ok q))
 version-same config past s till moment q p None none at = subst (Same s) (sym (decided-none config past s till moment q none)) refl
 version-same config past s till moment q p (Some v) some at =
-    let x : ℕ × Counters = ran (outcome v.program (bytes_of (context v.program.layout s till moment q)) (view_of s) s.counters) s.counters in
+    let x : ℕ × Counters = run_result (outcome v.program (bytes_of (context v.program.layout s till moment q)) (view_of s) s.counters) s.counters in
     subst (Same s) (sym (decided-some config past s till moment q v some)) (verdict-same s till moment q v x.0 x.1 p (x.0 == 0) refl at)
 
 decided-same : (config : ConfigValue) (past : List Entry) (s : SiteState) (till moment : ℕ) (x : Result Question Reply) → AsksThere s x → Same s (decided config past s till moment x)
@@ -106,7 +106,7 @@ decided-same config past s till moment (Ok q) there = version-same config past s
 
 -- ---- price changes
 
--- the prices after an act are those that follow from the act and its reply
+-- The effect of the act changes the site's prices as `prices_after` says for this act and the effect's reply.
 abbrev Tells : SiteState → Act → Effect → Type 0
 Tells s a e = e.after.prices ≡ prices_after s.prices a e.reply
 
@@ -128,13 +128,13 @@ with-is prices product price one =
     with-by prices product price (nat_le product (length prices)) refl one
     ∙ sym (ap (λ b. if b && nat_le product (length prices) then slice_set prices (product - 1) price else prices) least)
 
--- the result for a request is a question about the price of this product, or a refusal
+-- The result of a request is a question to a rule about the price of this product, or it is a refusal.
 abbrev AsksPrice : ℕ → Result Question Reply → Type 0
 AsksPrice product (Ok q) = (q.point ≡ 0) × (q.product ≡ product) × (1 ≤ product)
 AsksPrice product (Err r) = (m : ℕ) × (v : Option ℕ) × (r ≡ reply.Refused m v)
 
 price-by : (b c : Bool) (busy : Option State) (product price slot : ℕ) → is_within 1 product 8 ≡ b
-    → AsksPrice product (need (b && c) bad_amount (elim busy as (λ _. Result Question Reply) [
+    → AsksPrice product (refuse_unless (b && c) bad_amount (elim busy as (λ _. Result Question Reply) [
       | Some st ↦ Err (wrong_state st)
       | None ↦ Ok (record { kind = kind.Price; point = 0; product = product; asked = price; slot = slot })
     ]))
@@ -163,7 +163,7 @@ version-tells : (config : ConfigValue) (past : List Entry) (s : SiteState) (till
 version-tells config past s till moment q product price None none asks =
     subst (Tells s (act.Till till (request.Price product price))) (sym (decided-none config past s till moment q none)) refl
 version-tells config past s till moment q product price (Some v) some asks =
-    let x : ℕ × Counters = ran (outcome v.program (bytes_of (context v.program.layout s till moment q)) (view_of s) s.counters) s.counters in
+    let x : ℕ × Counters = run_result (outcome v.program (bytes_of (context v.program.layout s till moment q)) (view_of s) s.counters) s.counters in
     subst (Tells s (act.Till till (request.Price product price))) (sym (decided-some config past s till moment q v some))
     (verdict-tells s till moment q v x.0 x.1 product price (x.0 == 0) refl asks)
 
@@ -184,14 +184,14 @@ asked-tells config past s till moment (request.Preset n a) =
     decided-same config past s till moment (preset_question config s n a) (preset-there config s n a (at_number s.points n) refl)
 asked-tells config past s till moment (request.Price n a) =
     price-tells config past s till moment n a (price_question config s n a) (price-asks (first_busy s) n a config.price_slot)
-asked-tells config past s till moment (request.OpenPoint n) = commanded-same s till n _ (at_number s.points n) refl
-asked-tells config past s till moment (request.ClosePoint n) = commanded-same s till n _ (at_number s.points n) refl
-asked-tells config past s till moment (request.Suspend n) = commanded-same s till n _ (at_number s.points n) refl
-asked-tells config past s till moment (request.Resume n) = commanded-same s till n _ (at_number s.points n) refl
-asked-tells config past s till moment (request.Stop n) = commanded-same s till n _ (at_number s.points n) refl
-asked-tells config past s till moment (request.Lock n x) = commanded-same s till n _ (at_number s.points n) refl
-asked-tells config past s till moment (request.Unlock n x) = commanded-same s till n _ (at_number s.points n) refl
-asked-tells config past s till moment (request.Clear n x) = commanded-same s till n _ (at_number s.points n) refl
+asked-tells config past s till moment (request.OpenPoint n) = till_command_effect-same s till n _ (at_number s.points n) refl
+asked-tells config past s till moment (request.ClosePoint n) = till_command_effect-same s till n _ (at_number s.points n) refl
+asked-tells config past s till moment (request.Suspend n) = till_command_effect-same s till n _ (at_number s.points n) refl
+asked-tells config past s till moment (request.Resume n) = till_command_effect-same s till n _ (at_number s.points n) refl
+asked-tells config past s till moment (request.Stop n) = till_command_effect-same s till n _ (at_number s.points n) refl
+asked-tells config past s till moment (request.Lock n x) = till_command_effect-same s till n _ (at_number s.points n) refl
+asked-tells config past s till moment (request.Unlock n x) = till_command_effect-same s till n _ (at_number s.points n) refl
+asked-tells config past s till moment (request.Clear n x) = till_command_effect-same s till n _ (at_number s.points n) refl
 asked-tells config past s till moment (request.Show n) = refl
 
 nobody-tells : (prices : List ℕ) (till m : ℕ) (v : Option ℕ) (r : Request) → prices ≡ prices_after prices (act.Till till r) (reply.Refused m v)
@@ -213,15 +213,15 @@ till-tells : (config : ConfigValue) (past : List Entry) (s : SiteState) (till mo
 till-tells config past s till moment r true = asked-tells config past s till moment r
 till-tells config past s till moment r false = nobody-tells s.prices till 21 None r
 
-event-same : (s : SiteState) (n : ℕ) (a : Answer (Option Order)) → Same s (event_effect s n a)
+event-same : (s : SiteState) (n : ℕ) (a : StepResult (Option Order)) → Same s (event_effect s n a)
 event-same s n (Err f) = refl
 event-same s n (Ok (q, o)) = refl
 
-reported-same : (s : SiteState) (n : ℕ) (event : DispenserEvent) (o : Option PointState) → at_number s.points n ≡ o → Same s (reported s n event)
-reported-same s n event None at = subst (Same s) (sym (reported-none s n event at)) refl
-reported-same s n event (Some p) at = subst (Same s) (sym (reported-some s n event p at)) (event-same s n (event_step p event))
+dispenser_effect-same : (s : SiteState) (n : ℕ) (event : DispenserEvent) (o : Option PointState) → at_number s.points n ≡ o → Same s (dispenser_effect s n event)
+dispenser_effect-same s n event None at = subst (Same s) (sym (dispenser_effect-none s n event at)) refl
+dispenser_effect-same s n event (Some p) at = subst (Same s) (sym (dispenser_effect-some s n event p at)) (event-same s n (event_step p event))
 
 pub effect-prices : (config : ConfigValue) (past : List Entry) (s : SiteState) (moment : ℕ) (a : Act) → Tells s a (effect config past s moment a)
 effect-prices config past s moment (act.Till till r) = till-tells config past s till moment r (is_till config till)
-effect-prices config past s moment (act.Dispenser n event) = reported-same s n event (at_number s.points n) refl
+effect-prices config past s moment (act.Dispenser n event) = dispenser_effect-same s n event (at_number s.points n) refl
 effect-prices config past s moment (act.Load slot mask layout bytes) = refl

@@ -1,4 +1,4 @@
--- A reader of CSV with the default settings reads from CSV with CRLF the fields that were written.
+-- A CSV reader with the default settings reads back the fields that were written as CSV with CRLF.
 use Rattle.std.proofs.Common.{◌≡◌, ◌==◌, ◌++◌, ◌∷◌, ◌∙◌, [], ℕ, List, Bool, Some, None, refl, ap, subst, true, false, append_assoc, inl, inr, map}
 use Rattle.std.specs.Prelude.{◌||◌}
 use Rattle.std.specs.List.{list_any, concat}
@@ -62,7 +62,7 @@ head-plain : (ys : List (List ℕ)) → (head-of ys == 34) ≡ false
 head-plain [] = refl
 head-plain (z ∷ zs) = refl
 
--- After a field the reader reads the other fields of the record, up to its carriage return.
+-- After the field x the reader reads the record's other fields, `rest`, and the carriage return that follows them.
 rest-run : (fields : List (List ℕ)) (x : List ℕ) (rest : List (List ℕ)) (tail : List ℕ)
     → next_record default_config st.InField fields x (fields_text default_writer rest ++ (13 ∷ 10 ∷ tail)) ≡ Some (fields ++ (x ∷ rest), st.AfterCr, 10 ∷ tail)
 unfolding next_record fields_text
@@ -115,7 +115,7 @@ read-row x y ys tail =
 
 -- ---- many records
 
--- A record has at least two fields.
+-- The record has at least two fields.
 abbrev pub IsLong : List (List ℕ) → Type 0
 IsLong (x ∷ y ∷ ys) = Unit {0}
 IsLong _ = ⊥
@@ -147,7 +147,7 @@ reached (row ∷ rows) long =
     let rest = concat (map (row_text csv_writer) rows) in
     ((row, st.AfterCr, 10 ∷ rest), past-feed (row_text csv_writer row ++ rest) ∙ read-one row rest long.0, refl, reached rows long.1)
 
--- From the text of a header and rows the reader reads the header and then each row as a record.
+-- From the text of a header and rows, the reader reads back the header and then each row, as one record each.
 pub read-all : (header : List (List ℕ)) (rows : List (List (List ℕ))) → IsLong header → AreLong rows
     → AreRecords default_config st.StartRecord (row_text csv_writer header ++ concat (map (row_text csv_writer) rows)) (header ∷ rows)
 unfolding Reached

@@ -7,7 +7,7 @@ use Rattle.day_export.specs.declared.cells.Word.TheVariants as word
 use Rattle.day_export.specs.declared.cells.Cell.{Cell}
 use Rattle.day_export.specs.declared.cells.Cell.TheVariants as cell
 
--- The names of the columns, first to last.
+-- The names of the columns of each kind of rows, first to last.
 abbrev pub columns : Rows → List (List ℕ)
 columns rows.Sales =
     codes "ended" ∷ codes "cleared" ∷ codes "point" ∷ codes "transaction" ∷ codes "product" ∷ codes "price" ∷ codes "volume"

@@ -1,6 +1,6 @@
 pub mod Cells
 pub mod Acts
-pub mod Standing
+pub mod DayState
 pub mod Rows
 pub mod Text
 pub mod Laws

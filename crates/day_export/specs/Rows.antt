@@ -11,19 +11,20 @@ use Rattle.day_export.specs.declared.cells.Rows.TheVariants as rows
 use Rattle.day_export.specs.declared.cells.Word.TheVariants as word
 use Rattle.day_export.specs.declared.cells.Cell.{Cell}
 use Rattle.day_export.specs.declared.cells.Cell.TheVariants as cell
-use Rattle.day_export.specs.declared.standing.Delivery.{Delivery}
+use Rattle.day_export.specs.declared.day_state.Delivery.{Delivery}
 use Rattle.day_export.specs.Cells.{moment_cell}
 use Rattle.day_export.specs.Acts.{act_cells, reply_cells, run_cells, field_cell}
-use Rattle.day_export.specs.Standing.{Stand, ended_as, number_cleared, stand_after, stand_before}
+use Rattle.day_export.specs.DayState.{DayStateValue, delivery_of, transaction_cleared, state_after_entry, state_at_start}
 
 -- ---- sales
 
--- the cell of the number that `field` takes from a delivery; it is empty if the delivery isn't known
+-- The cell of one number of a delivery; the second argument picks the number. The cell is empty without a delivery.
 abbrev pub ended_cell : Option Delivery → (Delivery → ℕ) → Cell
 ended_cell None field = cell.Nothing
 ended_cell (Some e) field = cell.Number (field e)
 
--- the row of a sale, with the number of its transaction and with its delivery, if that is known
+-- The row of a sale. The arguments are the sale, the number of its transaction, and its delivery, or None if no entry
+-- of the day ended the delivery.
 abbrev pub sale_cells : Sale → ℕ → Option Delivery → List Cell
 sale_cells sale transaction ended =
     ended_cell ended (λ e. e.number)
@@ -38,12 +39,12 @@ sale_cells sale transaction ended =
     ∷ moment_cell sale.moment
     ∷ []
 
--- The row of the sale that an entry makes; None if it makes none.
-unfoldable pub sale_row : Stand → Entry → Option (List Cell)
+-- The row of the sale that an entry makes; None if it makes none. The first argument is the state before the entry.
+unfoldable pub sale_row : DayStateValue → Entry → Option (List Cell)
 sale_row s entry =
     elim (sale_of s.points entry) [
       | None ↦ None
-      | Some sale ↦ Some (sale_cells sale (number_cleared entry.act) (ended_as s.unpaid sale.point (number_cleared entry.act)))
+      | Some sale ↦ Some (sale_cells sale (transaction_cleared entry.act) (delivery_of s.unpaid sale.point (transaction_cleared entry.act)))
     ]
 
 -- ---- decisions
@@ -52,7 +53,7 @@ abbrev pub answer_cell : Bool → Cell
 answer_cell true = cell.Word word.Granted
 answer_cell false = cell.Word word.Denied
 
--- The row of a decision. The fields of the context are read at the offsets and with the sizes that rules use.
+-- The row of an entry's decision; true is a grant. The last 15 cells are read from the context that the rule ran on.
 abbrev pub decision_cells : Entry → Bool → List Cell
 decision_cells entry is_granted =
     cell.Number entry.number
@@ -116,17 +117,17 @@ event_row entry =
 
 -- ---- a day
 
--- The row of an entry; None if it has none. The second argument is the state before the entry.
-abbrev pub row_of : Rows → Stand → Entry → Option (List Cell)
+-- The row of this kind for an entry; None if it has none. The second argument is the state before the entry.
+abbrev pub row_of : Rows → DayStateValue → Entry → Option (List Cell)
 row_of rows.Sales s entry = sale_row s entry
 row_of rows.Decisions s entry = decision_row entry
 row_of rows.Events s entry = Some (event_row entry)
 
--- The rows of the entries, oldest first. The second argument is the state before the entries.
-abbrev pub rows_from : Rows → Stand → List Entry → List (List Cell)
+-- The rows of this kind for the entries, oldest first. The second argument is the state before the entries.
+abbrev pub rows_from : Rows → DayStateValue → List Entry → List (List Cell)
 rows_from which s [] = []
-rows_from which s (entry ∷ entries) = cons_option (row_of which s entry) (rows_from which (stand_after s entry) entries)
+rows_from which s (entry ∷ entries) = cons_option (row_of which s entry) (rows_from which (state_after_entry s entry) entries)
 
--- all rows of one kind, for the history of a site of this configuration
+-- all rows of this kind for this history, on a site with this configuration
 abbrev pub rows_of : Rows → ConfigValue → List Entry → List (List Cell)
-rows_of which config history = rows_from which (stand_before config) history
+rows_of which config history = rows_from which (state_at_start config) history

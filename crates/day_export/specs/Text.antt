@@ -28,8 +28,8 @@ cell_data (cell.Number n) = number (unsigned n)
 cell_data (cell.Word w) = string (word_text w)
 cell_data cell.Nothing = null
 
--- Puts the value of each cell under its name into the members of an object. The members of an object are ordered by the
--- bytes of their names.
+-- The members after the value of each cell was put in under its name. Names without a cell, and cells without a name,
+-- are ignored.
 abbrev pub with_cells : Members → List (List ℕ) → List Cell → Members
 with_cells members (name ∷ names) (c ∷ cells) = with_cells (put name (cell_data c) members) names cells
 with_cells members _ _ = members
@@ -37,7 +37,7 @@ with_cells members _ _ = members
 abbrev pub object_of : List (List ℕ) → List Cell → Data
 object_of names cells = object (with_cells no_members names cells)
 
--- The text of a row: a record of CSV, or an object of JSON in its compact text and an LF.
+-- The text of a row: a CSV record, or a compact JSON object followed by LF.
 unfoldable pub row_bytes : Rows → Format → List Cell → List ℕ
 row_bytes which format.Csv cells = row_text csv_writer (map cell_text cells)
 row_bytes which format.Json cells = compact_text (object_of (columns which) cells) ++ 10 ∷ []
@@ -47,14 +47,15 @@ unfoldable pub header_bytes : Rows → Format → List ℕ
 header_bytes which format.Csv = row_text csv_writer (columns which)
 header_bytes which format.Json = []
 
--- the text of all rows of one kind, for the history of a site of this configuration
+-- The header, if the format has one, and then the text of all rows of this kind. The history is that of a site with
+-- this configuration.
 abbrev pub rows_text : Rows → Format → ConfigValue → List Entry → List ℕ
 rows_text which form config history = header_bytes which form ++ concat (map (row_bytes which form) (rows_of which config history))
 
 -- ---- promises of private functions
 
--- the writer has the settings for rows, and is between two records
-pub record IsBetween {W : Type 0} (writer : Writer W) : Type 0 where
+-- The CSV writer has the settings `csv_writer`, and is between two records.
+pub record IsBetweenRecords {W : Type 0} (writer : Writer W) : Type 0 where
   pub setup : writer_setup writer ≡ csv_writer
   pub fields : fields_written writer ≡ 0
   pub wrote : has_written writer ≡ false

@@ -1,8 +1,8 @@
-//! The cells of an entry's act.
+//! The cells of an act: of a till's request, of a dispenser's event, or of a load of a program.
 
 ghost use Rattle.std.specs.Prelude.{◌≡◌};
-ghost use Rattle.day_export.specs.Acts.{act_cells, asked_at, asked_of, event_cells, layout_number, reported_at, request_cells};
-ghost use Rattle.day_export.specs.Acts.{sent_by};
+ghost use Rattle.day_export.specs.Acts.{act_cells, point_request_cells, transaction_request_cells, event_cells, layout_number, point_event_cells, request_cells};
+ghost use Rattle.day_export.specs.Acts.{bare_act_cells};
 
 use crate::cells::{Cell, Word, number};
 use bpf_model::context::Layout;
@@ -28,8 +28,8 @@ pub(crate) struct ActCells {
 }
 
 /// Returns the cells of an act that has no values but its sender and its verb.
-fn sent_by(sender: Word, verb: Word) -> ActCells
-    ensures { result ≡ sent_by sender verb }
+fn bare_act_cells(sender: Word, verb: Word) -> ActCells
+    ensures { result ≡ bare_act_cells sender verb }
 {
     ActCells {
         sender: Cell::Word(sender),
@@ -47,48 +47,48 @@ fn sent_by(sender: Word, verb: Word) -> ActCells
     }
 }
 
-/// Returns the cells of a till's request that has no values but its point, `n`. All cells but those of the sender, the
-/// till, the verb and the point are `Nothing`.
-fn asked_at(till: u32, verb: Word, n: u32) -> ActCells
-    ensures { result ≡ asked_at till verb n }
+/// Returns the cells of a till's request that names point `n` and has no further values. Only the cells of the sender,
+/// the till, the verb and the point are filled.
+fn point_request_cells(till: u32, verb: Word, n: u32) -> ActCells
+    ensures { result ≡ point_request_cells till verb n }
 {
     ActCells {
         till: number(till),
         point: number(n),
-        ..sent_by(Word::Till, verb)
+        ..bare_act_cells(Word::Till, verb)
     }
 }
 
 /// Returns the cells of a till's request that names a transaction of point `n`.
-fn asked_of(till: u32, verb: Word, n: u32, transaction: u32) -> ActCells
-    ensures { result ≡ asked_of till verb n transaction }
+fn transaction_request_cells(till: u32, verb: Word, n: u32, transaction: u32) -> ActCells
+    ensures { result ≡ transaction_request_cells till verb n transaction }
 {
     ActCells {
         transaction: number(transaction),
-        ..asked_at(till, verb, n)
+        ..point_request_cells(till, verb, n)
     }
 }
 
 /// Returns the cells of a till's request for an amount, in cents, at point `n`.
-fn amount_asked(till: u32, verb: Word, n: u32, amount: u64) -> ActCells
-    ensures { result ≡ record (asked_at till verb n) { amount = Cell.Number amount } }
+fn amount_request_cells(till: u32, verb: Word, n: u32, amount: u64) -> ActCells
+    ensures { result ≡ record (point_request_cells till verb n) { amount = Cell.Number amount } }
 {
     ActCells {
         amount: Cell::Number(amount),
-        ..asked_at(till, verb, n)
+        ..point_request_cells(till, verb, n)
     }
 }
 
 /// Returns the cells of a till's request to change the price of a product. The price, in thousandths of the currency
 /// per litre, is in the cell `amount`.
-fn price_asked(till: u32, product: u32, price: u64) -> ActCells
+fn price_request_cells(till: u32, product: u32, price: u64) -> ActCells
     ensures { result ≡ request_cells till (Request.Price product price) }
 {
     ActCells {
         till: number(till),
         product: number(product),
         amount: Cell::Number(price),
-        ..sent_by(Word::Till, Word::Price)
+        ..bare_act_cells(Word::Till, Word::Price)
     }
 }
 
@@ -97,54 +97,69 @@ fn request_cells(till: u32, request: Request) -> ActCells
     ensures { result ≡ request_cells till request }
 {
     match request {
-        Request::Release(n, amount) => amount_asked(till, Word::Release, n, amount),
-        Request::Preset(n, amount) => amount_asked(till, Word::Preset, n, amount),
-        Request::Price(product, price) => price_asked(till, product, price),
-        Request::OpenPoint(n) => asked_at(till, Word::Open, n),
-        Request::ClosePoint(n) => asked_at(till, Word::Close, n),
-        Request::Suspend(n) => asked_at(till, Word::Suspend, n),
-        Request::Resume(n) => asked_at(till, Word::Resume, n),
-        Request::Stop(n) => asked_at(till, Word::Stop, n),
-        Request::Lock(n, transaction) => asked_of(till, Word::Lock, n, transaction),
-        Request::Unlock(n, transaction) => asked_of(till, Word::Unlock, n, transaction),
-        Request::Clear(n, transaction) => asked_of(till, Word::Clear, n, transaction),
-        Request::Show(n) => asked_at(till, Word::Show, n),
+        Request::Release(n, amount) => amount_request_cells(till, Word::Release, n, amount),
+        Request::Preset(n, amount) => amount_request_cells(till, Word::Preset, n, amount),
+        Request::Price(product, price) => price_request_cells(till, product, price),
+        Request::OpenPoint(n) => point_request_cells(till, Word::Open, n),
+        Request::ClosePoint(n) => point_request_cells(till, Word::Close, n),
+        Request::Suspend(n) => point_request_cells(till, Word::Suspend, n),
+        Request::Resume(n) => point_request_cells(till, Word::Resume, n),
+        Request::Stop(n) => point_request_cells(till, Word::Stop, n),
+        Request::Lock(n, transaction) => transaction_request_cells(
+            till,
+            Word::Lock,
+            n,
+            transaction,
+        ),
+        Request::Unlock(n, transaction) => transaction_request_cells(
+            till,
+            Word::Unlock,
+            n,
+            transaction,
+        ),
+        Request::Clear(n, transaction) => transaction_request_cells(
+            till,
+            Word::Clear,
+            n,
+            transaction,
+        ),
+        Request::Show(n) => point_request_cells(till, Word::Show, n),
     }
 }
 
-/// Returns the cells of a dispenser's event at point `n` that has no further values.
-fn reported_at(n: u32, verb: Word) -> ActCells
-    ensures { result ≡ reported_at n verb }
+/// Returns the cells of an event of the dispenser at point `n`, if the event has no further values.
+fn point_event_cells(n: u32, verb: Word) -> ActCells
+    ensures { result ≡ point_event_cells n verb }
 {
     ActCells {
         point: number(n),
-        ..sent_by(Word::Dispenser, verb)
+        ..bare_act_cells(Word::Dispenser, verb)
     }
 }
 
-/// Returns the cells of a dispenser's event at point `n`.
+/// Returns the cells of an event of the dispenser at point `n`.
 fn event_cells(n: u32, event: DispenserEvent) -> ActCells
     ensures { result ≡ event_cells n event }
 {
     match event {
         DispenserEvent::Up(nozzle) => ActCells {
             nozzle: number(nozzle),
-            ..reported_at(n, Word::Up)
+            ..point_event_cells(n, Word::Up)
         },
-        DispenserEvent::Down => reported_at(n, Word::Down),
-        DispenserEvent::Started => reported_at(n, Word::Started),
+        DispenserEvent::Down => point_event_cells(n, Word::Down),
+        DispenserEvent::Started => point_event_cells(n, Word::Started),
         DispenserEvent::Flowed(amount, volume) => ActCells {
             amount: Cell::Number(amount),
             volume: Cell::Number(volume),
-            ..reported_at(n, Word::Flow)
+            ..point_event_cells(n, Word::Flow)
         },
-        DispenserEvent::Fault => reported_at(n, Word::Fault),
-        DispenserEvent::Repaired => reported_at(n, Word::Repaired),
-        DispenserEvent::TakeOrder => reported_at(n, Word::Order),
+        DispenserEvent::Fault => point_event_cells(n, Word::Fault),
+        DispenserEvent::Repaired => point_event_cells(n, Word::Repaired),
+        DispenserEvent::TakeOrder => point_event_cells(n, Word::Order),
     }
 }
 
-/// Returns the number of a layout, 1 or 2.
+/// Returns the number of a context's layout: 1 for `One`, 2 for `Two`.
 fn layout_number(layout: Layout) -> u32
     ensures { result ≡ layout_number layout }
 {
@@ -170,7 +185,7 @@ pub(crate) fn act_cells(act: &Act) -> ActCells
             slot: number(*slot),
             mask: number(*mask),
             layout: number(layout_number(*layout)),
-            ..sent_by(Word::Owner, Word::Load)
+            ..bare_act_cells(Word::Owner, Word::Load)
         },
     }
 }

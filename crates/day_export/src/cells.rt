@@ -10,7 +10,7 @@ pub enum Rows {
     Sales,
     /// A row for each decision of a rule.
     Decisions,
-    /// A row for each entry.
+    /// A row for each entry of the journal.
     Events,
 }
 
@@ -19,7 +19,7 @@ pub enum Rows {
 pub enum Format {
     /// CSV by RFC 4180, with the names of the columns as its first record.
     Csv,
-    /// A JSON object on a line for each row.
+    /// For each row a line with a JSON object.
     Json,
 }
 
@@ -66,7 +66,7 @@ pub enum Cell {
     Nothing,
 }
 
-/// The names of the columns of sales.
+/// The column names for rows of sales.
 const SALES: [&str; 10] = [
     "ended",
     "cleared",
@@ -80,7 +80,7 @@ const SALES: [&str; 10] = [
     "moment",
 ];
 
-/// The names of the columns of decisions.
+/// The column names for rows of decisions.
 const DECISIONS: [&str; 26] = [
     "entry",
     "moment",
@@ -110,7 +110,7 @@ const DECISIONS: [&str; 26] = [
     "context_open_points",
 ];
 
-/// The names of the columns of entries.
+/// The column names for rows of entries.
 const EVENTS: [&str; 21] = [
     "entry",
     "pass",
@@ -135,7 +135,7 @@ const EVENTS: [&str; 21] = [
     "detail",
 ];
 
-/// Returns the names of the columns, first to last.
+/// Returns the column names for this kind of rows, first to last.
 pub(crate) fn columns(rows: Rows) -> &'static [&'static str]
     ensures { map (λ name. name.now) result.now ≡ columns rows }
 {
@@ -184,14 +184,14 @@ pub(crate) fn word_text(word: Word) -> &'static str
     }
 }
 
-/// Returns the cell of a number.
+/// Returns a cell with the number `n`.
 pub(crate) fn number(n: u32) -> Cell
     ensures { result ≡ Cell.Number n }
 {
     Cell::Number(u64::from(n))
 }
 
-/// Returns the cell of an optional number, which is `Nothing` if the number is missing.
+/// Returns a cell with the number `n`, or `Nothing` for `None`.
 pub(crate) fn optional(n: Option<u32>) -> Cell
     ensures { result ≡ optional n }
 {
@@ -201,7 +201,7 @@ pub(crate) fn optional(n: Option<u32>) -> Cell
     }
 }
 
-/// Returns the cell of a moment, which is `Nothing` for 0: an entry without a moment has 0.
+/// Returns a cell with a moment (a time in seconds), or `Nothing` for 0, which means that there is no moment.
 pub(crate) fn moment_cell(moment: u64) -> Cell
     ensures { result ≡ moment_cell moment }
 {

@@ -1,16 +1,16 @@
-//! The writing of rows as CSV.
+//! Writes rows as CSV.
 
 ghost use Rattle.std.specs.Prelude.{◌≡◌, ◌≢◌, ◌++◌, ◌∷◌, [], Err, OnOk, IfOk, map};
 ghost use Rattle.std.specs.Io.KnownBytes.{Appends, Keeps};
 ghost use Rattle.csv.specs.Records.{fields_of, partial_of};
 ghost use Rattle.csv.specs.Writing.{row_text, text_written};
 ghost use Rattle.day_export.specs.Cells.{cell_text, columns};
-ghost use Rattle.day_export.specs.Text.{IsBetween, csv_writer, header_bytes};
+ghost use Rattle.day_export.specs.Text.{IsBetweenRecords, csv_writer, header_bytes};
 ghost use Rattle.day_export.specs.declared.cells.Format.TheVariants as format;
 
 use crate::cells::{Cell, Rows, columns, word_text};
 use crate::fault::RowsFault;
-use crate::taking::RowTaker;
+use crate::row_writer::RowWriter;
 use csv::{ByteRecord, Terminator, Writer, WriterBuilder};
 use itoa::Buffer;
 use std::alloc::{AllocError, Global};
@@ -20,12 +20,12 @@ use std::io::Write;
 #[derive(Drop)]
 pub(crate) struct CsvRows<W: Write + Drop> {
     writer: Writer<W>,
-    /// The record that is written next. It is kept so that its memory is used again for each row.
+    /// The record that is filled anew for each row. It is kept so that all rows use the same memory.
     row: ByteRecord,
 }
 
-/// Adds a cell to a record as its last field, which is empty for `Nothing`. The record must not have a field that was
-/// begun and not ended. The error is that memory ran out.
+/// Appends a field to the record `row`: the text of the cell, or an empty field for `Nothing`. The record must have no
+/// unfinished field. The error is that memory ran out.
 #[tactic(auto, unfolding(crate::specs::Cells::cell_text))]
 fn push_cell(row: &mut ByteRecord, cell: Cell) -> Result<(), AllocError>
     requires { partial_of row.old ≡ [] }
@@ -53,7 +53,7 @@ fn fill_record(row: &mut ByteRecord, cells: &[Cell]) -> Result<(), AllocError>
     Ok(())
 }
 
-/// Replaces the fields of a record with the names of the columns. The error is that memory ran out.
+/// Replaces the fields of a record with the column names for this kind of rows. The error is that memory ran out.
 fn fill_header(row: &mut ByteRecord, rows: Rows) -> Result<(), AllocError>
     ensures { OnOk result (fields_of row.new ≡ columns rows) }
 {
@@ -67,10 +67,10 @@ fn fill_header(row: &mut ByteRecord, rows: Rows) -> Result<(), AllocError>
 /// Writes the record `row` to `writer`. The writer must have the settings that `CsvRows::start` gives it, and be
 /// between two records. The error is that of the underlying writer, or that memory ran out.
 fn write_record<W: Write + Drop>(writer: &mut Writer<W>, row: &ByteRecord) -> Result<(), RowsFault>
-    requires { IsBetween writer.old }
+    requires { IsBetweenRecords writer.old }
     ensures text { OnOk result (Appends (text_written W.contents writer.old) (text_written W.contents writer.new)
         (row_text csv_writer (fields_of row.now))) }
-    ensures between { OnOk result (IsBetween writer.new) }
+    ensures between { OnOk result (IsBetweenRecords writer.new) }
 {
     Ok(writer.write_byte_record(row)?)
 }
@@ -79,8 +79,9 @@ impl<W: Write + Drop> CsvRows<W> {
     /// Makes a writer of rows on top of `out`, and writes the names of the columns as the first record. Bytes can stay
     /// in the new writer's buffer until `finish`. The error is that of `out`, or that memory ran out.
     pub(crate) fn start(alloc: Global, rows: Rows, out: W) -> Result<CsvRows<W>, RowsFault>
-        ensures text { IfOk result (λ it. Appends (W.contents out) (text_written W.contents it.writer) (header_bytes rows format.Csv)) }
-        ensures ready { IfOk result (λ it. IsBetween it.writer) }
+        ensures text { IfOk result (λ it. Appends (W.contents out) (text_written W.contents it.writer) (header_bytes
+            rows format.Csv)) }
+        ensures ready { IfOk result (λ it. IsBetweenRecords it.writer) }
     {
         let mut writer = WriterBuilder::new()
             .terminator(Terminator::CRLF)
@@ -104,16 +105,16 @@ impl<W: Write + Drop> CsvRows<W> {
     }
 }
 
-impl<W: Write + Drop> RowTaker for CsvRows<W> {
+impl<W: Write + Drop> RowWriter for CsvRows<W> {
     ghost use Rattle.day_export.specs.declared.cells.Format.TheVariants as format;
 
     ghost format = { format.Csv };
 
-    ghost taken = { λ it. text_written W.contents it.writer };
+    ghost written_bytes = { λ it. text_written W.contents it.writer };
 
-    ghost is_ready = { λ it. IsBetween it.writer };
+    ghost is_ready = { λ it. IsBetweenRecords it.writer };
 
-    fn take_row(&mut self, _rows: Rows, cells: &[Cell]) -> Result<(), RowsFault> {
+    fn write_row(&mut self, _rows: Rows, cells: &[Cell]) -> Result<(), RowsFault> {
         fill_record(&mut self.row, cells)?;
         write_record(&mut self.writer, &self.row)
     }

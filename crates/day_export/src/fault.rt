@@ -43,8 +43,8 @@ impl From<csv::Error> for RowsFault {
     fn from(error: csv::Error) -> Self {
         match error.into_kind() {
             csv::ErrorKind::Io(error) => RowsFault::Io(error),
-            // Besides an I/O error a writer of CSV can only run out of memory here, since all rows are as long as their
-            // header.
+            // Apart from I/O errors, the CSV writer can only run out of memory here: its records all have the same
+            // length.
             _ => RowsFault::OutOfMemory,
         }
     }

@@ -1,4 +1,4 @@
-//! The writing of rows as lines of JSON.
+//! Writes rows as lines of JSON.
 
 ghost use Rattle.std.specs.Prelude.{◌≡◌, ◌≢◌, ◌++◌, ◌∷◌, [], IfOk, IsOk, OnOk, map, string_bytes};
 ghost use Rattle.serde_json.specs.View.{view, members_view};
@@ -8,7 +8,7 @@ ghost use Rattle.day_export.specs.declared.cells.Format.TheVariants as format;
 
 use crate::cells::{Cell, Rows, Word, columns, word_text};
 use crate::fault::RowsFault;
-use crate::taking::RowTaker;
+use crate::row_writer::RowWriter;
 use serde_json::{Map, Value, put};
 use std::alloc::{AllocError, Global};
 use std::io::Write;
@@ -20,7 +20,7 @@ pub(crate) struct JsonRows<W: Write + Drop> {
     pub(crate) out: W,
 }
 
-/// Returns the JSON value of a cell. The error is that memory ran out, which can happen only for a word.
+/// Returns the JSON value of a cell. The error is that memory ran out. If the cell isn't a word, there is no error.
 #[tactic(auto, unfolding(crate::specs::Text::cell_data))]
 fn cell_value(alloc: Global, cell: Cell) -> Result<Value, AllocError>
     ensures value { IfOk result (λ value. view value ≡ cell_data cell) }
@@ -33,8 +33,8 @@ fn cell_value(alloc: Global, cell: Cell) -> Result<Value, AllocError>
     }
 }
 
-/// Puts the value of each cell into `members` under the name of its column, first to last. If there are more names than
-/// cells, or more cells than names, those left over are ignored. The error is that memory ran out.
+/// Puts the value of each cell into `members` under the name of its column, first to last. Names without a cell, and
+/// cells without a name, are ignored. The error is that memory ran out.
 fn put_cells(
     members: &mut Map<String, Value>,
     alloc: Global,
@@ -54,7 +54,7 @@ fn put_cells(
     put_cells(members, alloc, names, cells)
 }
 
-/// Returns a row as a JSON object. The error is that memory ran out.
+/// Returns a row of the kind `rows`, with these cells, as a JSON object. The error is that memory ran out.
 fn object_of(alloc: Global, rows: Rows, cells: &[Cell]) -> Result<Value, AllocError>
     ensures { IfOk result (λ value. view value ≡ object_of (columns rows) cells.now) }
 {
@@ -63,7 +63,8 @@ fn object_of(alloc: Global, rows: Rows, cells: &[Cell]) -> Result<Value, AllocEr
     Ok(Value::Object(members))
 }
 
-/// Returns a row as a line of JSON, with its LF. The error is that memory ran out.
+/// Returns a row of the kind `rows`, with these cells, as a line of JSON that ends with LF. The error is that memory
+/// ran out.
 fn line_of(alloc: Global, rows: Rows, cells: &[Cell]) -> Result<String, AllocError>
     ensures { IfOk result (λ line. string_bytes line ≡ row_bytes rows format.Json cells.now) }
 {
@@ -72,16 +73,16 @@ fn line_of(alloc: Global, rows: Rows, cells: &[Cell]) -> Result<String, AllocErr
     Ok(line)
 }
 
-impl<W: Write + Drop> RowTaker for JsonRows<W> {
+impl<W: Write + Drop> RowWriter for JsonRows<W> {
     ghost use Rattle.day_export.specs.declared.cells.Format.TheVariants as format;
 
     ghost format = { format.Json };
 
-    ghost taken = { λ it. W.contents it.out };
+    ghost written_bytes = { λ it. W.contents it.out };
 
     ghost is_ready = { λ it. Unit {0} };
 
-    fn take_row(&mut self, rows: Rows, cells: &[Cell]) -> Result<(), RowsFault> {
+    fn write_row(&mut self, rows: Rows, cells: &[Cell]) -> Result<(), RowsFault> {
         let line = line_of(self.alloc, rows, cells)?;
         Ok(self.out.write_all(line.as_bytes())?)
     }

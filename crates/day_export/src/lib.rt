@@ -4,14 +4,14 @@
 mod acts;
 mod cells;
 mod csv_rows;
+mod day_state;
 mod fault;
 mod json_rows;
 pub mod laws;
 mod replies;
+mod row_writer;
 mod rows;
 mod runs;
-mod standing;
-mod taking;
 pub mod writing;
 
 pub use cells::{Format, Rows};

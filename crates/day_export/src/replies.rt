@@ -1,7 +1,7 @@
 //! The cells of an entry's reply.
 
 ghost use Rattle.std.specs.Prelude.{◌≡◌};
-ghost use Rattle.day_export.specs.Acts.{answered, order_cells, ordered, reply_cells};
+ghost use Rattle.day_export.specs.Acts.{word_reply_cells, order_cells, order_word_cells, reply_cells};
 
 use crate::cells::{Cell, Word, number, optional};
 use fuelling_point::Order;
@@ -20,8 +20,8 @@ pub(crate) struct ReplyCells {
 }
 
 /// Returns the cells of a reply that is only a word.
-fn answered(word: Word) -> ReplyCells
-    ensures { result ≡ answered word }
+fn word_reply_cells(word: Word) -> ReplyCells
+    ensures { result ≡ word_reply_cells word }
 {
     ReplyCells {
         reply: Cell::Word(word),
@@ -33,52 +33,53 @@ fn answered(word: Word) -> ReplyCells
     }
 }
 
-/// Returns the cells of a reply that is an order, with the word of the order.
-fn ordered(word: Word) -> ReplyCells
-    ensures { result ≡ ordered word }
+/// Returns the cells of a reply that is an order to a dispenser; `word` is the order's word.
+fn order_word_cells(word: Word) -> ReplyCells
+    ensures { result ≡ order_word_cells word }
 {
     ReplyCells {
         order: Cell::Word(word),
-        ..answered(Word::Order)
+        ..word_reply_cells(Word::Order)
     }
 }
 
-/// Returns the cells of a reply that is an order. If the order has an amount, in cents, it is in the cell `granted`.
+/// Returns the cells of a reply that is an order to a dispenser. If the order has an amount, in cents, it is in the
+/// cell `granted`.
 fn order_cells(order: Order) -> ReplyCells
     ensures { result ≡ order_cells order }
 {
     match order {
         Order::Authorise(amount) => ReplyCells {
             granted: Cell::Number(amount),
-            ..ordered(Word::Authorise)
+            ..order_word_cells(Word::Authorise)
         },
-        Order::Suspend => ordered(Word::Suspend),
-        Order::Resume => ordered(Word::Resume),
-        Order::Stop => ordered(Word::Stop),
+        Order::Suspend => order_word_cells(Word::Suspend),
+        Order::Resume => order_word_cells(Word::Resume),
+        Order::Stop => order_word_cells(Word::Stop),
     }
 }
 
-/// Returns the cells of a reply. If it shows a point, the numbers of the point have no cells.
+/// Returns the cells of a reply. If the reply shows a point, the point's values have no cells.
 pub(crate) fn reply_cells(reply: Reply) -> ReplyCells
     ensures { result ≡ reply_cells reply }
 {
     match reply {
-        Reply::Done => answered(Word::Done),
+        Reply::Done => word_reply_cells(Word::Done),
         Reply::Granted(granted, version) => ReplyCells {
             granted: Cell::Number(granted),
             version: number(version),
-            ..answered(Word::Granted)
+            ..word_reply_cells(Word::Granted)
         },
         Reply::Version(version) => ReplyCells {
             version: number(version),
-            ..answered(Word::Version)
+            ..word_reply_cells(Word::Version)
         },
         Reply::Order(order) => order_cells(order),
-        Reply::Point { .. } => answered(Word::Point),
+        Reply::Point { .. } => word_reply_cells(Word::Point),
         Reply::Refused(refusal, detail) => ReplyCells {
             refusal: number(refusal),
             detail: optional(detail),
-            ..answered(Word::Refused)
+            ..word_reply_cells(Word::Refused)
         },
     }
 }

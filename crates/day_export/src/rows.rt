@@ -1,21 +1,21 @@
-//! The rows of a day.
+//! Makes the rows of sales, of decisions and of entries.
 
 ghost use Rattle.std.specs.Prelude.{◌≡◌, Some};
 ghost use Rattle.day_export.specs.Rows.{answer_cell, decision_cells, decision_row, event_row, sale_cells, sale_row, ended_cell};
-ghost use Rattle.day_export.specs.Standing.{stand_of};
+ghost use Rattle.day_export.specs.DayState.{state_value};
 
 use crate::acts::act_cells;
 use crate::cells::{Cell, Word, moment_cell, number};
+use crate::day_state::{DayState, Delivery, delivery_of, transaction_cleared};
 use crate::replies::reply_cells;
 use crate::runs::{field_cell, run_cells};
-use crate::standing::{Delivery, Standing, ended_as, number_cleared};
 use day_report::Sale;
 use day_report::rulings::decision_of;
 use day_report::sales::sale_of;
 use decision_journal::Entry;
 
 /// Returns the row of a sale whose transaction has the number `transaction`. `ended` is the sale's delivery, or `None`
-/// if no entry of the day ended the delivery. For `None` the cells `ended`, `product` and `price` are `Nothing`.
+/// if no entry of the day ended it. For `None` the cells `ended`, `product` and `price` are `Nothing`.
 fn sale_cells(sale: &Sale, transaction: u32, ended: Option<Delivery>) -> [Cell; 10]
     ensures { result ≡ sale_cells sale.now transaction ended }
 {
@@ -41,15 +41,15 @@ fn sale_cells(sale: &Sale, transaction: u32, ended: Option<Delivery>) -> [Cell; 
     ]
 }
 
-/// Returns the row of the sale that an entry makes, or `None` if it makes none. `standing` is the state before the
+/// Returns the row of the sale that an entry makes, or `None` if it makes none. `day_state` is the state before the
 /// entry.
 #[tactic(auto, unfolding(crate::specs::Rows::sale_row))]
-pub(crate) fn sale_row(standing: &Standing, entry: &Entry) -> Option<[Cell; 10]>
-    ensures { result ≡ sale_row (stand_of standing.now) entry.now }
+pub(crate) fn sale_row(day_state: &DayState, entry: &Entry) -> Option<[Cell; 10]>
+    ensures { result ≡ sale_row (state_value day_state.now) entry.now }
 {
-    let sale = sale_of(&standing.points, entry)?;
-    let transaction = number_cleared(&entry.act);
-    let ended = ended_as(&standing.unpaid, sale.point, transaction);
+    let sale = sale_of(&day_state.points, entry)?;
+    let transaction = transaction_cleared(&entry.act);
+    let ended = delivery_of(&day_state.unpaid, sale.point, transaction);
     Some(sale_cells(&sale, transaction, ended))
 }
 
@@ -64,8 +64,8 @@ fn answer_cell(is_granted: bool) -> Cell
     }
 }
 
-/// Returns the row of a decision, which is a grant if `is_granted` is true, or a denial if it is false. The fields of
-/// the context are read at the offsets and with the sizes that rules use.
+/// Returns the row of an entry's decision: a grant if `is_granted`, else a denial. The last 15 cells are read from the
+/// context that the rule ran on.
 fn decision_cells(entry: &Entry, is_granted: bool) -> [Cell; 26]
     ensures { result ≡ decision_cells entry.now is_granted }
 {
@@ -110,7 +110,7 @@ pub(crate) fn decision_row(entry: &Entry) -> Option<[Cell; 26]>
     Some(decision_cells(entry, decision.is_granted))
 }
 
-/// Returns the row that an entry has among the rows of all entries.
+/// Returns the row of the kind `Rows::Events` for an entry.
 #[tactic(auto, unfolding(crate::specs::Rows::event_row))]
 pub(crate) fn event_row(entry: &Entry) -> [Cell; 21]
     ensures { result ≡ event_row entry.now }

@@ -7,7 +7,7 @@ use crate::cells::{Cell, number};
 use byteorder::{ByteOrder, LittleEndian};
 use decision_journal::Run;
 
-/// The cells of a run: its slot, its version and its answer.
+/// The cells of a run of a rule: its slot, its version and its answer, `r0`.
 #[derive(Clone, Copy)]
 pub(crate) struct RunCells {
     pub(crate) slot: Cell,
@@ -15,7 +15,7 @@ pub(crate) struct RunCells {
     pub(crate) r0: Cell,
 }
 
-/// Returns the cells of a run, which are `Nothing` if no rule ran.
+/// Returns the cells of a run of a rule. They are `Nothing` if no rule ran.
 pub(crate) fn run_cells(run: &Option<Run>) -> RunCells
     ensures { result ≡ run_cells run.now }
 {
@@ -33,11 +33,11 @@ pub(crate) fn run_cells(run: &Option<Run>) -> RunCells
     }
 }
 
-/// Returns the cell of the number in `size` bytes at an offset, the least significant byte first. Returns `Nothing` if
-/// there are too few bytes. `size` must be 1 to 8, and `offset` at most 80.
+/// Reads a number of `size` bytes at `offset`, the least significant byte first, and returns it as a cell. Returns
+/// `Nothing` if there are too few bytes. `size` must be 1 to 8, and `offset` at most 80.
 fn number_at(bytes: &[u8], offset: usize, size: usize) -> Cell
     requires some { 1 ≤ size }
-    requires few { size ≤ 8 }
+    requires within_limit { size ≤ 8 }
     requires near { offset ≤ 80 }
     ensures { result ≡ number_at bytes.now offset size }
 {
@@ -48,11 +48,12 @@ fn number_at(bytes: &[u8], offset: usize, size: usize) -> Cell
     }
 }
 
-/// Returns the cell of the field of `size` bytes at an offset of a run's context. Returns `Nothing` if no rule ran, or
-/// if the context ends before the field does. `size` must be 1 to 8, and `offset` at most 80.
+/// Reads the field of `size` bytes at `offset` in the context that a rule ran on, and returns it as a cell. Returns
+/// `Nothing` if no rule ran, or if the context ends before the field does. `size` must be 1 to 8, and `offset` at most
+/// 80.
 pub(crate) fn field_cell(run: &Option<Run>, offset: usize, size: usize) -> Cell
     requires some { 1 ≤ size }
-    requires few { size ≤ 8 }
+    requires within_limit { size ≤ 8 }
     requires near { offset ≤ 80 }
     ensures { result ≡ field_cell run.now offset size }
 {

@@ -5,63 +5,66 @@ ghost use Rattle.std.specs.List.{concat};
 ghost use Rattle.std.specs.Io.KnownBytes.{Appends};
 ghost use Rattle.site_core.specs.declared.site.TheConstants.{ENTRIES};
 ghost use Rattle.day_export.specs.Rows.{row_of, rows_of};
-ghost use Rattle.day_export.specs.Standing.{stand_of};
+ghost use Rattle.day_export.specs.DayState.{state_value};
 ghost use Rattle.day_export.specs.Text.{row_bytes, rows_text};
 
 use crate::cells::{Cell, Format, Rows};
 use crate::csv_rows::CsvRows;
+use crate::day_state::DayState;
 use crate::fault::RowsFault;
 use crate::json_rows::JsonRows;
+use crate::row_writer::RowWriter;
 use crate::rows::{decision_row, event_row, sale_row};
-use crate::standing::Standing;
-use crate::taking::RowTaker;
 use decision_journal::Entry;
 use site_core::{Config, Site};
 use std::alloc::Global;
 use std::io::Write;
 
-/// Writes a row, if there is one. The error is that of `take_row`. Without a row there is no error.
-fn put_some<T: RowTaker, const N: usize>(
+/// Writes the row, unless it is `None`. `is_ready` must hold for `to`, and still holds if there is no error. The error
+/// is that of `write_row`. Without a row there is no error.
+fn put_some<T: RowWriter, const N: usize>(
     to: &mut T,
     rows: Rows,
     row: Option<[Cell; N]>,
 ) -> Result<(), RowsFault>
     requires { T.is_ready to.old }
-    ensures text { OnOk result (Appends (T.taken to.old) (T.taken to.new) (concat (map (row_bytes rows T.format) (option_to_list row.entry)))) }
+    ensures text { OnOk result (Appends (T.written_bytes to.old) (T.written_bytes to.new) (concat (map (row_bytes rows
+        T.format) (option_to_list row.entry)))) }
     ensures ready { OnOk result (T.is_ready to.new) }
     ensures none { row.entry ≡ None → IsOk result }
 {
     match row {
         None => Ok(()),
-        Some(cells) => to.take_row(rows, &cells),
+        Some(cells) => to.write_row(rows, &cells),
     }
 }
 
-/// Writes the row that an entry has among the rows of the kind `rows`. The error is that of `take_row`. If the entry
-/// has no such row, nothing is written, and there is no error. `standing` is the state before the entry.
-fn put_row<T: RowTaker>(
+/// Writes the row of the kind `rows` for an entry, if it has one; `day_state` is the state before the entry. `is_ready`
+/// must hold for `to`, and still holds if there is no error. The error is that of `write_row`. Without a row nothing is
+/// written, and there is no error.
+fn put_row<T: RowWriter>(
     to: &mut T,
     rows: Rows,
-    standing: &Standing,
+    day_state: &DayState,
     entry: &Entry,
 ) -> Result<(), RowsFault>
     requires { T.is_ready to.old }
-    ensures text { OnOk result (Appends (T.taken to.old) (T.taken to.new)
-        (concat (map (row_bytes rows T.format) (option_to_list (row_of rows (stand_of standing.now) entry.now))))) }
+    ensures text { OnOk result (Appends (T.written_bytes to.old) (T.written_bytes to.new)
+        (concat (map (row_bytes rows T.format) (option_to_list (row_of rows (state_value day_state.now) entry.now))))) }
     ensures ready { OnOk result (T.is_ready to.new) }
-    ensures none { row_of rows (stand_of standing.now) entry.now ≡ None → IsOk result }
+    ensures none { row_of rows (state_value day_state.now) entry.now ≡ None → IsOk result }
 {
     match rows {
-        Rows::Sales => put_some(to, rows, sale_row(standing, entry)),
+        Rows::Sales => put_some(to, rows, sale_row(day_state, entry)),
         Rows::Decisions => put_some(to, rows, decision_row(entry)),
         Rows::Events => put_some(to, rows, Some(event_row(entry))),
     }
 }
 
-/// Writes to `to` the rows of the kind `rows` for the history of a site of this configuration, one after another.
-/// `is_ready` must hold for `to`, and still holds if there is no error. The error is that memory ran out, or the
-/// writer's own error. After an error, some of the rows were perhaps written.
-fn put_rows<T: RowTaker>(
+/// Writes all rows of the kind `rows` for these entries, on a site with this configuration. `is_ready` must hold for
+/// `to`, and still holds if there is no error. There must be at most `ENTRIES` entries. The error is that memory ran
+/// out, or that of `write_row`. After an error, some of the rows were perhaps written.
+fn put_rows<T: RowWriter>(
     alloc: Global,
     to: &mut T,
     rows: Rows,
@@ -69,21 +72,21 @@ fn put_rows<T: RowTaker>(
     entries: &[Entry],
 ) -> Result<(), RowsFault>
     requires ready { T.is_ready to.old }
-    requires few { length entries.now ≤ ENTRIES }
-    ensures text { OnOk result (Appends (T.taken to.old) (T.taken to.new)
+    requires within_limit { length entries.now ≤ ENTRIES }
+    ensures text { OnOk result (Appends (T.written_bytes to.old) (T.written_bytes to.new)
         (concat (map (row_bytes rows T.format) (rows_of rows config.now entries.now)))) }
     ensures after { OnOk result (T.is_ready to.new) }
 {
-    let mut standing = Standing::start(alloc, config)?;
+    let mut day_state = DayState::start(alloc, config)?;
     for entry in entries {
-        put_row(to, rows, &standing, entry)?;
-        standing.follow(alloc, entry)?;
+        put_row(to, rows, &day_state, entry)?;
+        day_state.apply_entry(alloc, entry)?;
     }
     Ok(())
 }
 
-/// Writes the names of the columns and the rows of a site's history as CSV, and returns the writer `out`. The error is
-/// that memory ran out, or the error of `out`.
+/// Writes the rows of a site's history as CSV, after a record with the names of the columns. Returns the writer `out`.
+/// The error is that memory ran out, or the error of `out`.
 fn write_csv<W: Write + Drop>(
     alloc: Global,
     site: &Site,
@@ -114,9 +117,8 @@ fn write_json<W: Write + Drop>(
     Ok(to.out)
 }
 
-/// Writes the rows of a site's history to `out`, one after another, and returns `out`. In CSV the names of the columns
-/// come first. The rows are made one at a time. The error is that memory ran out, or the error of `out`. After an
-/// error, some of the rows were perhaps written.
+/// Writes the rows of a site's history to `out`, and returns `out`. In CSV the names of the columns come first. The
+/// error is that memory ran out, or the error of `out`. After an error, some of the rows were perhaps written.
 pub fn write_rows<W: Write + Drop>(
     alloc: Global,
     site: &Site,

@@ -1,9 +1,9 @@
-//! The pictures of bars (sales by point, refusals) and of columns (sales by hour, decisions by version). All lengths
-//! are in the units of a picture, which is 1,000 wide.
+//! Pictures with bars (sales by point, refusals) or columns (sales by hour, decisions by version). A picture is 1,000
+//! units wide, and all lengths are in these units.
 ghost use Rattle.std.specs.Prelude.{◌<◌};
 
+use crate::html::HtmlBuilder;
 use crate::pictures::{COLUMNS_END, END, add_head, add_label, add_rect};
-use crate::sheet::Sheet;
 use crate::tables::outcome_of;
 use crate::texts::{Text, number, scaled};
 use day_report::{FIRST_REFUSAL, REFUSALS, Sum, Totals};
@@ -11,38 +11,45 @@ use day_report::{FIRST_REFUSAL, REFUSALS, Sum, Totals};
 /// The distance from the top of a bar to the top of the next.
 const APART: usize = 28;
 
-/// The width that is kept free to the right of the longest bar, for its value.
-const VALUE: usize = 140;
+/// The width that stays free to the right of the longest bar, for its value.
+const VALUE_WIDTH: usize = 140;
 
 /// Adds the start of a picture that has room for `bars` bars. `title` and `text` are the title and description that
 /// screen readers read.
-fn add_bars_head(sheet: &mut Sheet, bars: usize, title: &'static str, text: &'static str) {
+fn add_bars_head(html: &mut HtmlBuilder, bars: usize, title: &'static str, text: &'static str) {
     add_head(
-        sheet,
+        html,
         bars.saturating_mul(APART).saturating_add(4),
         title,
         text,
     );
 }
 
-/// Adds the bar at `place`, counted from 0 at the top. The bar begins `left` from the left of the picture and is
-/// `width` wide. `name` is written to its left, and `value` to its right.
-fn add_bar(sheet: &mut Sheet, place: usize, left: usize, width: usize, name: Text, value: Text) {
+/// Adds the bar at `place`, counted from 0 at the top. It begins `left` from the left edge of the picture and is
+/// `width` wide. `name` is written to the left of it, and `value` to the right.
+fn add_bar(
+    html: &mut HtmlBuilder,
+    place: usize,
+    left: usize,
+    width: usize,
+    name: Text,
+    value: Text,
+) {
     let over = place.saturating_mul(APART);
     let (top, foot) = (over.saturating_add(4), over.saturating_add(20));
     let behind = left.saturating_add(width).saturating_add(8);
-    add_label(sheet, left.saturating_sub(10), foot, "end", name);
-    add_rect(sheet, "sold", left, top, width, 20);
-    sheet.fill(
+    add_label(html, left.saturating_sub(10), foot, "end", name);
+    add_rect(html, "sold", left, top, width, 20);
+    html.fill(
         " rx=\"3\"/><text x=\"{}\" y=\"{}\">{}</text>\n",
         &[number(behind), number(foot), value],
     );
 }
 
 /// How far from the left of the picture the bars of points begin.
-const POINTS: usize = 90;
+const POINT_BARS_LEFT: usize = 90;
 
-/// Returns the most cents that one of the sums has, or 0 if there are no sums.
+/// Returns the greatest number of cents in any of `sums`, or 0 if there are no sums.
 fn most_sold(sums: &[Sum]) -> u128 {
     let mut most = 0;
     for sum in sums {
@@ -52,36 +59,35 @@ fn most_sold(sums: &[Sum]) -> u128 {
 }
 
 /// Adds the picture of sales by point: one bar for each point. `sums` has the sales of each point, point 1 first.
-pub(crate) fn add_points(sheet: &mut Sheet, sums: &[Sum]) {
+pub(crate) fn add_points(html: &mut HtmlBuilder, sums: &[Sum]) {
     add_bars_head(
-        sheet,
+        html,
         sums.len(),
         "Sales by point",
         "A bar for each point, as long as the money of its sales. The table below has the figures.",
     );
     let most = most_sold(sums);
     for (place, sum) in sums.iter().enumerate() {
-        let width = scaled(sum.cents, most, 1000 - POINTS - VALUE);
+        let width = scaled(sum.cents, most, 1000 - POINT_BARS_LEFT - VALUE_WIDTH);
         let name = Text::Point((place as u64).saturating_add(1));
         add_bar(
-            sheet,
+            html,
             place,
-            POINTS,
+            POINT_BARS_LEFT,
             width,
             name,
             Text::Hundredths(sum.cents),
         );
     }
-    sheet.add(END);
+    html.add(END);
 }
 
 /// How far from the left of the picture the bars of refusals begin. The refusals' names in words are to the left of the
 /// bars.
-const NUMBERS: usize = 440;
+const REFUSAL_BARS_LEFT: usize = 440;
 
-/// Returns the greatest of the counts, or 0 if there are no counts, and how many counts aren't 0. Each count that isn't
-/// 0 gets a bar.
-pub(crate) fn most_refused(counts: &[usize]) -> (usize, usize) {
+/// Returns the greatest of `counts` (0 if there are none), and how many of `counts` aren't 0: each of these gets a bar.
+pub(crate) fn greatest_and_bars(counts: &[usize]) -> (usize, usize) {
     let (mut most, mut bars) = (0usize, 0usize);
     for count in counts {
         if *count > 0 {
@@ -92,12 +98,12 @@ pub(crate) fn most_refused(counts: &[usize]) -> (usize, usize) {
     (most, bars)
 }
 
-/// Adds the picture of refusals: one bar for each number of a refusal that occurred. `counts` says how often each of
-/// the refusals S20 to S34 was the reply, S20 first.
-pub(crate) fn add_refusals(sheet: &mut Sheet, counts: &[usize]) {
-    let (most, bars) = most_refused(counts);
+/// Adds the picture of refusals: one bar for each refusal that occurred. `counts` has how often each of the refusals
+/// S20 to S34 was the reply, S20 first.
+pub(crate) fn add_refusals(html: &mut HtmlBuilder, counts: &[usize]) {
+    let (most, bars) = greatest_and_bars(counts);
     add_bars_head(
-        sheet,
+        html,
         bars,
         "Refusals by number",
         "A bar for each number that was answered, as long as it was answered often. Its name in \
@@ -107,20 +113,27 @@ pub(crate) fn add_refusals(sheet: &mut Sheet, counts: &[usize]) {
     for place in 0..REFUSALS {
         let count = counts.get(place as usize).copied().unwrap_or(0) as u128;
         if count > 0 {
-            let width = scaled(count, most as u128, 1000 - NUMBERS - VALUE);
+            let width = scaled(count, most as u128, 1000 - REFUSAL_BARS_LEFT - VALUE_WIDTH);
             let name = Text::Refusal(FIRST_REFUSAL + place);
-            add_bar(sheet, bar, NUMBERS, width, name, Text::Thousands(count));
+            add_bar(
+                html,
+                bar,
+                REFUSAL_BARS_LEFT,
+                width,
+                name,
+                Text::Thousands(count),
+            );
             bar = bar.saturating_add(1);
         }
     }
-    sheet.add(END);
+    html.add(END);
 }
 
 /// Adds the picture of sales by hour of the day: one column for each hour. `sums` has the sales of each hour, hour 0
 /// first.
-pub(crate) fn add_hours(sheet: &mut Sheet, sums: &[Sum]) {
+pub(crate) fn add_hours(html: &mut HtmlBuilder, sums: &[Sum]) {
     add_head(
-        sheet,
+        html,
         236,
         "Sales by hour",
         "A column for each hour of the day in UTC, as high as the money of the sales in it. The \
@@ -128,25 +141,25 @@ pub(crate) fn add_hours(sheet: &mut Sheet, sums: &[Sum]) {
     );
     let most = most_sold(sums);
     for (hour, sum) in sums.iter().enumerate() {
-        add_hour(sheet, hour, scaled(sum.cents, most, 190));
+        add_hour(html, hour, scaled(sum.cents, most, 190));
     }
-    sheet.add(COLUMNS_END);
+    html.add(COLUMNS_END);
 }
 
 /// Adds the column of an hour (0 to 23), `height` high, with the hour's number below it.
-fn add_hour(sheet: &mut Sheet, hour: usize, height: usize) {
+fn add_hour(html: &mut HtmlBuilder, hour: usize, height: usize) {
     let left = hour.saturating_mul(41).saturating_add(8);
     add_rect(
-        sheet,
+        html,
         "sold",
         left,
         206usize.saturating_sub(height),
         34,
         height,
     );
-    sheet.add(" rx=\"2\"/>");
-    add_label(sheet, left.saturating_add(17), 226, "middle", number(hour));
-    sheet.add("\n");
+    html.add(" rx=\"2\"/>");
+    add_label(html, left.saturating_add(17), 226, "middle", number(hour));
+    html.add("\n");
 }
 
 /// The greatest number of columns that the picture of decisions by version can have. If there are this many versions or
@@ -155,25 +168,25 @@ const COLUMNS: usize = 1000;
 
 /// Adds the picture of decisions by version, in the order of the versions in `totals`. Each version has a column of two
 /// parts, granted and denied. If there are 1,000 versions or more, neighbouring versions share a column.
-pub(crate) fn add_versions(sheet: &mut Sheet, totals: &Totals) {
+pub(crate) fn add_versions(html: &mut HtmlBuilder, totals: &Totals) {
     add_head(
-        sheet,
+        html,
         226,
         "Decisions by version",
         "A column for each version, those of earlier days first and then in the order of their \
             loads: below what it granted, above what it denied. The table below has the figures.",
     );
     add_columns(
-        sheet,
+        html,
         totals,
         (totals.versions.len() / COLUMNS).saturating_add(1),
     );
-    sheet.add(COLUMNS_END);
+    html.add(COLUMNS_END);
 }
 
-/// Adds the columns of the picture of decisions by version, one for every `together` neighbouring versions. The last
-/// column can be for fewer. `together` must not be 0.
-fn add_columns(sheet: &mut Sheet, totals: &Totals, together: usize)
+/// Adds the columns of the picture of decisions by version. Each column shows `together` neighbouring versions; the
+/// last one can show fewer. `together` must not be 0.
+fn add_columns(html: &mut HtmlBuilder, totals: &Totals, together: usize)
     requires { 0 < together }
 {
     let columns = totals.versions.len().div_ceil(together);
@@ -181,16 +194,16 @@ fn add_columns(sheet: &mut Sheet, totals: &Totals, together: usize)
     for (place, chunk) in totals.versions.chunks(together).enumerate() {
         let (granted, denied) = decided(totals, place.saturating_mul(together), chunk.len());
         let (low, high) = (scaled(granted, most, 190), scaled(denied, most, 190));
-        add_column(sheet, place, columns, low, high);
+        add_column(html, place, columns, low, high);
         if let Some(version) = chunk.first() {
-            add_name(sheet, place, columns, *version);
+            add_name(html, place, columns, *version);
         }
-        sheet.add("\n");
+        html.add("\n");
     }
 }
 
-/// Returns how many decisions the column with the most decisions has, or 0 if there are no columns. Each column is for
-/// `together` neighbouring versions; `together` must not be 0.
+/// Returns the greatest number of decisions that a column shows, or 0 if there are no columns. Each column shows
+/// `together` neighbouring versions; the last one can show fewer. `together` must not be 0.
 fn most_decided(totals: &Totals, together: usize) -> u128
     requires { 0 < together }
 {
@@ -202,8 +215,8 @@ fn most_decided(totals: &Totals, together: usize) -> u128
     most
 }
 
-/// Returns how many requests the version at `place` of `totals.versions`, counted from 0, granted, and how many it
-/// denied. Requests are those for releases, presets and prices. Both numbers are 0 if there is no such place.
+/// Returns how many requests for releases, presets and prices a version granted, and how many it denied. `place` is the
+/// version's place in `totals.versions`, counted from 0. Both numbers are 0 if there is no such place.
 fn decided_at(totals: &Totals, place: usize) -> (u128, u128) {
     let releases = outcome_of(&totals.releases, place);
     let presets = outcome_of(&totals.presets, place);
@@ -214,8 +227,8 @@ fn decided_at(totals: &Totals, place: usize) -> (u128, u128) {
     )
 }
 
-/// Returns how many requests the `count` versions from `place` on granted together, and how many they denied. `place`
-/// is counted from 0, in `totals.versions`.
+/// Returns how many requests `count` neighbouring versions together granted, and how many they denied. The first of
+/// these versions is at `place`, counted from 0, in `totals.versions`.
 fn decided(totals: &Totals, place: usize, count: usize) -> (u128, u128) {
     let (mut granted, mut denied) = (0u128, 0u128);
     for more in 0..count {
@@ -228,7 +241,7 @@ fn decided(totals: &Totals, place: usize, count: usize) -> (u128, u128) {
 
 /// Returns the left edge and the width of the column at `place`, counted from 0. There are `columns` columns in all.
 fn column_at(place: usize, columns: usize) -> (usize, usize) {
-    // Fewer than 12 columns leave a part of the width free, so that none is too wide.
+    // With fewer than 12 columns, part of the picture's width stays free, so that no column is too wide.
     let room = 1000usize.min(scaled(columns as u128, 12, 1000));
     let left = scaled(place as u128, columns as u128, room);
     let next = scaled((place as u128).saturating_add(1), columns as u128, room);
@@ -239,22 +252,22 @@ fn column_at(place: usize, columns: usize) -> (usize, usize) {
 
 /// Adds the column at `place`, counted from 0. There are `columns` columns in all. `low` is the height of its lower
 /// part (granted), `high` that of its upper part (denied).
-fn add_column(sheet: &mut Sheet, place: usize, columns: usize, low: usize, high: usize) {
+fn add_column(html: &mut HtmlBuilder, place: usize, columns: usize, low: usize, high: usize) {
     let (left, width) = column_at(place, columns);
     let top = 206usize.saturating_sub(low);
-    add_rect(sheet, "granted", left, top, width, low);
-    sheet.add("/>");
-    add_rect(sheet, "denied", left, top.saturating_sub(high), width, high);
-    sheet.add("/>");
+    add_rect(html, "granted", left, top, width, low);
+    html.add("/>");
+    add_rect(html, "denied", left, top.saturating_sub(high), width, high);
+    html.add("/>");
 }
 
 /// Adds the number of a version below the column at `place`, counted from 0. There are `columns` columns in all. If
-/// there are more than 24, nothing is added.
-fn add_name(sheet: &mut Sheet, place: usize, columns: usize, version: u32) {
+/// there are more than 24 columns, nothing is added.
+fn add_name(html: &mut HtmlBuilder, place: usize, columns: usize, version: u32) {
     if columns <= 24 {
         let (left, width) = column_at(place, columns);
         let middle = left.saturating_add(width / 2);
         let name = Text::Number(version as u64);
-        add_label(sheet, middle, 224, "middle", name);
+        add_label(html, middle, 224, "middle", name);
     }
 }

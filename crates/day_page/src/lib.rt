@@ -4,18 +4,18 @@
 
 mod bars;
 mod drawn;
+mod html;
 pub mod names;
 pub mod page;
 mod pictures;
 mod prices;
-mod sheet;
 mod style;
 pub mod tables;
 pub mod texts;
 
+pub use html::HtmlBuilder;
 pub use html_text::Escaped;
 pub use names::STATES;
 pub use page::Page;
-pub use sheet::Sheet;
 pub use style::{HEAD, STYLE};
 pub use texts::Text;

@@ -1,12 +1,12 @@
 //! The page and its sections.
 
-use crate::sheet::Sheet;
+use crate::html::HtmlBuilder;
 use crate::style::{HEAD, STYLE};
 use crate::texts::Text;
 use crate::{bars, drawn, prices, tables};
 use day_report::adding::{add_up, carried_in};
 use day_report::opening::opening_prices;
-use day_report::steps::{axis_of, follow_states};
+use day_report::steps::{axis_of, states_by_step};
 use day_report::{Axis, Bands, CarriedIn, PriceChange, Sum, Totals, Unpaid};
 use site_core::Site;
 use std::alloc::{AllocError, Global};
@@ -37,7 +37,7 @@ impl fmt::Display for Page {
 #[derive(Drop)]
 struct Day {
     totals: Totals,
-    /// What was carried in from the day before, if there was one.
+    /// What the day took over from the day before, if there was one.
     carried: Option<CarriedIn>,
     /// The value and the bound of each counter after the last entry.
     counters: [(u64, u64); 32],
@@ -47,7 +47,7 @@ struct Day {
     bands: Bands,
 }
 
-/// Returns the value and the bound of each of a site's counters.
+/// Returns the value and the bound of each of a site's 32 counters, counter 0 first.
 fn counters_of(site: &Site) -> [(u64, u64); 32] {
     let mut counters = [(0, 0); 32];
     for c in 0..32 {
@@ -63,7 +63,7 @@ impl Day {
         let config = site.config();
         let entries = site.history();
         let axis = axis_of(entries);
-        let bands = follow_states(alloc, config, entries, axis)?;
+        let bands = states_by_step(alloc, config, entries, axis)?;
         Ok(Day {
             totals: add_up(alloc, config, entries)?,
             carried: carried_in(alloc, config)?,
@@ -77,132 +77,134 @@ impl Day {
 
 /// Makes the page that shows this day. The error is that memory ran out.
 fn page_of(alloc: Global, day: &Day) -> Result<Page, AllocError> {
-    let mut sheet = Sheet::new(alloc);
-    add_day(&mut sheet, day);
+    let mut html = HtmlBuilder::new(alloc);
+    add_day(&mut html, day);
     Ok(Page {
-        text: sheet.finish()?,
+        text: html.finish()?,
     })
 }
 
-fn add_day(sheet: &mut Sheet, day: &Day) {
-    sheet.add(HEAD);
-    sheet.add("<title>The day in a picture</title>\n");
-    sheet.add(STYLE);
-    add_headline(sheet, &day.totals, day.axis);
+fn add_day(html: &mut HtmlBuilder, day: &Day) {
+    html.add(HEAD);
+    html.add("<title>The day in a picture</title>\n");
+    html.add(STYLE);
+    add_headline(html, &day.totals, day.axis);
     if let Some(carried) = day.carried {
-        add_carried(sheet, carried);
+        add_carried(html, carried);
     }
-    add_sales(sheet, &day.totals);
-    add_rules(sheet, &day.totals, &day.counters);
-    add_points(sheet, &day.bands, day.axis);
-    add_refusals(sheet, &day.totals.refused);
-    add_prices(sheet, &day.opening, &day.totals.prices, day.axis);
-    sheet.add("</main></body></html>\n");
+    add_sales(html, &day.totals);
+    add_rules(html, &day.totals, &day.counters);
+    add_points(html, &day.bands, day.axis);
+    add_refusals(html, &day.totals.refused);
+    add_prices(html, &day.opening, &day.totals.prices, day.axis);
+    html.add("</main></body></html>\n");
 }
 
 /// The closing tag of a section.
 const SECTION_END: &str = "</section>\n";
 
-/// Adds the number of entries, the title and the main totals. If the axis is time, also adds its first and last moment.
-fn add_headline(sheet: &mut Sheet, totals: &Totals, axis: Axis) {
-    sheet.fill(
+/// Adds the number of entries, the title and the main totals. If `axis` is time, also adds the moments at which the
+/// axis begins and ends.
+fn add_headline(html: &mut HtmlBuilder, totals: &Totals, axis: Axis) {
+    html.fill(
         "<p class=\"audited\">{} entries, audited</p>\n<h1>The day in a picture</h1>\n",
         &[Text::Thousands(totals.entries as u128)],
     );
     if let Axis::Time(first, last) = axis {
-        sheet.fill(
+        html.fill(
             "<p>From {} to {}, UTC.</p>\n",
             &[Text::Moment(first), Text::Moment(last)],
         );
     }
-    add_figures(sheet, totals);
+    add_figures(html, totals);
 }
 
-fn add_figures(sheet: &mut Sheet, totals: &Totals) {
-    sheet.add("<ul class=\"figures\">\n");
-    add_figure(sheet, "Sold", Text::Hundredths(totals.sold.cents));
-    add_figure(sheet, "Sales", Text::Thousands(totals.sold.count as u128));
+fn add_figures(html: &mut HtmlBuilder, totals: &Totals) {
+    html.add("<ul class=\"figures\">\n");
+    add_figure(html, "Sold", Text::Hundredths(totals.sold.cents));
+    add_figure(html, "Sales", Text::Thousands(totals.sold.count as u128));
     add_figure(
-        sheet,
+        html,
         "Litres sold",
         Text::Hundredths(totals.sold.centilitres),
     );
     add_figure(
-        sheet,
+        html,
         "Unpaid at the end",
         Text::Hundredths(totals.unpaid_cents),
     );
     add_figure(
-        sheet,
+        html,
         "Granted by rules",
         Text::Thousands(totals.granted as u128),
     );
     add_figure(
-        sheet,
+        html,
         "Denied by rules",
         Text::Thousands(totals.denied as u128),
     );
-    sheet.add("</ul>\n");
+    html.add("</ul>\n");
 }
 
-/// Adds an item to a list of figures: the figure's name and its value.
-pub fn add_figure(sheet: &mut Sheet, name: &'static str, value: Text) {
-    sheet.fill(
+/// Adds a list item that shows a figure: its name and its value.
+pub fn add_figure(html: &mut HtmlBuilder, name: &'static str, value: Text) {
+    html.fill(
         "<li><span>{}</span> <b>{}</b></li>\n",
         &[Text::Words(name), value],
     );
 }
 
-/// Adds what was carried in from the day before.
-fn add_carried(sheet: &mut Sheet, carried: CarriedIn) {
-    sheet.add(
+/// Adds the section of what the day took over from the day before.
+fn add_carried(html: &mut HtmlBuilder, carried: CarriedIn) {
+    html.add(
         "<section id=\"carried\"><h2>Carried in from the day before</h2>\n<ul class=\"figures\">\n",
     );
     add_figure(
-        sheet,
+        html,
         "Unpaid transactions",
         Text::Thousands(carried.unpaid as u128),
     );
     add_figure(
-        sheet,
+        html,
         "Unpaid at the start",
         Text::Hundredths(carried.unpaid_cents),
     );
     add_figure(
-        sheet,
+        html,
         "Rules in force",
         Text::Thousands(carried.rules as u128),
     );
     add_figure(
-        sheet,
+        html,
         "Cleared before",
         Text::Hundredths(carried.cleared as u128),
     );
-    sheet.add("</ul>\n");
-    sheet.add(SECTION_END);
+    html.add("</ul>\n");
+    html.add(SECTION_END);
 }
 
-fn add_sales(sheet: &mut Sheet, totals: &Totals) {
-    sheet.add("<section id=\"sales\"><h2>Sales</h2>\n");
-    bars::add_points(sheet, &totals.by_point);
-    add_sums(sheet, totals);
-    add_hours(sheet, &totals.by_hour);
-    add_unpaid(sheet, &totals.unpaid);
-    sheet.add(SECTION_END);
+fn add_sales(html: &mut HtmlBuilder, totals: &Totals) {
+    html.add("<section id=\"sales\"><h2>Sales</h2>\n");
+    bars::add_points(html, &totals.by_point);
+    add_sums(html, totals);
+    add_hours(html, &totals.by_hour);
+    add_unpaid(html, &totals.unpaid);
+    html.add(SECTION_END);
 }
 
-/// Adds the tables of sales by point, and by the till that cleared them. If there are no sales, the second is left out.
-fn add_sums(sheet: &mut Sheet, totals: &Totals) {
-    sheet.add("<div class=\"side\"><div><h3>By point</h3>");
-    tables::add_points(sheet, totals);
+/// Adds the table of sales by point, and the table of sales by the till that cleared them. If there are no sales, the
+/// second table is left out.
+fn add_sums(html: &mut HtmlBuilder, totals: &Totals) {
+    html.add("<div class=\"side\"><div><h3>By point</h3>");
+    tables::add_points(html, totals);
     if totals.sold.count > 0 {
-        sheet.add("</div><div><h3>By the till that cleared</h3>");
-        tables::add_parts(sheet, tables::BY_TILL, &totals.by_till, 1);
+        html.add("</div><div><h3>By the till that cleared</h3>");
+        tables::add_parts(html, tables::BY_TILL, &totals.by_till, 1);
     }
-    sheet.add("</div></div>\n");
+    html.add("</div></div>\n");
 }
 
-/// Returns whether one of these sums has a sale.
+/// Returns whether at least one of `sums` has a sale.
 fn has_sale(sums: &[Sum]) -> bool {
     for sum in sums {
         if sum.count > 0 {
@@ -213,27 +215,25 @@ fn has_sale(sums: &[Sum]) -> bool {
 }
 
 /// Adds the picture and the table of sales by hour, or a note if no sale has a moment.
-fn add_hours(sheet: &mut Sheet, sums: &[Sum]) {
+fn add_hours(html: &mut HtmlBuilder, sums: &[Sum]) {
     if !has_sale(sums) {
-        return sheet.add(
-            "<p class=\"note\">No sale tells its moment, so there are no hours.</p>\n",
-        );
+        return html.add("<p class=\"note\">No sale tells its moment, so there are no hours.</p>\n");
     }
-    sheet.add("<h3>By hour of the day, in UTC</h3>");
-    bars::add_hours(sheet, sums);
-    tables::add_parts(sheet, tables::BY_HOUR, sums, 0);
-    sheet.add("\n");
+    html.add("<h3>By hour of the day, in UTC</h3>");
+    bars::add_hours(html, sums);
+    tables::add_parts(html, tables::BY_HOUR, sums, 0);
+    html.add("\n");
 }
 
-fn add_unpaid(sheet: &mut Sheet, unpaid: &[Unpaid]) {
+fn add_unpaid(html: &mut HtmlBuilder, unpaid: &[Unpaid]) {
     if !unpaid.is_empty() {
-        sheet.add("<h3>Unpaid at the end</h3>");
-        tables::add_unpaid(sheet, unpaid);
-        sheet.add("\n");
+        html.add("<h3>Unpaid at the end</h3>");
+        tables::add_unpaid(html, unpaid);
+        html.add("\n");
     }
 }
 
-/// Returns whether one of these counters, each a value and a bound, has a bound that isn't 0.
+/// Returns whether at least one of `counters` has a bound that isn't 0. Each counter is its value and its bound.
 fn has_bound(counters: &[(u64, u64)]) -> bool {
     for counter in counters {
         if counter.1 > 0 {
@@ -243,18 +243,18 @@ fn has_bound(counters: &[(u64, u64)]) -> bool {
     false
 }
 
-fn add_rules(sheet: &mut Sheet, totals: &Totals, counters: &[(u64, u64)]) {
-    sheet.add("<section id=\"rules\"><h2>Rules</h2>\n");
+fn add_rules(html: &mut HtmlBuilder, totals: &Totals, counters: &[(u64, u64)]) {
+    html.add("<section id=\"rules\"><h2>Rules</h2>\n");
     if totals.versions.is_empty() {
-        sheet.add("<p class=\"note\">No rule was loaded.</p>\n");
+        html.add("<p class=\"note\">No rule was loaded.</p>\n");
     } else {
-        add_versions(sheet, totals);
+        add_versions(html, totals);
     }
     if has_bound(counters) {
-        sheet.add("<h3>Counters</h3>");
-        tables::add_counters(sheet, counters);
+        html.add("<h3>Counters</h3>");
+        tables::add_counters(html, counters);
     }
-    sheet.add(SECTION_END);
+    html.add(SECTION_END);
 }
 
 /// The legend of the colours in the picture of decisions by version.
@@ -262,48 +262,48 @@ const VERSIONS_LEGEND: &str = "<ul class=\"legend\"><li><i class=\"granted\">&#1
 <li><i class=\"denied\">&#160;</i>denied</li></ul>
 ";
 
-fn add_versions(sheet: &mut Sheet, totals: &Totals) {
-    sheet.add(VERSIONS_LEGEND);
-    bars::add_versions(sheet, totals);
-    tables::add_versions(sheet, totals);
+fn add_versions(html: &mut HtmlBuilder, totals: &Totals) {
+    html.add(VERSIONS_LEGEND);
+    bars::add_versions(html, totals);
+    tables::add_versions(html, totals);
     if totals.granted > 0 || totals.denied > 0 {
-        sheet.add("<h3>By till</h3>");
-        tables::add_versions_by_till(sheet, totals);
+        html.add("<h3>By till</h3>");
+        tables::add_versions_by_till(html, totals);
     }
 }
 
-fn add_points(sheet: &mut Sheet, bands: &Bands, axis: Axis) {
-    sheet.add("<section id=\"points\"><h2>Points</h2>\n");
-    drawn::add_legend(sheet);
-    drawn::add_bands(sheet, bands, axis);
-    sheet.add(match axis {
+fn add_points(html: &mut HtmlBuilder, bands: &Bands, axis: Axis) {
+    html.add("<section id=\"points\"><h2>Points</h2>\n");
+    drawn::add_legend(html);
+    drawn::add_bands(html, bands, axis);
+    html.add(match axis {
         Axis::Entries(_) => "\n<p class=\"note\">Drawn along the entries.</p>\n",
         Axis::Time(_, _) => "\n<p class=\"note\">Drawn along time in UTC, as tills told it.</p>\n",
     });
-    sheet.add(SECTION_END);
+    html.add(SECTION_END);
 }
 
-fn add_refusals(sheet: &mut Sheet, counts: &[usize]) {
-    sheet.add("<section id=\"refusals\"><h2>Refusals</h2>\n");
-    if bars::most_refused(counts).1 > 0 {
-        bars::add_refusals(sheet, counts);
-        sheet.add("\n");
+fn add_refusals(html: &mut HtmlBuilder, counts: &[usize]) {
+    html.add("<section id=\"refusals\"><h2>Refusals</h2>\n");
+    if bars::greatest_and_bars(counts).1 > 0 {
+        bars::add_refusals(html, counts);
+        html.add("\n");
     } else {
-        sheet.add("<p class=\"note\">Nothing was refused.</p>\n");
+        html.add("<p class=\"note\">Nothing was refused.</p>\n");
     }
-    sheet.add(SECTION_END);
+    html.add(SECTION_END);
 }
 
-fn add_prices(sheet: &mut Sheet, opening: &[u32; 8], changes: &[PriceChange], axis: Axis) {
-    sheet.add("<section id=\"price-part\"><h2>Prices</h2>\n");
-    prices::add_legend(sheet, opening, changes);
-    sheet.add("\n");
+fn add_prices(html: &mut HtmlBuilder, opening: &[u32; 8], changes: &[PriceChange], axis: Axis) {
+    html.add("<section id=\"price-part\"><h2>Prices</h2>\n");
+    prices::add_legend(html, opening, changes);
+    html.add("\n");
     if changes.is_empty() {
-        sheet.add("<p class=\"note\">No price was changed.</p>\n");
+        html.add("<p class=\"note\">No price was changed.</p>\n");
     } else {
-        prices::add_lines(sheet, opening, changes, axis);
-        tables::add_prices(sheet, changes);
-        sheet.add("\n");
+        prices::add_lines(html, opening, changes, axis);
+        tables::add_prices(html, changes);
+        html.add("\n");
     }
-    sheet.add(SECTION_END);
+    html.add(SECTION_END);
 }

@@ -1,10 +1,15 @@
 //! The parts that pictures are made of. A picture is an SVG element, 1,000 units wide.
-use crate::sheet::Sheet;
+use crate::html::HtmlBuilder;
 use crate::texts::{Text, number};
 
 /// Adds the start of a picture: its height, and the title and the description (`text`) that screen readers read.
-pub(crate) fn add_head(sheet: &mut Sheet, height: usize, title: &'static str, text: &'static str) {
-    sheet.fill(
+pub(crate) fn add_head(
+    html: &mut HtmlBuilder,
+    height: usize,
+    title: &'static str,
+    text: &'static str,
+) {
+    html.fill(
         "<div class=\"wide\"><svg viewBox=\"0 0 1000 {}\" role=\"img\"><title>{}</title><desc>{}</desc>\n",
         &[number(height), Text::Words(title), Text::Words(text)],
     );
@@ -18,8 +23,14 @@ pub(crate) const COLUMNS_END: &str = "<path class=\"axis\" d=\"M0 206.5h1000\"/>
 
 /// Adds a text to a picture. `anchor` says which part of the text is `x` from the left edge of the picture: `start`,
 /// `middle` or `end`. The text's baseline is `y` below the picture's upper edge.
-pub(crate) fn add_label(sheet: &mut Sheet, x: usize, y: usize, anchor: &'static str, text: Text) {
-    sheet.fill(
+pub(crate) fn add_label(
+    html: &mut HtmlBuilder,
+    x: usize,
+    y: usize,
+    anchor: &'static str,
+    text: Text,
+) {
+    html.fill(
         "<text x=\"{}\" y=\"{}\" text-anchor=\"{}\">{}</text>",
         &[number(x), number(y), Text::Words(anchor), text],
     );
@@ -28,14 +39,14 @@ pub(crate) fn add_label(sheet: &mut Sheet, x: usize, y: usize, anchor: &'static 
 /// Adds a rectangle whose upper left corner is `x` from the left edge of the picture and `y` below its upper edge. The
 /// end of the rectangle's tag is left out, so that the caller can add attributes before it adds the end.
 pub(crate) fn add_rect(
-    sheet: &mut Sheet,
+    html: &mut HtmlBuilder,
     class: &'static str,
     x: usize,
     y: usize,
     width: usize,
     height: usize,
 ) {
-    sheet.fill(
+    html.fill(
         "<rect class=\"{}\" x=\"{}\" y=\"{}\" width=\"{}\" height=\"{}\"",
         &[
             Text::Words(class),

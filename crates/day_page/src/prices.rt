@@ -1,7 +1,7 @@
 //! The picture of the prices through the day: a line for each product.
 use crate::drawn::{LEFT, WIDTH, add_axis};
+use crate::html::HtmlBuilder;
 use crate::pictures::{END, add_head, add_label};
-use crate::sheet::Sheet;
 use crate::texts::{Text, number, scaled};
 use day_report::{Axis, PriceChange};
 
@@ -31,7 +31,7 @@ impl Range {
         (HIGH + 10).saturating_sub(scaled(above, span, HIGH))
     }
 
-    /// Returns this range, extended so that it has this price too.
+    /// Returns this range, extended to include `price`.
     fn with(self, price: u64) -> Range {
         Range {
             least: self.least.min(price),
@@ -59,33 +59,33 @@ fn range_of(opening: &[u32; 8], changes: &[PriceChange]) -> Range {
 /// Adds the picture of the prices: a line for each product that has a price. `opening` has the prices of products 1 to
 /// 8 before the first entry, 0 for none. `changes` has the changes since then, oldest first.
 pub(crate) fn add_lines(
-    sheet: &mut Sheet,
+    html: &mut HtmlBuilder,
     opening: &[u32; 8],
     changes: &[PriceChange],
     axis: Axis,
 ) {
     add_head(
-        sheet,
+        html,
         208,
         "Prices through the day",
         "A line for each product that has a price, which steps where a new price was granted. The \
             table below has the changes.",
     );
     let range = range_of(opening, changes);
-    add_range(sheet, range);
+    add_range(html, range);
     for (place, price) in opening.iter().enumerate() {
         let product = (place as u32).saturating_add(1);
-        add_line(sheet, product, *price as u64, changes, axis, range);
+        add_line(html, product, *price as u64, changes, axis, range);
     }
-    add_axis(sheet, axis, 180);
-    sheet.add(END);
+    add_axis(html, axis, 180);
+    html.add(END);
 }
 
 /// Adds the labels beside the drawing: the greatest price at its top, the least at its foot.
-fn add_range(sheet: &mut Sheet, range: Range) {
-    add_label(sheet, 80, 16, "end", Text::Thousandths(range.greatest));
-    add_label(sheet, 80, 174, "end", Text::Thousandths(range.least));
-    sheet.add("\n");
+fn add_range(html: &mut HtmlBuilder, range: Range) {
+    add_label(html, 80, 16, "end", Text::Thousandths(range.greatest));
+    add_label(html, 80, 174, "end", Text::Thousandths(range.least));
+    html.add("\n");
 }
 
 /// Returns how far from the left of the picture a change of a price is drawn, in units of the picture.
@@ -100,13 +100,22 @@ fn x_of(change: &PriceChange, axis: Axis) -> usize {
     LEFT + place * APART
 }
 
-/// Adds a level part of a product's line: at this depth, from `x` to `next`. If `is_begun`, the line first rises or
-/// falls to this depth; else its path begins at `x`.
-fn add_step(sheet: &mut Sheet, product: u32, is_begun: bool, x: usize, depth: usize, next: usize) {
+/// Adds the next part of a product's line: a horizontal part at `depth` that ends at `next`.
+///
+/// - If `is_begun`, the line first goes straight up or down from its end so far to `depth`.
+/// - Otherwise the line begins here, at `x`.
+fn add_step(
+    html: &mut HtmlBuilder,
+    product: u32,
+    is_begun: bool,
+    x: usize,
+    depth: usize,
+    next: usize,
+) {
     if is_begun {
-        sheet.fill("V{}H{}", &[number(depth), number(next)]);
+        html.fill("V{}H{}", &[number(depth), number(next)]);
     } else {
-        sheet.fill(
+        html.fill(
             "<path class=\"price p{}\" d=\"M{} {}H{}",
             &[
                 Text::Number(product as u64),
@@ -119,10 +128,10 @@ fn add_step(sheet: &mut Sheet, product: u32, is_begun: bool, x: usize, depth: us
 }
 
 /// Adds the line of a product: level at each price, with a step where a new price was granted. `opening` is the price
-/// before the first entry, 0 for none. If it is 0, the line begins at the product's first change, and nothing is added
-/// if there is no such change.
+/// before the first entry, 0 for none. If it is 0, the line begins at the product's first change, or nothing is added
+/// if there is none.
 fn add_line(
-    sheet: &mut Sheet,
+    html: &mut HtmlBuilder,
     product: u32,
     opening: u64,
     changes: &[PriceChange],
@@ -137,7 +146,7 @@ fn add_line(
             // On an axis of time, a change without a moment is drawn where the line ends so far.
             let next = x_of(change, axis).max(x);
             if next != x && price > 0 {
-                add_step(sheet, product, is_begun, x, range.depth(price), next);
+                add_step(html, product, is_begun, x, range.depth(price), next);
                 is_begun = true;
             }
             x = next;
@@ -145,46 +154,38 @@ fn add_line(
         }
     }
     if price > 0 {
-        add_step(
-            sheet,
-            product,
-            is_begun,
-            x,
-            range.depth(price),
-            LEFT + WIDTH,
-        );
-        sheet.add("\"/>\n");
+        add_step(html, product, is_begun, x, range.depth(price), LEFT + WIDTH);
+        html.add("\"/>\n");
     }
 }
 
-/// Adds the legend of the lines' colours: each product that has a price, with its price before the first entry (0.000
-/// for none) and, if the price at the end is another one, with that price too. `opening` has the prices of products 1
-/// to 8 before the first entry, 0 for none.
-pub(crate) fn add_legend(sheet: &mut Sheet, opening: &[u32; 8], changes: &[PriceChange]) {
-    sheet.add("<ul class=\"legend\">\n");
+/// Adds the legend of the lines' colours, with an item for each product that has a price at the start or at the end.
+/// `opening` has the prices of products 1 to 8 before the first entry, 0 for none.
+pub(crate) fn add_legend(html: &mut HtmlBuilder, opening: &[u32; 8], changes: &[PriceChange]) {
+    html.add("<ul class=\"legend\">\n");
     for (place, price) in opening.iter().enumerate() {
         let product = (place as u32).saturating_add(1);
         let opening = *price as u64;
         let last = last_price(changes, product, opening);
         if opening > 0 || last > 0 {
-            add_product(sheet, product, opening, last);
+            add_product(html, product, opening, last);
         }
     }
-    sheet.add("</ul>\n");
+    html.add("</ul>\n");
 }
 
-/// Adds the item of the legend for a product. `opening` is the product's price before the first entry, `last` that at
-/// the end; 0 means that it has none.
-fn add_product(sheet: &mut Sheet, product: u32, opening: u64, last: u64) {
+/// Adds a product's item of the legend: colour, number, and the prices at the start (`opening`) and the end (`last`) of
+/// the day. If these are the same, only one is shown. A price of 0 means none, and is written as 0.000.
+fn add_product(html: &mut HtmlBuilder, product: u32, opening: u64, last: u64) {
     let product = Text::Number(product as u64);
-    sheet.fill(
+    html.fill(
         "<li><i class=\"p{}\">&#160;</i>product {}: ",
         &[product, product],
     );
     if opening != last {
-        sheet.fill("{}, at the end ", &[Text::Thousandths(opening)]);
+        html.fill("{}, at the end ", &[Text::Thousandths(opening)]);
     }
-    sheet.fill("{}</li>\n", &[Text::Thousandths(last)]);
+    html.fill("{}</li>\n", &[Text::Thousandths(last)]);
 }
 
 /// Returns the price of a product after all changes. That is `opening` if none of the changes is of this product.

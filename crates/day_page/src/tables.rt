@@ -1,12 +1,11 @@
 //! The tables of a page.
+use crate::html::HtmlBuilder;
 use crate::names::state_name;
-use crate::sheet::Sheet;
 use crate::texts::{Text, number, numbered};
 use day_report::{CarriedRule, Load, Outcomes, PriceChange, Sum, Totals, Unpaid};
 use fuelling_point::Point;
 
-/// The greatest number of rows that each of two tables can have: that of price changes, and that of decisions by
-/// version and till. Rows over this number are left out.
+/// The most rows that a table of price changes, or of decisions by version and till, can have. Other rows are left out.
 const ROWS: usize = 1000;
 
 /// Makes the start of a table: its id, and the names of its columns.
@@ -21,29 +20,29 @@ macro_rules! head {
 }
 
 /// Adds a row of a table: its name, then its other cells.
-pub fn add_row(sheet: &mut Sheet, name: Text, cells: &[Text]) {
-    sheet.fill("<tr><th scope=\"row\">{}</th>", &[name]);
+pub fn add_row(html: &mut HtmlBuilder, name: Text, cells: &[Text]) {
+    html.fill("<tr><th scope=\"row\">{}</th>", &[name]);
     for cell in cells {
-        sheet.fill("<td>{}</td>", &[*cell]);
+        html.fill("<td>{}</td>", &[*cell]);
     }
-    sheet.add("</tr>\n");
+    html.add("</tr>\n");
 }
 
 const FOOT: &str = "</tbody></table></div>\n";
 
 /// Adds a row of sales: how many there are, their money and their litres.
-fn add_sum(sheet: &mut Sheet, name: Text, sum: &Sum) {
+fn add_sum(html: &mut HtmlBuilder, name: Text, sum: &Sum) {
     let cells = [
         Text::Thousands(sum.count as u128),
         Text::Hundredths(sum.cents),
         Text::Hundredths(sum.centilitres),
     ];
-    add_row(sheet, name, &cells);
+    add_row(html, name, &cells);
 }
 
-/// Adds the row of a point: its sales, the number of its unpaid transactions, and its state at the end of the history.
-/// This function also adds the row of all points, for which `state` is empty.
-fn add_point(sheet: &mut Sheet, name: Text, sum: &Sum, unpaid: usize, state: &'static str) {
+/// Adds a row of the table of points: the sales, the number of unpaid transactions, and the state at the end of the
+/// history. The last row is for all points together, and has an empty `state`.
+fn add_point(html: &mut HtmlBuilder, name: Text, sum: &Sum, unpaid: usize, state: &'static str) {
     let cells = [
         Text::Thousands(sum.count as u128),
         Text::Hundredths(sum.cents),
@@ -51,15 +50,16 @@ fn add_point(sheet: &mut Sheet, name: Text, sum: &Sum, unpaid: usize, state: &'s
         number(unpaid),
         Text::Words(state),
     ];
-    add_row(sheet, name, &cells);
+    add_row(html, name, &cells);
 }
 
-/// Adds the row of the point at a place, counted from 0.
-fn add_place(sheet: &mut Sheet, totals: &Totals, place: usize, point: &Point) {
+/// Adds the row of `point`, which is at `place`, counted from 0, in `totals.points`. If `totals.by_point` has no such
+/// place, nothing is added.
+fn add_place(html: &mut HtmlBuilder, totals: &Totals, place: usize, point: &Point) {
     if let Some(sum) = totals.by_point.get(place) {
         let state = state_name(point.state());
         add_point(
-            sheet,
+            html,
             numbered(place, 1),
             sum,
             point.unpaid() as usize,
@@ -71,21 +71,21 @@ fn add_place(sheet: &mut Sheet, totals: &Totals, place: usize, point: &Point) {
 const BY_POINT: &str =
     head!("by-point"; "Point", "Sales", "Money", "Litres", "Unpaid at the end", "State at the end");
 
-/// Adds the table of the points, with a last row for all points: what was sold at each, how many of its transactions
-/// are unpaid at the end, and its state at the end.
-pub(crate) fn add_points(sheet: &mut Sheet, totals: &Totals) {
-    sheet.add(BY_POINT);
+/// Adds the table of the points: each point's sales, and the number of its unpaid transactions and its state at the end
+/// of the history. A last row is for all points together.
+pub(crate) fn add_points(html: &mut HtmlBuilder, totals: &Totals) {
+    html.add(BY_POINT);
     for (place, point) in totals.points.iter().enumerate() {
-        add_place(sheet, totals, place, point);
+        add_place(html, totals, place, point);
     }
     add_point(
-        sheet,
+        html,
         Text::Words("All"),
         &totals.sold,
         totals.unpaid.len(),
         "",
     );
-    sheet.add(FOOT);
+    html.add(FOOT);
 }
 
 /// The start of the table of sales by till.
@@ -95,19 +95,19 @@ pub(crate) const BY_TILL: &str = head!("by-till"; "Till", "Sales", "Money", "Lit
 pub(crate) const BY_HOUR: &str = head!("by-hour"; "Hour", "Sales", "Money", "Litres");
 
 /// Adds a table of sales by till or by hour, with a row for each till or hour that has a sale. `head` is `BY_TILL` or
-/// `BY_HOUR`. `first` is the number of the first till or hour, to which the first of `sums` belongs.
-pub(crate) fn add_parts(sheet: &mut Sheet, head: &str, sums: &[Sum], first: u64) {
-    sheet.add(head);
+/// `BY_HOUR`. `first` is the number of the till or hour to which the first of `sums` belongs.
+pub(crate) fn add_parts(html: &mut HtmlBuilder, head: &str, sums: &[Sum], first: u64) {
+    html.add(head);
     for (place, sum) in sums.iter().enumerate() {
         if sum.count > 0 {
-            add_sum(sheet, numbered(place, first), sum);
+            add_sum(html, numbered(place, first), sum);
         }
     }
-    sheet.add(FOOT);
+    html.add(FOOT);
 }
 
 /// Adds the row of an unpaid transaction.
-fn add_transaction(sheet: &mut Sheet, unpaid: &Unpaid) {
+fn add_transaction(html: &mut HtmlBuilder, unpaid: &Unpaid) {
     let holder = match unpaid.holder {
         0 => Text::Words("nobody"),
         till => Text::Number(till as u64),
@@ -118,27 +118,27 @@ fn add_transaction(sheet: &mut Sheet, unpaid: &Unpaid) {
         Text::Hundredths(unpaid.volume as u128),
         holder,
     ];
-    add_row(sheet, number(unpaid.point), &cells);
+    add_row(html, number(unpaid.point), &cells);
 }
 
 const UNPAID: &str = head!("unpaid"; "Point", "Transaction", "Money", "Litres", "Held by till");
 
 /// Adds the table of the transactions that are unpaid at the end.
-pub(crate) fn add_unpaid(sheet: &mut Sheet, unpaid: &[Unpaid]) {
-    sheet.add(UNPAID);
+pub(crate) fn add_unpaid(html: &mut HtmlBuilder, unpaid: &[Unpaid]) {
+    html.add(UNPAID);
     for transaction in unpaid {
-        add_transaction(sheet, transaction);
+        add_transaction(html, transaction);
     }
-    sheet.add(FOOT);
+    html.add(FOOT);
 }
 
-/// Returns the count at a place, or 0 if the list has no such place.
+/// Returns the count at `place` in `counts`, or 0 if there is no such place.
 fn count_at(counts: &[u64], place: usize) -> u64 {
     counts.get(place).copied().unwrap_or(0)
 }
 
-/// Returns how many requests the version at `place`, counted from 0, granted, and how many it denied. Both numbers are
-/// 0 if there is no such place.
+/// Returns how many requests a version granted, and how many it denied. `place` is the version's place in the lists of
+/// `outcomes`, counted from 0. A number is 0 if its list has no such place.
 pub(crate) fn outcome_of(outcomes: &Outcomes, place: usize) -> (u64, u64) {
     (
         count_at(&outcomes.granted, place),
@@ -146,11 +146,14 @@ pub(crate) fn outcome_of(outcomes: &Outcomes, place: usize) -> (u64, u64) {
     )
 }
 
-/// Adds the row of the version at `place` of `totals.versions`, counted from 0, with how many requests it granted and
-/// denied. `rule` has the version's slot and number. `entry` is the number of the entry that loaded the version, or
-/// says that it was carried in. `loaded` is the last moment before that entry, or empty if the version was carried in.
+/// Adds the row of a version of a rule, with how many requests it granted and denied.
+///
+/// - `place` is the version's place in `totals.versions`, counted from 0.
+/// - `rule` has the version's slot and number.
+/// - `entry` is the number of the entry that loaded the version, and `loaded` the last moment before that entry. For a
+///   version from the day before, `entry` is `carried in`, and `loaded` is empty.
 fn add_version(
-    sheet: &mut Sheet,
+    html: &mut HtmlBuilder,
     totals: &Totals,
     place: usize,
     rule: CarriedRule,
@@ -171,17 +174,17 @@ fn add_version(
         Text::Number(prices.0),
         Text::Number(prices.1),
     ];
-    add_row(sheet, Text::Number(rule.version as u64), &cells);
+    add_row(html, Text::Number(rule.version as u64), &cells);
 }
 
-/// Adds the row of a version that was loaded. `place` is its place among the loads, counted from 0.
-fn add_load(sheet: &mut Sheet, totals: &Totals, place: usize, load: &Load) {
+/// Adds the row of the version that `load` loaded. `place` is the place of `load` in `totals.loads`, counted from 0.
+fn add_load(html: &mut HtmlBuilder, totals: &Totals, place: usize, load: &Load) {
     let rule = CarriedRule {
         slot: load.slot,
         version: load.version,
     };
     add_version(
-        sheet,
+        html,
         totals,
         totals.carried.len().saturating_add(place),
         rule,
@@ -196,24 +199,30 @@ const VERSIONS: &str = head!(
     "Prices granted", "denied"
 );
 
-/// Adds the table of the versions, with how many requests each granted and denied: those that were carried in, and then
-/// those of the loads.
-pub(crate) fn add_versions(sheet: &mut Sheet, totals: &Totals) {
-    sheet.add(VERSIONS);
+/// Adds the table of the versions of rules, with how many requests each granted and denied. First come those that were
+/// carried in from the day before, then those that were loaded.
+pub(crate) fn add_versions(html: &mut HtmlBuilder, totals: &Totals) {
+    html.add(VERSIONS);
     for (place, rule) in totals.carried.iter().enumerate() {
         let (entry, loaded) = (Text::Words("carried in"), Text::Words(""));
-        add_version(sheet, totals, place, *rule, entry, loaded);
+        add_version(html, totals, place, *rule, entry, loaded);
     }
     for (place, load) in totals.loads.iter().enumerate() {
-        add_load(sheet, totals, place, load);
+        add_load(html, totals, place, load);
     }
-    sheet.add(FOOT);
+    html.add(FOOT);
 }
 
-/// Adds a row for each till of which the version at place `at`, counted from 0, decided a request. `version` is the
-/// version's number. `rows` is the count of rows before this call, and the result is the count after it. Rows beyond
-/// `ROWS` are counted, but left out of the table.
-fn add_tills(sheet: &mut Sheet, tills: &[Outcomes], at: usize, version: u32, rows: usize) -> usize {
+/// Adds the rows of one version of a rule: a row for each till that had a request decided by this version. `version` is
+/// the version's number, and `at` its place, counted from 0, in the lists of each of `tills`. `rows` is how many rows
+/// there are so far, and the new number is returned. Rows beyond `ROWS` are counted, but left out.
+fn add_tills(
+    html: &mut HtmlBuilder,
+    tills: &[Outcomes],
+    at: usize,
+    version: u32,
+    rows: usize,
+) -> usize {
     let mut rows = rows;
     for (place, outcomes) in tills.iter().enumerate() {
         let (granted, denied) = outcome_of(outcomes, at);
@@ -224,7 +233,7 @@ fn add_tills(sheet: &mut Sheet, tills: &[Outcomes], at: usize, version: u32, row
                     Text::Number(granted),
                     Text::Number(denied),
                 ];
-                add_row(sheet, Text::Number(version as u64), &cells);
+                add_row(html, Text::Number(version as u64), &cells);
             }
             rows = rows.saturating_add(1);
         }
@@ -234,37 +243,37 @@ fn add_tills(sheet: &mut Sheet, tills: &[Outcomes], at: usize, version: u32, row
 
 const BY_VERSION_AND_TILL: &str = head!("versions-by-till"; "Version", "Till", "Granted", "Denied");
 
-/// Adds the table of how many requests each version granted and denied for each till. It has the first `ROWS` rows. If
-/// there are more, a note below it says how many are left out.
-pub(crate) fn add_versions_by_till(sheet: &mut Sheet, totals: &Totals) {
-    sheet.add(BY_VERSION_AND_TILL);
+/// Adds the table of decisions by version and till: how many requests of each till a version granted and denied. If
+/// there are more than `ROWS` rows, it has the first `ROWS`, and a note below it says how many are left out.
+pub(crate) fn add_versions_by_till(html: &mut HtmlBuilder, totals: &Totals) {
+    html.add(BY_VERSION_AND_TILL);
     let mut rows = 0;
     for (place, version) in totals.versions.iter().enumerate() {
-        rows = add_tills(sheet, &totals.tills, place, *version, rows);
+        rows = add_tills(html, &totals.tills, place, *version, rows);
     }
-    sheet.add(FOOT);
+    html.add(FOOT);
     let remark = "<p class=\"note\">The first {} rows; {} more are left out.</p>\n";
-    add_remark(sheet, remark, rows.saturating_sub(ROWS));
+    add_remark(html, remark, rows.saturating_sub(ROWS));
 }
 
-/// Adds the note `remark` on the `left` rows that are left out, if there are any. The first `{}` in `remark` is
-/// replaced by `ROWS`, the second by `left`.
-fn add_remark(sheet: &mut Sheet, remark: &str, left: usize) {
+/// Adds the note `remark`, in which `ROWS` replaces the first `{}` and `left` the second. `left` is how many rows are
+/// left out. If it is 0, nothing is added.
+fn add_remark(html: &mut HtmlBuilder, remark: &str, left: usize) {
     if left > 0 {
-        sheet.fill(remark, &[number(ROWS), Text::Thousands(left as u128)]);
+        html.fill(remark, &[number(ROWS), Text::Thousands(left as u128)]);
     }
 }
 
 /// Adds the row of counter number `place`, counted from 0. `counter` is its value and its bound. If the bound is 0,
 /// nothing is added.
-fn add_counter(sheet: &mut Sheet, place: usize, counter: &(u64, u64)) {
+fn add_counter(html: &mut HtmlBuilder, place: usize, counter: &(u64, u64)) {
     let (value, bound) = *counter;
     if bound > 0 {
         let cells = [
             Text::Thousands(value as u128),
             Text::Thousands(bound as u128),
         ];
-        add_row(sheet, number(place), &cells);
+        add_row(html, number(place), &cells);
     }
 }
 
@@ -272,16 +281,16 @@ const COUNTERS: &str = head!("counters"; "Counter", "Value at the end", "Bound")
 
 /// Adds the table of the counters whose bound isn't 0, with their values at the end and their bounds. `counters` has
 /// the value and the bound of each counter, counter 0 first.
-pub(crate) fn add_counters(sheet: &mut Sheet, counters: &[(u64, u64)]) {
-    sheet.add(COUNTERS);
+pub(crate) fn add_counters(html: &mut HtmlBuilder, counters: &[(u64, u64)]) {
+    html.add(COUNTERS);
     for (place, counter) in counters.iter().enumerate() {
-        add_counter(sheet, place, counter);
+        add_counter(html, place, counter);
     }
-    sheet.add(FOOT);
+    html.add(FOOT);
 }
 
 /// Adds the row of a changed price.
-fn add_change(sheet: &mut Sheet, change: &PriceChange) {
+fn add_change(html: &mut HtmlBuilder, change: &PriceChange) {
     let cells = [
         Text::Moment(change.moment),
         Text::Number(change.product as u64),
@@ -289,7 +298,7 @@ fn add_change(sheet: &mut Sheet, change: &PriceChange) {
         Text::Number(change.till as u64),
         Text::Number(change.version as u64),
     ];
-    add_row(sheet, Text::Number(change.number as u64), &cells);
+    add_row(html, Text::Number(change.number as u64), &cells);
 }
 
 const PRICES: &str = head!(
@@ -299,13 +308,13 @@ const PRICES: &str = head!(
 
 /// Adds the table of the changed prices. If there are more than `ROWS`, it has the last `ROWS` of them, and a note
 /// below it says how many are left out.
-pub(crate) fn add_prices(sheet: &mut Sheet, changes: &[PriceChange]) {
-    sheet.add(PRICES);
+pub(crate) fn add_prices(html: &mut HtmlBuilder, changes: &[PriceChange]) {
+    html.add(PRICES);
     let left = changes.len().saturating_sub(ROWS);
     for change in changes.iter().skip(left) {
-        add_change(sheet, change);
+        add_change(html, change);
     }
-    sheet.add(FOOT);
+    html.add(FOOT);
     let remark = "<p class=\"note\">The last {} changes; {} earlier ones are left out.</p>\n";
-    add_remark(sheet, remark, left);
+    add_remark(html, remark, left);
 }

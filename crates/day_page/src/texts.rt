@@ -15,9 +15,10 @@ pub enum Text {
     Thousandths(u64),
     /// Nanoseconds as seconds with nine decimals, as in 0.000012500.
     Seconds(u64),
-    /// A moment as a date and a time of day in UTC, as in 2026-11-28 14:42:43; 0 is written as `not told`.
+    /// A moment in seconds since the start of 1970, as a date and a time of day in UTC, as in 2026-11-28 14:42:43. For
+    /// 0, which means that there is no moment, `not told` is written.
     Moment(u64),
-    /// A moment as a time of day in UTC: hours and minutes.
+    /// A moment in seconds since the start of 1970, as a time of day in UTC with hours and minutes, as in 14:42.
     Clock(u64),
     /// `Point` and the point's number.
     Point(u64),
@@ -29,12 +30,12 @@ pub enum Text {
     Words(&'static str),
 }
 
-/// Returns a length, or another `usize`, as a number in plain digits.
+/// Returns a length, or any other `usize`, as a text in plain digits.
 pub fn number(length: usize) -> Text {
     Text::Number(length as u64)
 }
 
-/// Returns `first + place` as a number in plain digits.
+/// Returns `first + place` as a text in plain digits.
 pub fn numbered(place: usize, first: u64) -> Text {
     Text::Number((place as u64).saturating_add(first))
 }
@@ -47,8 +48,8 @@ pub(crate) struct Date {
     pub day: u64,
 }
 
-/// Returns the date of a moment in seconds since the start of 1970. The computation uses years that begin in March, so
-/// that a leap day is the last of its year. It also uses cycles of 400 years, which have 146,097 days.
+/// Returns the date of `moment`, which is in seconds since the start of 1970. The code counts years from March on, so
+/// that a leap day is the last day of a year. Each 400 years have 146,097 days.
 pub(crate) fn date_of(moment: u64) -> Date {
     let days = moment / 86_400 + 719_468;
     let cycle = days / 146_097;

@@ -1,10 +1,13 @@
--- The moments of a history, as far as a loop over its entries has come.
+-- The invariant of the loop that finds a history's axis from the moments of its entries.
 use Rattle.std.proofs.Common.{◌≡◌, ℕ, List, drop}
 use Rattle.decision_journal.specs.declared.entries.Entry.{Entry}
 use Rattle.day_report.specs.Picture.{moments_in, never_fall, first_in, last_in, first_or}
 
--- Whether the moments of all entries never fall, and what their first and last are, follows from the moments from place
--- i on, and from `first` and `last`, the first and the last of the moments before place i.
+-- A loop has come to place i of `entries`. Then `first`, `last` and the entries from place i on decide about the
+-- moments of all entries:
+-- - whether they never decrease
+-- - which is the first
+-- - which is the last
 pub record Remains (entries : List Entry) (i first last : ℕ) : Type 0 where
   pub steady : never_fall 0 (moments_in entries) ≡ never_fall last (moments_in (drop i entries))
   pub first_is : first_in (moments_in entries) ≡ first_or first (first_in (moments_in (drop i entries)))

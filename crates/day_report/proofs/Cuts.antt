@@ -1,11 +1,12 @@
--- How a history is divided into the steps of a picture, as far as a loop over its entries has come.
+-- The invariant of the loop that finds where the steps of a picture end.
 use Rattle.std.proofs.Common.{◌≡◌, ℕ, ◌<◌, ◌≤◌, List, length, drop, get_or}
 use Rattle.decision_journal.specs.declared.entries.Entry.{Entry}
 use Rattle.day_report.specs.declared.steps.Axis.{Axis}
 use Rattle.day_report.specs.Picture.{cut_from}
 
--- The cuts so far are those of the first steps, and no entry before place i is behind any step after those.
-pub record Cuts (axis : Axis) (steps : ℕ) (entries : List Entry) (i : ℕ) (cuts : List ℕ) : Type 0 where
-  pub few : length cuts ≤ steps
-  pub known : (k : ℕ) → k < length cuts → get_or cuts k 0 ≡ cut_from axis steps k 0 entries
-  pub ahead : (k : ℕ) → length cuts ≤ k → cut_from axis steps k 0 entries ≡ cut_from axis steps k i (drop i entries)
+-- A loop over `entries` has come to place i. So far `step_ends` has the ends of the first steps, at most `steps` of
+-- them. The ends of all later steps follow from the entries from place i on.
+pub record Cuts (axis : Axis) (steps : ℕ) (entries : List Entry) (i : ℕ) (step_ends : List ℕ) : Type 0 where
+  pub within_limit : length step_ends ≤ steps
+  pub known : (k : ℕ) → k < length step_ends → get_or step_ends k 0 ≡ cut_from axis steps k 0 entries
+  pub ahead : (k : ℕ) → length step_ends ≤ k → cut_from axis steps k 0 entries ≡ cut_from axis steps k i (drop i entries)

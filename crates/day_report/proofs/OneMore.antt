@@ -1,4 +1,5 @@
--- Each total of a history with one more entry is the total before it, plus what this entry adds.
+-- What the next entry changes in the points and adds to the sales and the loads, what the next slot adds to the rules,
+-- and the next point to the unpaid transactions. If such a total is empty, nothing was added to it.
 use Rattle.std.proofs.Common.{◌≡◌, ℕ, ◌+◌, ◌<◌, List, [], ◌∷◌, ◌++◌, length, map, take, drop, append_assoc, arith, Option, Some, None, refl, ap, ◌∙◌, sym, get_or}
 use Rattle.std.specs.Prelude.{fold, option_to_list}
 use Rattle.std.specs.List.{cons_option}
@@ -13,7 +14,7 @@ use Rattle.program_slots.specs.Value.{Version}
 use Rattle.day_report.specs.Carried.{carried_at, carried_from}
 use Rattle.fuelling_point.specs.Table.{PointState, fresh_point}
 use Rattle.decision_journal.specs.declared.entries.Entry.{Entry}
-use Rattle.day_report.specs.Walk.{with_entry, stand}
+use Rattle.day_report.specs.Walk.{with_entry, replayed}
 use Rattle.day_report.specs.Sales.{sale_of, sales}
 use Rattle.day_report.specs.Decisions.{load_of, loads, moment_after}
 
@@ -26,15 +27,15 @@ cons-nil None = refl
 cons-nil (Some x) = refl
 
 pub sales-push : (points : List PointState) (entries : List Entry) (entry : Entry) → sales points (entries ++ entry ∷ []) ≡ sales points entries
-    ++ option_to_list (sale_of (stand points entries) entry)
+    ++ option_to_list (sale_of (replayed points entries) entry)
 sales-push points [] entry = cons-nil (sale_of points entry)
 sales-push points (e ∷ entries) entry =
     ap (λ xs. cons_option (sale_of points e) xs) (sales-push (with_entry points e) entries entry)
-    ∙ cons-append (sale_of points e) (sales (with_entry points e) entries) (option_to_list (sale_of (stand (with_entry points e) entries) entry))
+    ∙ cons-append (sale_of points e) (sales (with_entry points e) entries) (option_to_list (sale_of (replayed (with_entry points e) entries) entry))
 
-pub stand-push : (points : List PointState) (entries : List Entry) (entry : Entry)
-    → stand points (entries ++ entry ∷ []) ≡ with_entry (stand points entries) entry
-stand-push points entries entry = fold_push with_entry points entries entry
+pub replayed-push : (points : List PointState) (entries : List Entry) (entry : Entry)
+    → replayed points (entries ++ entry ∷ []) ≡ with_entry (replayed points entries) entry
+replayed-push points entries entry = fold_push with_entry points entries entry
 
 pub loads-push : (moment : ℕ) (entries : List Entry) (entry : Entry) → loads moment (entries ++ entry ∷ []) ≡ loads moment entries
     ++ option_to_list (load_of (fold moment_after moment entries) entry)
@@ -45,13 +46,13 @@ loads-push moment (e ∷ entries) entry =
     (option_to_list (load_of (fold moment_after (moment_after moment e) entries) entry))
 
 -- The points after the first i + 1 entries are the points after the first i, changed by the entry at place i.
-pub stand-more : (points : List PointState) (entries : List Entry) (i : ℕ) (entry : Entry) → i < length entries → entry ≡ get_or entries i entry
-    → stand points (take (i + 1) entries) ≡ with_entry (stand points (take i entries)) entry
-stand-more points entries i entry h is =
-    ap (λ es. stand points es) (take_more entries i entry h ∙ ap (λ e. take i entries ++ e ∷ []) (sym is)) ∙ stand-push points (take i entries) entry
+pub replayed-more : (points : List PointState) (entries : List Entry) (i : ℕ) (entry : Entry) → i < length entries → entry ≡ get_or entries i entry
+    → replayed points (take (i + 1) entries) ≡ with_entry (replayed points (take i entries)) entry
+replayed-more points entries i entry h is =
+    ap (λ es. replayed points es) (take_more entries i entry h ∙ ap (λ e. take i entries ++ e ∷ []) (sym is)) ∙ replayed-push points (take i entries) entry
 
 pub sales-more : (points : List PointState) (entries : List Entry) (i : ℕ) (entry : Entry) → i < length entries → entry ≡ get_or entries i entry
-    → sales points (take (i + 1) entries) ≡ sales points (take i entries) ++ option_to_list (sale_of (stand points (take i entries)) entry)
+    → sales points (take (i + 1) entries) ≡ sales points (take i entries) ++ option_to_list (sale_of (replayed points (take i entries)) entry)
 sales-more points entries i entry h is =
     ap (λ es. sales points es) (take_more entries i entry h ∙ ap (λ e. take i entries ++ e ∷ []) (sym is)) ∙ sales-push points (take i entries) entry
 
@@ -77,7 +78,8 @@ carried-push slot (r ∷ rules) rule =
     (λ n. carried_from (slot + 1) rules ++ option_to_list (carried_at n rule)) same)
     ∙ cons-append (carried_at slot r) (carried_from (slot + 1) rules) (option_to_list (carried_at (slot + length (r ∷ rules)) rule))
 
--- The rules of the first i + 1 slots are those of the first i, and then that of slot i, if it has one.
+-- The rules in the first i + 1 slots are the rules in the first i slots, followed by the rule in slot i, if there is
+-- one.
 pub carried-more : (rules : List (Option Version)) (i : ℕ) (rule : Option Version) → i < length rules → rule ≡ get_or rules i rule
     → carried_from 0 (take (i + 1) rules) ≡ carried_from 0 (take i rules) ++ option_to_list (carried_at i rule)
 carried-more rules i rule h is =
@@ -106,8 +108,8 @@ pub unpaid-none : unpaid_of [] ≡ []
 unfolding unpaid_of
 unpaid-none = refl
 
--- The unpaid transactions of the first i + 1 points are those of the first i, and then those of the point at place i.
--- These are `first` and `second`, if it has them.
+-- The unpaid transactions of the first i + 1 points are those of the first i points, followed by `first` and `second`,
+-- the unpaid transactions of the point p at place i. Each of the two can be None.
 pub unpaid-more : (points : List PointState) (i : ℕ) (p : PointState) (first second : Option Transaction) → i < length points → p ≡ get_or points i p
     → option_to_list first ++ option_to_list second ≡ p.unpaid
     → unpaid_of (take (i + 1) points) ≡ (unpaid_of (take i points) ++ option_to_list (option_map (unpaid_transaction (i + 1)) first))
@@ -131,13 +133,13 @@ same-points : (points : List (ℕ × ℕ)) → replicate (length points) fresh_p
 same-points [] = refl
 same-points (p ∷ points) = ap (λ xs. fresh_point ∷ xs) (same-points points)
 
--- A site whose configuration has a pair for each point starts with as many closed points as there are pairs.
-pub closed-is : (pairs want : List (ℕ × ℕ)) → pairs ≡ want → replicate (length pairs) fresh_point ≡ map (λ (_ : ℕ × ℕ). fresh_point) want
-closed-is pairs want same = same-points pairs ∙ ap (map (λ (_ : ℕ × ℕ). fresh_point)) same
+-- Replacing each item of a list by a closed point gives as many closed points as the list has items.
+pub closed-is : (pairs expected : List (ℕ × ℕ)) → pairs ≡ expected → replicate (length pairs) fresh_point ≡ map (λ (_ : ℕ × ℕ). fresh_point) expected
+closed-is pairs expected same = same-points pairs ∙ ap (map (λ (_ : ℕ × ℕ). fresh_point)) same
 
 -- ---- lists that are empty
 
--- If a list with an optional item before it is empty, there is no item.
+-- If putting an optional item before a list gives the empty list, then the item is None.
 none-before : {A : Type 0} (o : Option A) (xs : List A) → cons_option o xs ≡ [] → o ≡ None
 none-before None xs h = refl
 none-before (Some x) xs h = absurd (cc)
@@ -146,22 +148,22 @@ none-behind : {A : Type 0} (xs ys : List A) → xs ++ ys ≡ [] → ys ≡ []
 none-behind [] ys h = h
 none-behind (x ∷ xs) ys h = absurd (cc)
 
--- The entries are those before place i, the one there, and those behind it.
+-- A list is its items before place i, then the item at place i, then the items after it.
 at-place : {A : Type 0} (xs : List A) (i : ℕ) (x : A) → i < length xs → x ≡ get_or xs i x → xs ≡ take i xs ++ x ∷ drop (i + 1) xs
 at-place xs i x h is = sym (take-append-drop i xs) ∙ ap (λ ys. take i xs ++ ys) (drop_more xs i x h ∙ ap (λ y. y ∷ drop (i + 1) xs) (sym is))
 
-sales-append : (points : List PointState) (entries more : List Entry) → sales points (entries ++ more) ≡ sales points entries ++ sales (stand points entries) more
+sales-append : (points : List PointState) (entries more : List Entry) → sales points (entries ++ more) ≡ sales points entries ++ sales (replayed points entries) more
 sales-append points [] more = refl
 sales-append points (e ∷ entries) more =
     ap (cons_option (sale_of points e)) (sales-append (with_entry points e) entries more)
-    ∙ cons-append (sale_of points e) (sales (with_entry points e) entries) (sales (stand (with_entry points e) entries) more)
+    ∙ cons-append (sale_of points e) (sales (with_entry points e) entries) (sales (replayed (with_entry points e) entries) more)
 
--- If the sales of the entries are an empty list, then the entry at place i makes no sale.
+-- If no entry makes a sale, then the entry at place i makes none.
 pub sales-none : (points : List PointState) (entries : List Entry) (i : ℕ) (entry : Entry) → i < length entries → entry ≡ get_or entries i entry
     → sales points entries ≡ []
-    → sale_of (stand points (take i entries)) entry ≡ None
+    → sale_of (replayed points (take i entries)) entry ≡ None
 sales-none points entries i entry h is none =
-    let now = stand points (take i entries) in
+    let now = replayed points (take i entries) in
     let all : sales points entries ≡ sales points (take i entries) ++ sales now (entry ∷ drop (i + 1) entries) =
     ap (sales points) (at-place entries i entry h is) ∙ sales-append points (take i entries) (entry ∷ drop (i + 1) entries) in
     none-before (sale_of now entry) (sales (with_entry now entry) (drop (i + 1) entries))
@@ -174,7 +176,7 @@ loads-append moment (e ∷ entries) more =
     ap (cons_option (load_of moment e)) (loads-append (moment_after moment e) entries more)
     ∙ cons-append (load_of moment e) (loads (moment_after moment e) entries) (loads (fold moment_after (moment_after moment e) entries) more)
 
--- If the accepted loads of the entries are an empty list, then the entry at place i is no accepted load.
+-- If none of the entries is an accepted load, then the entry at place i isn't one.
 pub loads-none : (moment : ℕ) (entries : List Entry) (i : ℕ) (entry : Entry) → i < length entries → entry ≡ get_or entries i entry
     → loads moment entries ≡ []
     → load_of (fold moment_after moment (take i entries)) entry ≡ None
@@ -193,7 +195,7 @@ carried-append slot (r ∷ rules) more =
     ap (cons_option (carried_at slot r)) (carried-append (slot + 1) rules more ∙ ap (λ n. carried_from (slot + 1) rules ++ carried_from n more) same)
     ∙ cons-append (carried_at slot r) (carried_from (slot + 1) rules) (carried_from (slot + length (r ∷ rules)) more)
 
--- If the slots have no rule that is carried in, then slot i is empty.
+-- If no slot has a rule that is carried in, then slot i is empty.
 pub carried-none : (rules : List (Option Version)) (i : ℕ) (rule : Option Version) → i < length rules → rule ≡ get_or rules i rule
     → carried_from 0 rules ≡ []
     → carried_at i rule ≡ None
@@ -228,7 +230,7 @@ unpaid-append n (q ∷ points) more =
     ∙ ap (λ m. unpaid_from (n + 1) points ++ unpaid_from m more) same)
     ∙ sym (append_assoc (map (unpaid_transaction n) q.unpaid) (unpaid_from (n + 1) points) (unpaid_from (n + length (q ∷ points)) more))
 
--- If the points have no unpaid transaction, then the point at place i has neither a first nor a second one.
+-- If no point has an unpaid transaction, then `first` and `second`, those of the point at place i, are both None.
 pub unpaid-neither : (points : List PointState) (i : ℕ) (p : PointState) (first second : Option Transaction) → i < length points → p ≡ get_or points i p
     → option_to_list first ++ option_to_list second ≡ p.unpaid
     → unpaid_of points ≡ []

@@ -1,4 +1,4 @@
--- What a picture shows, as far as a loop over its steps has come.
+-- A loop over the steps of a picture finds what each step shows.
 use Rattle.std.proofs.Common.{◌≡◌, ℕ, ◌+◌, ◌-◌, ◌<◌, ◌≤◌, List, [], ◌∷◌, ◌++◌, length, take, drop, append_assoc, arith, Option, Some, None, refl, ap, ◌∙◌, sym, subst, get_or}
 use Rattle.std.specs.Prelude.{nat_lt, if◌then◌else◌}
 use Rattle.std.proofs.Math.Seq.{take-append-add}
@@ -10,25 +10,25 @@ use Rattle.fuelling_point.specs.declared.kinds.State.{State}
 use Rattle.fuelling_point.specs.Table.{PointState}
 use Rattle.decision_journal.specs.declared.entries.Entry.{Entry}
 use Rattle.day_report.specs.declared.steps.Axis.{Axis}
-use Rattle.day_report.specs.Walk.{with_entry, stand}
-use Rattle.day_report.specs.Following.{AreWithin}
-use Rattle.day_report.specs.Picture.{AreCuts, Shows, cut_from, entries_between, is_behind, point_named, step_at, step_shows, steps_along, steps_show, with_point}
+use Rattle.day_report.specs.Walk.{with_entry, replayed}
+use Rattle.day_report.specs.Following.{HaveNumbersUpTo}
+use Rattle.day_report.specs.Picture.{AreStepEnds, Shows, cut_from, entries_between, is_behind, point_changed_by_act, step_at, step_shows, steps_along, steps_show, with_point}
 use Rattle.day_report.specs.Picture.{with_points}
 
 -- ---- within a step
 
 shows-push : (states : List State) (points : List PointState) (entries : List Entry) (entry : Entry)
     → with_points states points (entries ++ entry ∷ [])
-    ≡ with_point (with_points states points entries) (with_entry (stand points entries) entry) (point_named entry.act)
+    ≡ with_point (with_points states points entries) (with_entry (replayed points entries) entry) (point_changed_by_act entry.act)
 shows-push states points [] entry = refl
 shows-push states points (e ∷ entries) entry =
-    shows-push (with_point states (with_entry points e) (point_named e.act)) (with_entry points e) entries entry
+    shows-push (with_point states (with_entry points e) (point_changed_by_act e.act)) (with_entry points e) entries entry
 
--- What a step shows after the first i + 1 entries is what it shows after the first i, and after the entry at place i.
+-- What a step shows after the first i + 1 entries is what it shows after the first i, changed by the entry at place i.
 pub shows-more : (states : List State) (points : List PointState) (entries : List Entry) (i : ℕ) (entry : Entry) → i < length entries
     → entry ≡ get_or entries i entry
     → with_points states points (take (i + 1) entries)
-    ≡ with_point (with_points states points (take i entries)) (with_entry (stand points (take i entries)) entry) (point_named entry.act)
+    ≡ with_point (with_points states points (take i entries)) (with_entry (replayed points (take i entries)) entry) (point_changed_by_act entry.act)
 shows-more states points entries i entry h is =
     ap (λ es. with_points states points es) (take_more entries i entry h ∙ ap (λ e. take i entries ++ e ∷ []) (sym is))
     ∙ shows-push states points (take i entries) entry
@@ -48,7 +48,8 @@ module _ (axis : Axis) (steps : ℕ) where
       cond_both (is_behind k (step_at axis place e.moment steps)) place (cut_from axis steps k (place + 1) entries) (λ x. x ≤ place + length (e ∷ entries))
       (λ _. omega arith) (λ _. omega (arith, at_most k (place + 1) entries))
 
-  -- what is behind a step is behind each step before it
+  -- If the step `s` comes after step k, it comes after step j too, since j ≤ k. So, if x and a are at most b, the
+  -- number chosen for j is at most the number chosen for k.
   behind_both : (s : Option ℕ) (j k : ℕ) → j ≤ k → (x a b : ℕ) → x ≤ b → a ≤ b → (if is_behind j s then x else a) ≤ (if is_behind k s then x else b)
   behind_both None j k le x a b low up = up
   behind_both (Some step) j k le x a b low up =
@@ -62,66 +63,69 @@ module _ (axis : Axis) (steps : ℕ) where
       behind_both (step_at axis place e.moment steps) j k le place (cut_from axis steps j (place + 1) entries) (cut_from axis steps k (place + 1) entries)
       (omega (arith, at_least k (place + 1) entries)) (ascend j k le (place + 1) entries)
 
-  module _ (entries : List Entry) (cuts : List ℕ) (are : AreCuts axis steps entries cuts) where
-    cut_is : (k : ℕ) → k < length cuts → get_or cuts k 0 ≡ cut_from axis steps k 0 entries
+  module _ (entries : List Entry) (step_ends : List ℕ) (are : AreStepEnds axis steps entries step_ends) where
+    cut_is : (k : ℕ) → k < length step_ends → get_or step_ends k 0 ≡ cut_from axis steps k 0 entries
     cut_is k lt = are.each k (omega (arith, lt, are.long))
 
-    pub cut_fits : (k : ℕ) → k < length cuts → get_or cuts k 0 ≤ length entries
+    pub cut_fits : (k : ℕ) → k < length step_ends → get_or step_ends k 0 ≤ length entries
     cut_fits k lt = omega (arith, cut_is k lt, at_most k 0 entries)
 
-    pub cuts_ascend : (j k : ℕ) → j ≤ k → k < length cuts → get_or cuts j 0 ≤ get_or cuts k 0
+    pub cuts_ascend : (j k : ℕ) → j ≤ k → k < length step_ends → get_or step_ends j 0 ≤ get_or step_ends k 0
     cuts_ascend j k le lt = omega (arith, cut_is j (omega (arith, le, lt)), cut_is k lt, ascend j k le 0 entries)
 
 -- ---- step after step
 
--- The steps before place i of the cuts were followed. The first `done` entries belong to these steps, `now` are the
--- points after those entries, and `states` is what these steps show.
-pub record Stands (points : List PointState) (entries : List Entry) (cuts : List ℕ) (i done : ℕ) (now : List PointState) (states : List State) : Type 0 where
-  pub few : done ≤ length entries
-  pub within : AreWithin (4290000000 + done) now
-  pub stood : now ≡ stand points (take done entries)
-  pub ahead : (k : ℕ) → i ≤ k → k < length cuts → done ≤ get_or cuts k 0
-  pub told : states ++ steps_show points entries done (drop i cuts) ≡ steps_show points entries 0 cuts
+-- A loop over `step_ends` has come to step i, and has applied the first `done` entries:
+-- - `now` are the points after these entries. They have given out no number over 4,290,000,000 + `done`.
+-- - No step from step i on ends before place `done`.
+-- - `states`, followed by what the steps from step i on show, is what all steps show.
+pub record Stands (points : List PointState) (entries : List Entry) (step_ends : List ℕ) (i done : ℕ) (now : List PointState) (states : List State) : Type 0 where
+  pub within_limit : done ≤ length entries
+  pub within : HaveNumbersUpTo (4290000000 + done) now
+  pub stood : now ≡ replayed points (take done entries)
+  pub ahead : (k : ℕ) → i ≤ k → k < length step_ends → done ≤ get_or step_ends k 0
+  pub told : states ++ steps_show points entries done (drop i step_ends) ≡ steps_show points entries 0 step_ends
 
-pub begins : (points : List PointState) (entries : List Entry) (cuts : List ℕ) (now : List PointState) (states : List State) → now ≡ points → states ≡ []
-    → AreWithin 4290000000 now → Stands points entries cuts 0 0 now states
-begins points entries cuts now states same none within =
-    record { few = omega arith; within = within; stood = same; ahead = λ k _ _. omega arith; told = ap (λ s. s ++ steps_show points entries 0 cuts) none }
+pub begins : (points : List PointState) (entries : List Entry) (step_ends : List ℕ) (now : List PointState) (states : List State) → now ≡ points → states ≡ []
+    → HaveNumbersUpTo 4290000000 now → Stands points entries step_ends 0 0 now states
+begins points entries step_ends now states same none within =
+    record { within_limit = omega arith; within = within; stood = same; ahead = λ k _ _. omega arith; told = ap (λ s. s ++ steps_show points entries 0 step_ends) none }
 
--- The entries before place `done`, and then those from `done` up to before place `cut`, are the entries before `cut`.
+-- The first `done` entries, followed by the entries from place `done` to before place `cut`, are the first `cut`
+-- entries.
 joined : (entries : List Entry) (done cut : ℕ) → done ≤ cut → cut ≤ length entries → take done entries ++ entries_between entries done cut ≡ take cut entries
-joined entries done cut le few =
+joined entries done cut le within_limit =
     let front = take done entries in
     let long : length front ≡ done = grind (arith, common_steps) in
     let sum : length front + (cut - done) ≡ cut = omega (arith, long, le) in
     sym (take-append-add front (drop done entries) (cut - done)) ∙ (λ j. take (sum j) (take-append-drop done entries j))
 
-module _ (points : List PointState) (entries : List Entry) (cuts : List ℕ) (i done cut : ℕ) (now new : List PointState) (states step more : List State) where
-  pub next : i < length cuts → cut ≡ get_or cuts i 0 → ((j k : ℕ) → j ≤ k → k < length cuts → get_or cuts j 0 ≤ get_or cuts k 0) → cut ≤ length entries
-      → Stands points entries cuts i done now states
-      → new ≡ stand now (entries_between entries done cut)
-      → ((n : ℕ) → AreWithin n now → AreWithin (n + length (entries_between entries done cut)) new)
+module _ (points : List PointState) (entries : List Entry) (step_ends : List ℕ) (i done cut : ℕ) (now new : List PointState) (states step more : List State) where
+  pub next : i < length step_ends → cut ≡ get_or step_ends i 0 → ((j k : ℕ) → j ≤ k → k < length step_ends → get_or step_ends j 0 ≤ get_or step_ends k 0) → cut ≤ length entries
+      → Stands points entries step_ends i done now states
+      → new ≡ replayed now (entries_between entries done cut)
+      → ((n : ℕ) → HaveNumbersUpTo n now → HaveNumbersUpTo (n + length (entries_between entries done cut)) new)
       → step ≡ step_shows now (entries_between entries done cut)
       → more ≡ states ++ step
-      → Stands points entries cuts (i + 1) cut new more
-  next lt is ascends few h stood bounded shown pushed =
+      → Stands points entries step_ends (i + 1) cut new more
+  next lt is ascends within_limit h stood bounded shown pushed =
       let le : done ≤ cut = subst (λ n. done ≤ n) (sym is) (h.ahead i (omega arith) lt) in
       let between = entries_between entries done cut in
       let long : length between ≡ cut - done = grind (arith, common_steps) in
       let sum : 4290000000 + done + length between ≡ 4290000000 + cut = omega (arith, long, le) in
-      let rest = steps_show points entries cut (drop (i + 1) cuts) in
-      let first : step ≡ step_shows (stand points (take done entries)) between = shown ∙ ap (λ p. step_shows p between) h.stood in
-      let all : steps_show points entries done (drop i cuts) ≡ step_shows (stand points (take done entries)) between ++ rest =
-      ap (steps_show points entries done) (drop_more cuts i 0 lt ∙ ap (λ n. n ∷ drop (i + 1) cuts) (sym is)) in
+      let rest = steps_show points entries cut (drop (i + 1) step_ends) in
+      let first : step ≡ step_shows (replayed points (take done entries)) between = shown ∙ ap (λ p. step_shows p between) h.stood in
+      let all : steps_show points entries done (drop i step_ends) ≡ step_shows (replayed points (take done entries)) between ++ rest =
+      ap (steps_show points entries done) (drop_more step_ends i 0 lt ∙ ap (λ n. n ∷ drop (i + 1) step_ends) (sym is)) in
       record {
-        few = few;
-        within = subst (λ n. AreWithin n new) sum (bounded (4290000000 + done) h.within);
+        within_limit = within_limit;
+        within = subst (λ n. HaveNumbersUpTo n new) sum (bounded (4290000000 + done) h.within);
         stood =
             stood
-            ∙ ap (λ p. stand p between) h.stood
+            ∙ ap (λ p. replayed p between) h.stood
             ∙ sym (fold-append with_entry points (take done entries) between)
-            ∙ ap (stand points) (joined entries done cut le few);
-        ahead = λ k up below. subst (λ n. n ≤ get_or cuts k 0) (sym is) (ascends i k (omega (arith, up)) below);
+            ∙ ap (replayed points) (joined entries done cut le within_limit);
+        ahead = λ k up below. subst (λ n. n ≤ get_or step_ends k 0) (sym is) (ascends i k (omega (arith, up)) below);
         told =
             ap (λ s. s ++ rest) pushed
             ∙ append_assoc states step rest
@@ -130,12 +134,12 @@ module _ (points : List PointState) (entries : List Entry) (cuts : List ℕ) (i 
             ∙ h.told;
       }
 
-pub ends : (axis : Axis) (steps : ℕ) (points : List PointState) (entries : List Entry) (cuts : List ℕ) (i done : ℕ) (now : List PointState) (states : List State)
+pub ends : (axis : Axis) (steps : ℕ) (points : List PointState) (entries : List Entry) (step_ends : List ℕ) (i done : ℕ) (now : List PointState) (states : List State)
     → steps ≡ steps_along axis
-    → AreCuts axis steps entries cuts → drop i cuts ≡ [] → Stands points entries cuts i done now states → Shows axis points entries states
-ends axis steps points entries cuts i done now states same are all h =
+    → AreStepEnds axis steps entries step_ends → drop i step_ends ≡ [] → Stands points entries step_ends i done now states → Shows axis points entries states
+ends axis steps points entries step_ends i done now states same are all h =
     record {
-      cuts = cuts;
-      divided = subst (λ n. AreCuts axis n entries cuts) same are;
+      step_ends = step_ends;
+      divided = subst (λ n. AreStepEnds axis n entries step_ends) same are;
       shown = sym (append-nil states) ∙ ap (λ cs. states ++ steps_show points entries done cs) (sym all) ∙ h.told;
     }

@@ -1,4 +1,4 @@
--- The grants and denials of all versions together are as many as the decisions of the history.
+-- The grants and denials of all versions of rules add up to the number of decisions in the history.
 use Rattle.std.proofs.Common.{◌≡◌, ◌⊎◌, ℕ, zero, suc, ◌+◌, ◌≤◌, ◌<◌, ◌&&◌, Bool, true, false, not, List, [], ◌∷◌, ◌++◌, length, map, reverse, All, Option, Some, None, Result, Ok}
 use Rattle.std.proofs.Common.{Err, refl, arith, ap, ◌∙◌, sym, subst, inl, inr}
 use Rattle.std.specs.Prelude.{if◌then◌else◌, ◌==◌, nat_le, nat_lt, sum_by, count_by, option_to_list, fold, slice_index_or}
@@ -9,7 +9,7 @@ use Rattle.std.proofs.lemmas.Map.Keys.{IsDistinct-head, IsDistinct-tail}
 use Rattle.std.proofs.lemmas.List.{reverse-append, reverse-reverse, length-append, append-nil, map-append}
 use Rattle.std.proofs.lemmas.List.Elements.{filter_map-append, All-head, All-tail}
 use Rattle.std.proofs.lemmas.List.Sums.{sum_by-cons, sum_by-append}
-use Rattle.fuelling_point.specs.Table.{PointState, Answer, command_step, event_step}
+use Rattle.fuelling_point.specs.Table.{PointState, StepResult, command_step, event_step}
 use Rattle.fuelling_point.specs.declared.kinds.Command.{Command}
 use Rattle.fuelling_point.specs.declared.kinds.Command.TheVariants as command
 use Rattle.fuelling_point.specs.declared.kinds.DispenserEvent.{DispenserEvent}
@@ -36,31 +36,31 @@ use Rattle.site_core.specs.State.{SiteState, at_number, first_busy, view_of}
 use Rattle.site_core.specs.Context.{context}
 use Rattle.site_core.specs.History.{loaded, in_force, versions, versions_before, opening_rule}
 use Rattle.site_core.specs.Decide.{Effect, replied, refused, denied, no_such_till, is_decided, is_till, release_question, preset_question, price_question}
-use Rattle.site_core.specs.Decide.{decided, verdict, ran, grant}
-use Rattle.site_core.specs.Step.{effect, asked, commanded, command_effect, reported, event_effect, order_reply, fault_reply, show_reply}
+use Rattle.site_core.specs.Decide.{decided, verdict, run_result, grant}
+use Rattle.site_core.specs.Step.{effect, asked, till_command_effect, command_effect, dispenser_effect, event_effect, order_reply, fault_reply, show_reply}
 use Rattle.site_core.specs.Legal.{Legal}
-use Rattle.site_core.proofs.Points.{commanded-none, commanded-some, reported-none, reported-some}
+use Rattle.site_core.proofs.Points.{till_command_effect-none, till_command_effect-some, dispenser_effect-none, dispenser_effect-some}
 use Rattle.site_core.proofs.Decisions.{decided-refused, decided-none, decided-some}
 use Rattle.site_core.proofs.Grants.{verdict-deny, verdict-grant}
 use Rattle.site_core.proofs.Undecided.{refuses, release-no, preset-no, price-no}
 use Rattle.day_report.specs.Decisions as told
 use Rattle.decision_journal.specs.Tally.{verdict_of}
-use Rattle.day_report.specs.Decisions.{asked_by, decision_of, loaded_at, load_of, loads, moment_after}
-use Rattle.day_report.specs.Carried.{carried_from, carried_rules, OpensRightly}
+use Rattle.day_report.specs.Decisions.{kind_of_request, decision_of, loaded_at, load_of, loads, moment_after}
+use Rattle.day_report.specs.Carried.{carried_from, carried_rules, HasValidOpening}
 use Rattle.day_report.specs.Totals.{is_release, is_preset, is_price, is_wanted, versions_of}
-use Rattle.day_report.specs.Laws.{decided_in_all, VersionsTellAllDecisions}
+use Rattle.day_report.specs.Laws.{decided_in_all, VersionsCountAllDecisions}
 use Rattle.day_report.specs.declared.loading.Load.{Load}
 use Rattle.day_report.specs.declared.opening.CarriedRule.{CarriedRule}
-use Rattle.day_report.specs.declared.rulings.Asked.{Asked}
-use Rattle.day_report.specs.declared.rulings.Asked.TheVariants as kinds
+use Rattle.day_report.specs.declared.rulings.RequestKind.{RequestKind}
+use Rattle.day_report.specs.declared.rulings.RequestKind.TheVariants as kinds
 use Rattle.day_report.specs.declared.rulings.Decision.{Decision}
-use Rattle.day_report.specs.declared.counting.Deciding.TheVariants as deciding
+use Rattle.day_report.specs.declared.counting.DecisionPart.TheVariants as deciding
 use Rattle.day_report.proofs.OneMore.{loads-push}
 use Rattle.day_report.proofs.SiteSales.{none-key, one-key, add-keys, no-keys}
 
 -- ---- the six counts of one version
 
-one-of-six : (a : Asked) (g b : Bool) → (if (is_release a && g) && b then 1 else 0) + (if (is_release a && not g) && b then 1 else 0)
+one-of-six : (a : RequestKind) (g b : Bool) → (if (is_release a && g) && b then 1 else 0) + (if (is_release a && not g) && b then 1 else 0)
     + (if (is_preset a && g) && b then 1 else 0) + (if (is_preset a && not g) && b then 1 else 0) + (if (is_price a && g) && b then 1 else 0)
     + (if (is_price a && not g) && b then 1 else 0) ≡ (if b then 1 else 0)
 one-of-six kinds.Release true true = refl
@@ -118,7 +118,7 @@ first-once n ns h = sum_by-cons (λ k. if n == k then 1 else 0) n ns ∙ (λ i. 
 
 -- ---- the versions that are carried in
 
--- If P holds for the number of each version in the slots, then it holds for the number of the version in this slot.
+-- If P holds for the number of each version in the slots, then it holds for the number of v, the version in `slot`.
 at-slot : (P : ℕ → Type 0) (rules : List (Option Version)) (slot : ℕ) (v : Version) → AllByRecursion P (rule_numbers rules)
     → slice_index_or rules slot None ≡ Some v → P v.number
 at-slot P [] slot v h is = none-is v is
@@ -127,8 +127,8 @@ at-slot P (None ∷ rules) (suc slot) v h is = at-slot P rules slot v h is
 at-slot P (Some u ∷ rules) zero v h is = subst (λ (x : Version). P x.number) (some-is u v is) h.0
 at-slot P (Some u ∷ rules) (suc slot) v h is = at-slot P rules slot v h.1 is
 
--- If no two slots have versions of one number, then the number of the version in this slot comes exactly once among the
--- numbers of all these versions.
+-- If no two slots have versions with the same number, then the number of v, the version in `slot`, comes exactly once
+-- among the numbers in all slots.
 once-at : (rules : List (Option Version)) (slot : ℕ) (v : Version) → IsDistinct (λ a b. a == b) (rule_numbers rules)
     → slice_index_or rules slot None ≡ Some v → times v.number (rule_numbers rules) ≡ 1
 once-at [] slot v d is = none-is v is
@@ -159,12 +159,12 @@ are-numbers slot [] = refl
 are-numbers slot (None ∷ rules) = are-numbers (slot + 1) rules
 are-numbers slot (Some v ∷ rules) = ap (λ ns. v.number ∷ ns) (are-numbers (slot + 1) rules)
 
--- The number of each version in force when the day begins comes exactly once among the numbers of the versions carried
--- in, and isn't above `versions_before`, which says how many versions were loaded before the day.
+-- For each version in force when the day begins: its number comes exactly once among the numbers of the versions
+-- carried in, and is at most `versions_before`, the count of versions loaded before the day.
 abbrev Opens : ConfigValue → Type 0
 Opens config = (slot : ℕ) (v : Version) → opening_rule config slot ≡ Some v → (times v.number (olds config) ≡ 1) × (v.number ≤ versions_before config)
 
-opens : (config : ConfigValue) (o : Option OpeningValue) → OpensRightly config → config.opening ≡ o → Opens config
+opens : (config : ConfigValue) (o : Option OpeningValue) → HasValidOpening config → config.opening ≡ o → Opens config
 opens config None good is = λ slot v h.
     none-is v (sym (ap (λ x. elim x as (λ _. Option Version) [ None ↦ None | Some y ↦ slice_index_or y.rules slot None ]) is) ∙ h)
 opens config (Some o) good is = λ slot v h.
@@ -179,7 +179,7 @@ opens config (Some o) good is = λ slot v h.
       subst (λ n. v.number ≤ n) (sym before) (at-slot (λ n. n ≤ o.versions) o.rules slot v (low-numbers o.versions o.rules fits.rules) at),
     )
 
-lows : (config : ConfigValue) (o : Option OpeningValue) → OpensRightly config → config.opening ≡ o
+lows : (config : ConfigValue) (o : Option OpeningValue) → HasValidOpening config → config.opening ≡ o
     → AllByRecursion (λ n. n ≤ versions_before config) (olds config)
 lows config None good is =
     subst (λ x. AllByRecursion (λ n. n ≤ versions_before config)
@@ -195,7 +195,7 @@ lows config (Some o) good is =
 
 -- ---- decisions by versions of the day
 
--- The number is that of a version that was carried in, or of one of the first n loads.
+-- The number v is that of a version that was carried in, or of one of the first n loads of the day.
 abbrev IsVersion : ConfigValue → ℕ → ℕ → Type 0
 IsVersion config n v =
     ((times v (olds config) ≡ 1) × (v ≤ versions_before config)) ⊎ ((versions_before config < v) × (v ≤ versions_before config + n))
@@ -216,7 +216,7 @@ fit-more : (config : ConfigValue) (n m : ℕ) (xs : List Decision) → n ≤ m �
 fit-more config n m [] le f = tt
 fit-more config n m (x ∷ xs) le f = (version-more config n m x.version le f.0, fit-more config n m xs le f.1)
 
--- the numbers of the versions of a day with n loads
+-- the version numbers of a day with n loads: those carried in, then those of the loads
 abbrev numbers_with : ConfigValue → ℕ → List ℕ
 numbers_with config n = olds config ++ range_with_len (versions_before config + 1) n
 
@@ -287,7 +287,7 @@ verdict-none (reply.Version v) h = refl
 verdict-none (reply.Order o) h = refl
 verdict-none (reply.Point b c d e f g i) h = refl
 
-ask-none : (till : ℕ) (o : Option Asked) (w : Option (ℕ × Bool)) → w ≡ None
+ask-none : (till : ℕ) (o : Option RequestKind) (w : Option (ℕ × Bool)) → w ≡ None
     → (elim o as (λ _. Option Decision) [
       | None ↦ None
       | Some a ↦ elim w as (λ _. Option Decision) [
@@ -313,7 +313,7 @@ ask-none till (Some a) w h = ap
     ]) h
 
 act-none : (a : Act) (r : Reply) → is_decided r ≡ false → told.decided a r ≡ None
-act-none (act.Till till q) r h = ask-none till (asked_by q) (verdict_of r) (verdict-none r h)
+act-none (act.Till till q) r h = ask-none till (kind_of_request q) (verdict_of r) (verdict-none r h)
 act-none (act.Dispenser n event) r h = refl
 act-none (act.Load slot mask layout bytes) r h = refl
 
@@ -325,8 +325,9 @@ quiet config past a r h =
       fits = subst (λ o. VersionsFit config (versions past) (option_to_list o)) (sym none) tt;
     }
 
--- If a version in force replies to a request that a rule decides, then this reply counts as exactly one decision.
-says : (config : ConfigValue) (past : List Entry) (till : ℕ) (q : Request) (x : Asked) (r : Reply) (v : Version) (g : Bool) → asked_by q ≡ Some x → verdict_of r ≡ Some (v.number, g)
+-- If the reply r is the verdict of v, a version of the day, on a request that a rule decides, then r counts as exactly
+-- one decision.
+says : (config : ConfigValue) (past : List Entry) (till : ℕ) (q : Request) (x : RequestKind) (r : Reply) (v : Version) (g : Bool) → kind_of_request q ≡ Some x → verdict_of r ≡ Some (v.number, g)
     → is_decided r ≡ true → IsVersion config (versions past) v.number → DecidesOne config past (act.Till till q) r
 says config past till q x r v g asks gives is range =
     let made : told.decided (act.Till till q) r ≡ Some (record { till = till; asked = x; version = v.number; is_granted = g }) =
@@ -347,8 +348,8 @@ says config past till q x r v g asks gives is range =
       fits = subst (λ o. VersionsFit config (versions past) (option_to_list o)) (sym made) (range, tt);
     }
 
-verdict-says : (config : ConfigValue) (past : List Entry) (s : SiteState) (till moment : ℕ) (q : Question) (v : Version) (n : ℕ) (c : Counters) (r : Request) (x : Asked) (b : Bool)
-    → (n == 0) ≡ b → asked_by r ≡ Some x → IsVersion config (versions past) v.number → DecidesOne config past (act.Till till r) (verdict s till moment q v n c).reply
+verdict-says : (config : ConfigValue) (past : List Entry) (s : SiteState) (till moment : ℕ) (q : Question) (v : Version) (n : ℕ) (c : Counters) (r : Request) (x : RequestKind) (b : Bool)
+    → (n == 0) ≡ b → kind_of_request r ≡ Some x → IsVersion config (versions past) v.number → DecidesOne config past (act.Till till r) (verdict s till moment q v n c).reply
 verdict-says config past s till moment q v n c r x true is asks range =
     subst (λ e. DecidesOne config past (act.Till till r) e.reply) (sym (verdict-deny s till moment n q v c is))
     (says config past till r x (denied v.number) v false asks refl refl range)
@@ -357,16 +358,16 @@ verdict-says config past s till moment q v n c r x false is asks range =
     subst (λ e. DecidesOne config past (act.Till till r) e.reply) (sym (verdict-grant s till moment n g.0 q v c g.1 is refl))
     (says config past till r x (reply.Granted g.0 v.number) v true asks refl refl range)
 
-version-says : (config : ConfigValue) (first : Opens config) (past : List Entry) (s : SiteState) (till moment : ℕ) (q : Question) (r : Request) (x : Asked) (o : Option Version) → in_force config q.slot past ≡ o
-    → asked_by r ≡ Some x → DecidesOne config past (act.Till till r) (decided config past s till moment (Ok q)).reply
+version-says : (config : ConfigValue) (first : Opens config) (past : List Entry) (s : SiteState) (till moment : ℕ) (q : Question) (r : Request) (x : RequestKind) (o : Option Version) → in_force config q.slot past ≡ o
+    → kind_of_request r ≡ Some x → DecidesOne config past (act.Till till r) (decided config past s till moment (Ok q)).reply
 version-says config first past s till moment q r x None none asks =
     subst (λ e. DecidesOne config past (act.Till till r) e.reply) (sym (decided-none config past s till moment q none)) (quiet config past (act.Till till r) _ refl)
 version-says config first past s till moment q r x (Some v) some asks =
-    let y : ℕ × Counters = ran (outcome v.program (bytes_of (context v.program.layout s till moment q)) (view_of s) s.counters) s.counters in
+    let y : ℕ × Counters = run_result (outcome v.program (bytes_of (context v.program.layout s till moment q)) (view_of s) s.counters) s.counters in
     subst (λ e. DecidesOne config past (act.Till till r) e.reply) (sym (decided-some config past s till moment q v some))
     (verdict-says config past s till moment q v y.0 y.1 r x (y.0 == 0) refl asks (in-range config first q.slot past v some))
 
-question-says : (config : ConfigValue) (first : Opens config) (past : List Entry) (s : SiteState) (till moment : ℕ) (r : Request) (x : Asked) (y : Result Question Reply) → asked_by r ≡ Some x
+question-says : (config : ConfigValue) (first : Opens config) (past : List Entry) (s : SiteState) (till moment : ℕ) (r : Request) (x : RequestKind) (y : Result Question Reply) → kind_of_request r ≡ Some x
     → refuses y ≡ false → DecidesOne config past (act.Till till r) (decided config past s till moment y).reply
 question-says config first past s till moment r x (Err f) asks silent =
     subst (λ e. DecidesOne config past (act.Till till r) e.reply) (sym (decided-refused config past s till moment f)) (quiet config past (act.Till till r) f silent)
@@ -382,26 +383,26 @@ fault-no NoSuchTransaction = refl
 fault-no NoOrder = refl
 fault-no Unexpected = refl
 
-command-no : (s : SiteState) (n : ℕ) (a : Answer (Option ℕ)) → is_decided (command_effect s n a).reply ≡ false
+command-no : (s : SiteState) (n : ℕ) (a : StepResult (Option ℕ)) → is_decided (command_effect s n a).reply ≡ false
 command-no s n (Ok (p, cleared)) = refl
 command-no s n (Err f) = fault-no f
 
-commanded-no : (s : SiteState) (till n : ℕ) (c : Command) (o : Option PointState) → at_number s.points n ≡ o → is_decided (commanded s till n c).reply ≡ false
-commanded-no s till n c None at = ap (λ e. is_decided e.reply) (commanded-none s till n c at)
-commanded-no s till n c (Some p) at = ap (λ e. is_decided e.reply) (commanded-some s till n c p at) ∙ command-no s n (command_step p till c)
+till_command_effect-no : (s : SiteState) (till n : ℕ) (c : Command) (o : Option PointState) → at_number s.points n ≡ o → is_decided (till_command_effect s till n c).reply ≡ false
+till_command_effect-no s till n c None at = ap (λ e. is_decided e.reply) (till_command_effect-none s till n c at)
+till_command_effect-no s till n c (Some p) at = ap (λ e. is_decided e.reply) (till_command_effect-some s till n c p at) ∙ command-no s n (command_step p till c)
 
 order-no : (o : Option Order) → is_decided (order_reply o) ≡ false
 order-no None = refl
 order-no (Some x) = refl
 
-event-no : (s : SiteState) (n : ℕ) (a : Answer (Option Order)) → is_decided (event_effect s n a).reply ≡ false
+event-no : (s : SiteState) (n : ℕ) (a : StepResult (Option Order)) → is_decided (event_effect s n a).reply ≡ false
 event-no s n (Ok (p, o)) = order-no o
 event-no s n (Err f) = fault-no f
 
-reported-no : (s : SiteState) (n : ℕ) (event : DispenserEvent) (o : Option PointState) → at_number s.points n ≡ o
-    → is_decided (reported s n event).reply ≡ false
-reported-no s n event None at = ap (λ e. is_decided e.reply) (reported-none s n event at)
-reported-no s n event (Some p) at = ap (λ e. is_decided e.reply) (reported-some s n event p at) ∙ event-no s n (event_step p event)
+dispenser_effect-no : (s : SiteState) (n : ℕ) (event : DispenserEvent) (o : Option PointState) → at_number s.points n ≡ o
+    → is_decided (dispenser_effect s n event).reply ≡ false
+dispenser_effect-no s n event None at = ap (λ e. is_decided e.reply) (dispenser_effect-none s n event at)
+dispenser_effect-no s n event (Some p) at = ap (λ e. is_decided e.reply) (dispenser_effect-some s n event p at) ∙ event-no s n (event_step p event)
 
 show-no : (s : SiteState) (n : ℕ) (o : Option PointState) → at_number s.points n ≡ o → is_decided (show_reply s n) ≡ false
 unfolding show_reply
@@ -424,21 +425,21 @@ asked-decides config first past s till moment (request.Preset n a) =
 asked-decides config first past s till moment (request.Price n a) =
     question-says config first past s till moment (request.Price n a) kinds.Price (price_question config s n a) refl (price-no (first_busy s) n a config.price_slot)
 asked-decides config first past s till moment (request.OpenPoint n) =
-    quiet config past (act.Till till (request.OpenPoint n)) _ (commanded-no s till n command.OpenPoint (at_number s.points n) refl)
+    quiet config past (act.Till till (request.OpenPoint n)) _ (till_command_effect-no s till n command.OpenPoint (at_number s.points n) refl)
 asked-decides config first past s till moment (request.ClosePoint n) =
-    quiet config past (act.Till till (request.ClosePoint n)) _ (commanded-no s till n command.ClosePoint (at_number s.points n) refl)
+    quiet config past (act.Till till (request.ClosePoint n)) _ (till_command_effect-no s till n command.ClosePoint (at_number s.points n) refl)
 asked-decides config first past s till moment (request.Suspend n) =
-    quiet config past (act.Till till (request.Suspend n)) _ (commanded-no s till n command.Suspend (at_number s.points n) refl)
+    quiet config past (act.Till till (request.Suspend n)) _ (till_command_effect-no s till n command.Suspend (at_number s.points n) refl)
 asked-decides config first past s till moment (request.Resume n) =
-    quiet config past (act.Till till (request.Resume n)) _ (commanded-no s till n command.Resume (at_number s.points n) refl)
+    quiet config past (act.Till till (request.Resume n)) _ (till_command_effect-no s till n command.Resume (at_number s.points n) refl)
 asked-decides config first past s till moment (request.Stop n) =
-    quiet config past (act.Till till (request.Stop n)) _ (commanded-no s till n command.Stop (at_number s.points n) refl)
+    quiet config past (act.Till till (request.Stop n)) _ (till_command_effect-no s till n command.Stop (at_number s.points n) refl)
 asked-decides config first past s till moment (request.Lock n x) =
-    quiet config past (act.Till till (request.Lock n x)) _ (commanded-no s till n (command.Lock x) (at_number s.points n) refl)
+    quiet config past (act.Till till (request.Lock n x)) _ (till_command_effect-no s till n (command.Lock x) (at_number s.points n) refl)
 asked-decides config first past s till moment (request.Unlock n x) =
-    quiet config past (act.Till till (request.Unlock n x)) _ (commanded-no s till n (command.Unlock x) (at_number s.points n) refl)
+    quiet config past (act.Till till (request.Unlock n x)) _ (till_command_effect-no s till n (command.Unlock x) (at_number s.points n) refl)
 asked-decides config first past s till moment (request.Clear n x) =
-    quiet config past (act.Till till (request.Clear n x)) _ (commanded-no s till n (command.Clear x) (at_number s.points n) refl)
+    quiet config past (act.Till till (request.Clear n x)) _ (till_command_effect-no s till n (command.Clear x) (at_number s.points n) refl)
 asked-decides config first past s till moment (request.Show n) = quiet config past (act.Till till (request.Show n)) _ (show-no s n (at_number s.points n) refl)
 
 till-decides : (config : ConfigValue) (first : Opens config) (past : List Entry) (s : SiteState) (till moment : ℕ) (r : Request) (b : Bool)
@@ -448,7 +449,7 @@ till-decides config first past s till moment r false = quiet config past (act.Ti
 
 effect-decides : (config : ConfigValue) (first : Opens config) (past : List Entry) (s : SiteState) (moment : ℕ) (a : Act) → DecidesOne config past a (effect config past s moment a).reply
 effect-decides config first past s moment (act.Till till r) = till-decides config first past s till moment r (is_till config till)
-effect-decides config first past s moment (act.Dispenser n event) = quiet config past (act.Dispenser n event) _ (reported-no s n event (at_number s.points n) refl)
+effect-decides config first past s moment (act.Dispenser n event) = quiet config past (act.Dispenser n event) _ (dispenser_effect-no s n event (at_number s.points n) refl)
 effect-decides config first past s moment (act.Load slot mask layout bytes) =
     quiet config past (act.Load slot mask layout bytes) _ (load-no (nat_le slot 15) (nat_lt (versions past) 4096) (versions_before config + versions past + 1))
 
@@ -477,7 +478,8 @@ range-push a (suc n) =
     ap (range_with_len a) one
     ∙ ap (λ l. a ∷ l) (range-push (a + 1) n ∙ ap (λ k. range_with_len (a + 1) n ++ k ∷ []) same)
 
--- if the act with this reply is a load that was accepted, then its version has the next version number
+-- If the act and its reply are an accepted load, then the loaded version has the next version number. Otherwise no
+-- version is loaded.
 abbrev Numbers : ConfigValue → List Entry → Act → Reply → Type 0
 Numbers config past a r =
     (number moment : ℕ) → numbers (option_to_list (loaded_at number moment a r))
@@ -560,7 +562,7 @@ comes config first (entry ∷ past) s l =
     comes-more config past entry (subst (DecidesOne config past entry.act) (sym answered) (effect-decides config first past l.0 entry.moment entry.act))
     (subst (Numbers config past entry.act) (sym answered) (effect-numbers config past l.0 entry.moment entry.act)) (comes config first past l.0 l.1)
 
-pub tells : VersionsTellAllDecisions
+pub tells : VersionsCountAllDecisions
 tells config history state good legal =
     let first : Opens config = opens config config.opening good refl in
     let low = lows config config.opening good refl in

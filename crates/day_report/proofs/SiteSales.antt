@@ -1,5 +1,5 @@
--- The points that follow from a journal are those of its site. What was cleared before the day and the sales in the
--- journal are together what the site cleared, in number and in cents.
+-- The points that follow from a site's journal are the site's points. What was cleared before the day, plus the sales
+-- in the journal, is what the site cleared: in number, and in cents.
 use Rattle.std.proofs.Common.{◌≡◌, ℕ, zero, suc, ◌+◌, ◌-◌, ◌<◌, ◌≤◌, Bool, true, false, List, [], ◌∷◌, ◌++◌, length, reverse, Option, Some}
 use Rattle.std.proofs.Common.{None, slice_get, refl, arith, ap, ◌∙◌, sym, subst}
 use Rattle.std.specs.Prelude.{if◌then◌else◌, ◌==◌, nat_le, nat_lt, sum_by, option_to_list}
@@ -21,22 +21,22 @@ use Rattle.site_core.specs.State.{SiteState, at_number, opening_state}
 use Rattle.site_core.specs.Decide.{Effect, is_till, after_command, replied, no_such_till}
 use Rattle.site_core.specs.Step.{effect, entry_of, asked}
 use Rattle.site_core.specs.Legal.{Legal}
-use Rattle.day_report.specs.Walk.{with_changed, with_command, with_entry, with_act, after_event, command_told, stand, points_after}
+use Rattle.day_report.specs.Walk.{with_changed, with_command, with_entry, with_act, after_event, executed_command, replayed, points_after}
 use Rattle.day_report.specs.Sales.{cleared_by, clearing_of, unpaid_at, sale_of, sales, sales_of}
 use Rattle.day_report.specs.Totals.{count_in, cents_in}
-use Rattle.day_report.specs.Laws.{SalesTellTheSite}
+use Rattle.day_report.specs.Laws.{SalesAgreeWithTheSite}
 use Rattle.day_report.specs.declared.sales.Sale.{Sale}
 use Rattle.day_report.specs.declared.sales.Clearing.{Clearing}
-use Rattle.day_report.specs.declared.sales.Part.TheVariants as part
+use Rattle.day_report.specs.declared.sales.SalesPart.TheVariants as part
 use Rattle.day_report.proofs.Walking.{changed-at, changed-nowhere}
 use Rattle.fuelling_point.specs.declared.kinds.Command.{Command}
 use Rattle.std.proofs.Math.ListN.{length-set}
-use Rattle.day_report.proofs.OneMore.{stand-push, sales-push}
-use Rattle.day_report.proofs.SiteSteps.{Tells, effect-says, paid, cents_of, one_of}
+use Rattle.day_report.proofs.OneMore.{replayed-push, sales-push}
+use Rattle.day_report.proofs.SiteSteps.{AgreesAfter, effect-says, paid, cents_of, one_of}
 
 -- ---- the sale of one entry
 
--- The sale of an entry that clears the transaction t; None if it clears nothing, or if there is no such transaction.
+-- The sale that an entry makes by clearing a transaction; None without a clearing or without a transaction.
 sold : Entry → Option Clearing → Option Transaction → Option Sale
 sold entry None t = None
 sold entry (Some c) None = None
@@ -71,7 +71,7 @@ sale-of-paid points entry =
 
 -- ---- the point and the till of a sale
 
--- the sale is at a point that the site has at its start, and by a till that the configuration has
+-- The sale is at a point that the site has at its start, and by a till that the configuration has.
 record FitsOne (config : ConfigValue) (sale : Sale) : Type 0 where
   some_point : 1 ≤ sale.point
   point : sale.point ≤ length (opening_state config).points
@@ -133,7 +133,7 @@ effect-clears config past s moment (act.Till till r) c h = till-clears config pa
 effect-clears config past s moment (act.Dispenser n event) c h = none-clearing (act.Dispenser n event) _ c refl h
 effect-clears config past s moment (act.Load slot mask layout bytes) c h = none-clearing (act.Load slot mask layout bytes) _ c refl h
 
--- If a point has an unpaid transaction of some number, then this point exists.
+-- If an unpaid transaction is found at point n, then there is a point n.
 there : (points : List PointState) (n x : ℕ) (t : Transaction) (o : Option PointState) → at_number points n ≡ o → unpaid_at points n x ≡ Some t
     → (p : PointState) × (at_number points n ≡ Some p)
 there points n x t None is h =
@@ -159,7 +159,7 @@ within points n p is = in-bounds points n p (nat_le 1 n) refl is
 
 -- ---- the totals with one more entry
 
--- The points and the sales of a history, which is given newest entry first, agree with the state of its site.
+-- The points and the sales of the history `past` (newest entry first) agree with the state s of its site.
 record Comes (config : ConfigValue) (past : List Entry) (s : SiteState) : Type 0 where
   points : points_after config (reverse past) ≡ s.points
   count : (opening_state config).clears + count_in part.All (sales_of config (reverse past)) ≡ s.clears
@@ -171,7 +171,7 @@ reverse-more : (entry : Entry) (past : List Entry) → reverse (entry ∷ past) 
 reverse-more entry past = reverse-append (entry ∷ []) past
 
 entry-tells : (config : ConfigValue) (past : List Entry) (b : SiteState) (entry : Entry) (e : Effect)
-    → entry ≡ entry_of past entry.pass entry.moment entry.act e → Tells b entry.act e
+    → entry ≡ entry_of past entry.pass entry.moment entry.act e → AgreesAfter b entry.act e
     → (with_entry b.points entry ≡ e.after.points) × (e.after.cleared ≡ b.cleared + cents_of (paid b.points (clearing_of entry.act entry.reply)))
     × (e.after.clears ≡ b.clears + one_of (paid b.points (clearing_of entry.act entry.reply)))
 unfolding with_entry
@@ -198,7 +198,7 @@ told-long points till None = refl
 told-long points till (Some c) = if-long points c.0 (λ p. after_command p till c.1) (nat_lt 0 till)
 
 act-long : (points : List PointState) (a : Act) (r : Reply) → length (with_act points a r) ≡ length points
-act-long points (act.Till till q) r = told-long points till (command_told q r)
+act-long points (act.Till till q) r = told-long points till (executed_command q r)
 act-long points (act.Dispenser n event) r = changed-long points n (λ p. after_event p event) (at_number points n) refl
 act-long points (act.Load slot mask layout bytes) r = refl
 
@@ -206,7 +206,7 @@ entry-long : (points : List PointState) (entry : Entry) → length (with_entry p
 unfolding with_entry
 entry-long points entry = act-long points entry.act entry.reply
 
--- The sale of an entry is at a point that the site has at its start, and by a till that the configuration has.
+-- If an entry makes a sale, the sale is at a point that the site has at its start, and by a till of the configuration.
 sold-fits : (config : ConfigValue) (points : List PointState) (entry : Entry) (o : Option Clearing) (t : Option Transaction)
     → length points ≡ length (opening_state config).points → ((c : Clearing) → o ≡ Some c → is_till config c.till ≡ true) → paid points o ≡ t
     → Fit config (option_to_list (sold entry o t))
@@ -220,8 +220,8 @@ sold-fits config points entry (Some c) (Some t) long tills pays =
     let least : 1 ≤ c.till = grind (arith, nat_tests, lawful) in
     let most : c.till ≤ config.tills = grind (arith, nat_tests, lawful) in
     let some : 1 ≤ c.point = w.0 in
-    let few : c.point ≤ length points = w.1 in
-    (record { some_point = some; point = omega (arith, few, long); some_till = least; till = most }, tt)
+    let within_limit : c.point ≤ length points = w.1 in
+    (record { some_point = some; point = omega (arith, within_limit, long); some_till = least; till = most }, tt)
 
 sale-fits : (config : ConfigValue) (past : List Entry) (b : SiteState) (entry : Entry) (o : Option Clearing) (t : Option Transaction)
     → length b.points ≡ length (opening_state config).points → entry ≡ entry_of past entry.pass entry.moment entry.act (effect config past b entry.moment entry.act)
@@ -239,8 +239,8 @@ comes-more config past b s entry h is leaves =
     let e : Effect = effect config past b entry.moment entry.act in
     let start : List PointState = (opening_state config).points in
     let told = entry-tells config past b entry e is (effect-says config past b entry.moment entry.act) in
-    let stands : stand start (reverse (entry ∷ past)) ≡ with_entry b.points entry =
-    ap (stand start) (reverse-more entry past) ∙ stand-push start (reverse past) entry ∙ ap (λ p. with_entry p entry) h.points in
+    let stands : replayed start (reverse (entry ∷ past)) ≡ with_entry b.points entry =
+    ap (replayed start) (reverse-more entry past) ∙ replayed-push start (reverse past) entry ∙ ap (λ p. with_entry p entry) h.points in
     let sells : sales start (reverse (entry ∷ past)) ≡ sales start (reverse past) ++ option_to_list (sale_of b.points entry) =
     ap (sales start) (reverse-more entry past) ∙ sales-push start (reverse past) entry ∙ ap
     (λ p. sales start (reverse past) ++ option_to_list (sale_of p entry)) h.points in
@@ -279,7 +279,7 @@ comes config (entry ∷ past) s l = comes-more config past l.0 s entry (comes co
 
 -- ---- sums by a key
 
--- If x is below a, then no number from a on equals it.
+-- If x is below a, then none of the n numbers from a on equals x, so the sum is 0.
 pub none-key : (a n x v : ℕ) → x < a → sum_by (λ k. if x == k then v else 0) (range_with_len a n) ≡ 0
 none-key a zero x v below = refl
 none-key a (suc n) x v below =
@@ -298,7 +298,7 @@ by-first a n x v false is least less later =
     let rest = later more (omega arith) in
     sum_by-cons (λ k. if x == k then v else 0) a (range_with_len (a + 1) n) ∙ (λ i. (if is i then v else 0) + rest i) ∙ omega arith
 
--- If x is one of the n numbers from a on, then adding up v for each of them that equals x gives v.
+-- If x is one of the n numbers from a on, then exactly one of them equals x, so the sum is v.
 pub one-key : (a n x v : ℕ) → a ≤ x → x < a + n → sum_by (λ k. if x == k then v else 0) (range_with_len a n) ≡ v
 one-key a zero x v least less = absurd (omega arith)
 one-key a (suc n) x v least less = by-first a n x v (x == a) refl least less (λ more fewer. one-key (a + 1) n x v more fewer)
@@ -316,7 +316,7 @@ pub no-keys : (xs : List ℕ) → sum_by (λ (k : ℕ). 0) xs ≡ 0
 no-keys [] = refl
 no-keys (x ∷ xs) = sum_by-cons (λ (k : ℕ). 0) x xs ∙ (λ i. 0 + no-keys xs i)
 
--- The key of each sale is one of the `n` numbers from `a` on.
+-- The key that `key` gives each sale is one of the n numbers from a on.
 abbrev KeysFit : (Sale → ℕ) → ℕ → ℕ → List Sale → Type 0
 KeysFit key a n [] = Unit {0}
 KeysFit key a n (sale ∷ sales) = ((a ≤ key sale) × (key sale < a + n)) × KeysFit key a n sales
@@ -344,7 +344,7 @@ till-keys config tills [] most f = tt
 till-keys config tills (s ∷ sales) most f = let l : s.till ≤ config.tills =
     f.0.till in ((f.0.some_till, omega (arith, l, most)), till-keys config tills sales most f.1)
 
-pub tells : SalesTellTheSite
+pub tells : SalesAgreeWithTheSite
 tells config history state legal =
     let c : Comes config (reverse history) state = comes config (reverse history) state legal in
     let same : reverse (reverse history) ≡ history = reverse-reverse history in

@@ -1,12 +1,12 @@
--- The act and the reply of an entry in a legal history show what the site did: to its points, to its cleared total and
--- to its count of cleared transactions.
+-- In a legal history, each entry's act and reply tell how the site changed: its points, its cleared total, and its
+-- count of cleared transactions.
 use Rattle.std.proofs.Common.{◌≡◌, ℕ, ◌+◌, ◌-◌, ◌<◌, ◌&&◌, Bool, true, false, List, [], ◌∷◌, zero, suc, length, Option, Some, None, Result, Ok, Err, slice_set}
 use Rattle.std.proofs.Common.{slice_get, refl, arith, ap, ◌∙◌, sym, subst, get_or}
 use Rattle.std.specs.Prelude.{if◌then◌else◌, ◌==◌, nat_le, nat_lt, option_map, unwrap_or}
 use Rattle.std.proofs.lemmas.Bool.{lt-ltb}
 use Rattle.std.proofs.lemmas.Bool.Decides.{nat_tests}
 use Rattle.std.proofs.lemmas.List.{set-get_or}
-use Rattle.fuelling_point.specs.Table.{PointState, Answer, command_step, event_step, find_number}
+use Rattle.fuelling_point.specs.Table.{PointState, StepResult, command_step, event_step, find_number}
 use Rattle.fuelling_point.specs.States.{is_ready, state_number}
 use Rattle.fuelling_point.specs.declared.kinds.State.{State}
 use Rattle.fuelling_point.specs.declared.kinds.State.TheVariants as state
@@ -37,11 +37,11 @@ use Rattle.site_core.specs.Limits.{ConfigValue}
 use Rattle.site_core.specs.State.{SiteState, at_number, with_point, first_busy, view_of}
 use Rattle.site_core.specs.Context.{context}
 use Rattle.site_core.specs.History.{in_force, versions, versions_before}
-use Rattle.site_core.specs.Decide.{Effect, replied, refused, no_such_till, is_till, is_within, bad_amount, transactions_full, wrong_state, need, slots_of}
-use Rattle.site_core.specs.Decide.{release_question, preset_question, price_question, price_at, decided, verdict, ran, grant, granted_point, command_of}
+use Rattle.site_core.specs.Decide.{Effect, replied, refused, no_such_till, is_till, is_within, bad_amount, transactions_full, wrong_state, refuse_unless, slots_of}
+use Rattle.site_core.specs.Decide.{release_question, preset_question, price_question, price_at, decided, verdict, run_result, grant, granted_amount, command_of}
 use Rattle.site_core.specs.Decide.{after_command}
-use Rattle.site_core.specs.Step.{effect, asked, commanded, command_effect, reported, event_effect, order_reply, fault_reply, show_reply, shown, clears_by}
-use Rattle.site_core.proofs.Points.{release-none, release-some, preset-none, preset-some, commanded-none, commanded-some, reported-none, reported-some}
+use Rattle.site_core.specs.Step.{effect, asked, till_command_effect, command_effect, dispenser_effect, event_effect, order_reply, fault_reply, show_reply, shown, clears_by}
+use Rattle.site_core.proofs.Points.{release-none, release-some, preset-none, preset-some, till_command_effect-none, till_command_effect-some, dispenser_effect-none, dispenser_effect-some}
 use Rattle.site_core.proofs.Decisions.{decided-refused, decided-none, decided-some}
 use Rattle.site_core.proofs.Grants.{verdict-deny, verdict-grant, grant-none}
 use Rattle.day_report.specs.Walk.{granted_command, done_command, with_changed, with_command, with_event, with_act, after_event}
@@ -49,7 +49,8 @@ use Rattle.day_report.specs.Sales.{cleared_by, clearing_of, unpaid_at}
 use Rattle.day_report.specs.declared.sales.Clearing.{Clearing}
 use Rattle.day_report.proofs.Walking.{changed-at, changed-nowhere}
 
--- the transaction that a clearing pays; `points` are the points before the clearing
+-- The unpaid transaction that a clearing names, by its point and number; None without a clearing, or if there is no
+-- such transaction. The points are those before the clearing.
 abbrev pub paid : List PointState → Option Clearing → Option Transaction
 paid points None = None
 paid points (Some c) = unpaid_at points c.point c.number
@@ -62,9 +63,9 @@ abbrev pub one_of : Option Transaction → ℕ
 one_of None = 0
 one_of (Some t) = 1
 
--- The points, the cleared total and the count of cleared transactions that follow from an act and its reply are those
--- of the site's state after the act.
-pub record Tells (s : SiteState) (a : Act) (e : Effect) : Type 0 where
+-- The state after the act a has the points, the cleared total and the count of cleared transactions that follow from
+-- the state s, the act and its reply.
+pub record AgreesAfter (s : SiteState) (a : Act) (e : Effect) : Type 0 where
   pub points : with_act s.points a e.reply ≡ e.after.points
   pub cleared : e.after.cleared ≡ s.cleared + cents_of (paid s.points (clearing_of a e.reply))
   pub clears : e.after.clears ≡ s.clears + one_of (paid s.points (clearing_of a e.reply))
@@ -77,7 +78,7 @@ IsSilent reply.Done = ⊥
 IsSilent _ = Unit {0}
 
 silent-till : (s : SiteState) (till : ℕ) (q : Request) (r : Reply) (after : SiteState) → IsSilent r → s.points ≡ after.points → after.cleared ≡ s.cleared
-    → after.clears ≡ s.clears → Tells s (act.Till till q) (record { reply = r; run = None; after = after })
+    → after.clears ≡ s.clears → AgreesAfter s (act.Till till q) (record { reply = r; run = None; after = after })
 silent-till s till q (reply.Granted g v) after silent points cleared clears = absurd silent
 silent-till s till q reply.Done after silent points cleared clears = absurd silent
 silent-till s till q (reply.Version v) after silent points cleared clears =
@@ -89,7 +90,7 @@ silent-till s till q (reply.Point a b c d e f g) after silent points cleared cle
 silent-till s till q (reply.Refused n v) after silent points cleared clears =
     record { points = points; cleared = omega (arith, cleared); clears = omega (arith, clears) }
 
-same-till : (s : SiteState) (till : ℕ) (q : Request) (r : Reply) → IsSilent r → Tells s (act.Till till q) (replied r s)
+same-till : (s : SiteState) (till : ℕ) (q : Request) (r : Reply) → IsSilent r → AgreesAfter s (act.Till till q) (replied r s)
 same-till s till q r silent = silent-till s till q r s silent refl refl refl
 
 fault-silent : (f : PointFault) → IsSilent (fault_reply f)
@@ -102,7 +103,7 @@ fault-silent Unexpected = tt
 
 -- ---- commands
 
--- The transaction that a command clears.
+-- The transaction that a command clears; None if the command isn't Clear, or if there is no such transaction.
 abbrev clears-what : PointState → Command → Option Transaction
 clears-what p (command.Clear number) = find_number number p.unpaid
 clears-what p _ = None
@@ -110,7 +111,7 @@ clears-what p _ = None
 abbrev amount-of : Option Transaction → Option ℕ
 amount-of o = option_map (λ (t : Transaction). t.amount) o
 
-abbrev IsOk : Answer (Option ℕ) → PointState → Option ℕ → Type 0
+abbrev IsOk : StepResult (Option ℕ) → PointState → Option ℕ → Type 0
 IsOk a new cleared = a ≡ Ok (new, cleared)
 
 ok-clears : (x new : PointState) (c d : Option ℕ) → IsOk (Ok (x, c)) new d → d ≡ c
@@ -120,17 +121,17 @@ ok-clears x new c d h =
 
 if-clears : (b : Bool) (x new : PointState) (f : PointFault) (c d : Option ℕ) → IsOk (if b then Ok (x, c) else Err f) new d → d ≡ c
 if-clears true x new f c d h = ok-clears x new c d h
-if-clears false x new f c d h = absurd (let e : ◌≡◌ {A = Answer (Option ℕ)} (Err f) (Ok (new, d)) = h in cc)
+if-clears false x new f c d h = absurd (let e : ◌≡◌ {A = StepResult (Option ℕ)} (Err f) (Ok (new, d)) = h in cc)
 
 if-if-clears : (a b : Bool) (x new : PointState) (f g : PointFault) (c d : Option ℕ) → IsOk (if a then if b then Ok (x, c) else Err f else Err g) new d → d ≡ c
 if-if-clears true b x new f g c d h = if-clears b x new f c d h
-if-if-clears false b x new f g c d h = absurd (let e : ◌≡◌ {A = Answer (Option ℕ)} (Err g) (Ok (new, d)) = h in cc)
+if-if-clears false b x new f g c d h = absurd (let e : ◌≡◌ {A = StepResult (Option ℕ)} (Err g) (Ok (new, d)) = h in cc)
 
 err-clears : {P : Type 0} (f : PointFault) (new : PointState) (d : Option ℕ) → IsOk (Err f) new d → P
-err-clears f new d h = absurd (let e : ◌≡◌ {A = Answer (Option ℕ)} (Err f) (Ok (new, d)) = h in cc)
+err-clears f new d h = absurd (let e : ◌≡◌ {A = StepResult (Option ℕ)} (Err f) (Ok (new, d)) = h in cc)
 
 suspend-clears : (st : State) (x y new : PointState) (d : Option ℕ)
-    → IsOk (elim st as (λ _. Answer (Option ℕ)) [ state.Started ↦ Ok (x, None) | state.Fuelling ↦ Ok (y, None) | s ↦ Err (WrongState s) ]) new d → d ≡ None
+    → IsOk (elim st as (λ _. StepResult (Option ℕ)) [ state.Started ↦ Ok (x, None) | state.Fuelling ↦ Ok (y, None) | s ↦ Err (WrongState s) ]) new d → d ≡ None
 suspend-clears state.Inoperative x y new d h = err-clears _ new d h
 suspend-clears state.Closed x y new d h = err-clears _ new d h
 suspend-clears state.Idle x y new d h = err-clears _ new d h
@@ -142,7 +143,7 @@ suspend-clears state.Fuelling x y new d h = ok-clears y new None d h
 suspend-clears state.SuspendedFuelling x y new d h = err-clears _ new d h
 
 resume-clears : (st : State) (b : Bool) (x y new : PointState) (f : PointFault) (d : Option ℕ)
-    → IsOk (elim st as (λ _. Answer (Option ℕ)) [
+    → IsOk (elim st as (λ _. StepResult (Option ℕ)) [
       | state.SuspendedStarted ↦ Ok (x, None)
       | state.SuspendedFuelling ↦ if b then Ok (y, None) else Err f
       | s
@@ -159,12 +160,13 @@ resume-clears state.Fuelling b x y new f d h = err-clears _ new d h
 resume-clears state.SuspendedFuelling b x y new f d h = if-clears b y new f None d h
 
 found-clears : (o : Option Transaction) (b : Transaction → Bool) (x new : PointState) (what : Transaction → Option ℕ) (d : Option ℕ)
-    → IsOk (elim o as (λ _. Answer (Option ℕ)) [ None ↦ Err NoSuchTransaction | Some t ↦ if b t then Ok (x, what t) else Err NotYourTransaction ]) new d
+    → IsOk (elim o as (λ _. StepResult (Option ℕ)) [ None ↦ Err NoSuchTransaction | Some t ↦ if b t then Ok (x, what t) else Err NotYourTransaction ]) new d
     → (t : Transaction) × (o ≡ Some t) × (d ≡ what t)
 found-clears None b x new what d h = err-clears NoSuchTransaction new d h
 found-clears (Some t) b x new what d h = (t, refl, if-clears (b t) x new NotYourTransaction (what t) d h)
 
--- If a point accepts a command, then the amount it reports is that of the transaction which the command clears, if any.
+-- If the point p accepts the command c, then d, the amount in the result, is that of the transaction that c clears. It
+-- is None if c clears none.
 clears-is : (p new : PointState) (till : ℕ) (c : Command) (d : Option ℕ) → IsOk (command_step p till c) new d → d ≡ amount-of (clears-what p c)
 clears-is p new till command.OpenPoint d h = if-clears _ _ new _ None d h
 clears-is p new till command.ClosePoint d h = if-clears _ _ new _ None d h
@@ -184,7 +186,7 @@ some-both m n x c h =
     let both : ◌≡◌ {A = ℕ × Command} (m, x) (n, c) = cc in
     (ap (λ (p : ℕ × Command). p.0) both, ap (λ (p : ℕ × Command). p.1) both)
 
--- The transaction that a request clears is the one that the command made from it clears.
+-- The request r and the command c made from it clear the same transaction, or both clear none.
 clearing-paid : (points : List PointState) (till n : ℕ) (p : PointState) (r : Request) (c : Command) → at_number points n ≡ Some p
     → done_command r ≡ Some (n, c) → paid points (cleared_by (act.Till till r)) ≡ clears-what p c
 clearing-paid points till n p (request.OpenPoint m) c at told = let e : command.OpenPoint ≡ c =
@@ -221,20 +223,20 @@ one-amount : (o : Option Transaction) → clears_by (amount-of o) ≡ one_of o
 one-amount None = refl
 one-amount (Some t) = refl
 
--- If a point accepts the command of a request, then the points after the entry are the old ones with this point
--- changed.
+-- If point n accepts the command c of the request r, then after the reply `Done` only this point is changed: it
+-- becomes `new`.
 done-points : (s : SiteState) (till n : ℕ) (p new : PointState) (r : Request) (c : Command) (d : Option ℕ) → 0 < till → at_number s.points n ≡ Some p
     → done_command r ≡ Some (n, c) → command_step p till c ≡ Ok (new, d) → with_act s.points (act.Till till r) reply.Done ≡ slice_set s.points (n - 1) new
 done-points s till n p new r c d some at told ok =
     let numbered : nat_lt 0 till ≡ true = lt-ltb 0 till some in
-    let became : after_command p till c ≡ new = ap (λ (a : Answer (Option ℕ)). elim a as (λ _. PointState) [ Ok o ↦ o.0 | Err _ ↦ p ]) ok in
+    let became : after_command p till c ≡ new = ap (λ (a : StepResult (Option ℕ)). elim a as (λ _. PointState) [ Ok o ↦ o.0 | Err _ ↦ p ]) ok in
     ap (λ (o : Option (ℕ × Command)). elim o as (λ _. List PointState) [ None ↦ s.points | Some x ↦ with_command s.points till x ]) told
     ∙ ap (λ b. if b then with_changed s.points n (λ x. after_command x till c) else s.points) numbered
     ∙ changed-at s.points n p (λ x. after_command x till c) at
     ∙ ap (λ x. slice_set s.points (n - 1) x) became
 
-done-at : (s : SiteState) (till n : ℕ) (p : PointState) (r : Request) (c : Command) (a : Answer (Option ℕ)) → 0 < till → at_number s.points n ≡ Some p
-    → done_command r ≡ Some (n, c) → command_step p till c ≡ a → Tells s (act.Till till r) (command_effect s n a)
+done-at : (s : SiteState) (till n : ℕ) (p : PointState) (r : Request) (c : Command) (a : StepResult (Option ℕ)) → 0 < till → at_number s.points n ≡ Some p
+    → done_command r ≡ Some (n, c) → command_step p till c ≡ a → AgreesAfter s (act.Till till r) (command_effect s n a)
 done-at s till n p r c (Err fault) some at told is = same-till s till r (fault_reply fault) (fault-silent fault)
 done-at s till n p r c (Ok (new, d)) some at told is =
     let what : d ≡ amount-of (clears-what p c) = clears-is p new till c d is in
@@ -246,24 +248,24 @@ done-at s till n p r c (Ok (new, d)) some at told is =
     }
 
 done-tells : (s : SiteState) (till n : ℕ) (r : Request) (c : Command) (o : Option PointState) → 0 < till → at_number s.points n ≡ o
-    → done_command r ≡ Some (n, c) → Tells s (act.Till till r) (commanded s till n c)
-done-tells s till n r c None some at told = subst (Tells s (act.Till till r)) (sym (commanded-none s till n c at)) (same-till s till r (refused 20) tt)
+    → done_command r ≡ Some (n, c) → AgreesAfter s (act.Till till r) (till_command_effect s till n c)
+done-tells s till n r c None some at told = subst (AgreesAfter s (act.Till till r)) (sym (till_command_effect-none s till n c at)) (same-till s till r (refused 20) tt)
 done-tells s till n r c (Some p) some at told =
-    subst (Tells s (act.Till till r)) (sym (commanded-some s till n c p at)) (done-at s till n p r c (command_step p till c) some at told refl)
+    subst (AgreesAfter s (act.Till till r)) (sym (till_command_effect-some s till n c p at)) (done-at s till n p r c (command_step p till c) some at told refl)
 
 -- ---- decisions
 
--- the result is a question of kind k at point n, or a refusal
+-- The result is a question to a rule, of kind k and about point n, or it is a refusal.
 abbrev AsksAt : Kind → ℕ → Result Question Reply → Type 0
 AsksAt k n (Ok q) = (q.kind ≡ k) × (q.point ≡ n)
 AsksAt k n (Err r) = (m : ℕ) × (v : Option ℕ) × (r ≡ reply.Refused m v)
 
-needs : (k : Kind) (n : ℕ) (b : Bool) (m : ℕ) (v : Option ℕ) (x : Result Question Reply) → AsksAt k n x → AsksAt k n (need b (reply.Refused m v) x)
+needs : (k : Kind) (n : ℕ) (b : Bool) (m : ℕ) (v : Option ℕ) (x : Result Question Reply) → AsksAt k n x → AsksAt k n (refuse_unless b (reply.Refused m v) x)
 needs k n true m v x h = h
 needs k n false m v x h = (m, v, refl)
 
 two-asks : (k : Kind) (n : ℕ) (a b : Bool) (m o : ℕ) (v w : Option ℕ) (q : Question) → q.kind ≡ k → q.point ≡ n
-    → AsksAt k n (need a (reply.Refused m v) (need b (reply.Refused o w) (Ok q)))
+    → AsksAt k n (refuse_unless a (reply.Refused m v) (refuse_unless b (reply.Refused o w) (Ok q)))
 two-asks k n true true m o v w q is here = (is, here)
 two-asks k n true false m o v w q is here = (o, w, refl)
 two-asks k n false b m o v w q is here = (m, v, refl)
@@ -273,11 +275,11 @@ release-asks : (config : ConfigValue) (s : SiteState) (n amount : ℕ) (o : Opti
 release-asks config s n amount None at = subst (AsksAt kind.Release n) (sym (release-none config s n amount at)) (20, None, refl)
 release-asks config s n amount (Some p) at =
     let asked : Question = record { kind = kind.Release; point = n; product = 0; asked = amount; slot = (slots_of config n).0 } in
-    let inner : AsksAt kind.Release n (need (is_ready p.state) (wrong_state p.state) (need (nat_lt (length p.unpaid) 2) transactions_full (Ok asked))) =
+    let inner : AsksAt kind.Release n (refuse_unless (is_ready p.state) (wrong_state p.state) (refuse_unless (nat_lt (length p.unpaid) 2) transactions_full (Ok asked))) =
     two-asks kind.Release n (is_ready p.state) (nat_lt (length p.unpaid) 2) 22 26 (Some (state_number p.state)) None asked refl refl in
     subst (AsksAt kind.Release n) (sym (release-some config s n amount p at))
     (needs kind.Release n (is_within 1 amount 999999999) 25 None
-    (need (is_ready p.state) (wrong_state p.state) (need (nat_lt (length p.unpaid) 2) transactions_full (Ok asked))) inner)
+    (refuse_unless (is_ready p.state) (wrong_state p.state) (refuse_unless (nat_lt (length p.unpaid) 2) transactions_full (Ok asked))) inner)
 
 preset-asks : (config : ConfigValue) (s : SiteState) (n amount : ℕ) (o : Option PointState) → at_number s.points n ≡ o
     → AsksAt kind.Preset n (preset_question config s n amount)
@@ -288,7 +290,7 @@ preset-asks config s n amount (Some p) at =
     (Some (state_number p.state)) asked refl refl)
 
 busy-asks : (b : Bool) (busy : Option State) (q : Question) → q.kind ≡ kind.Price → q.point ≡ 0
-    → AsksAt kind.Price 0 (need b bad_amount (elim busy as (λ _. Result Question Reply) [ Some state ↦ Err (wrong_state state) | None ↦ Ok q ]))
+    → AsksAt kind.Price 0 (refuse_unless b bad_amount (elim busy as (λ _. Result Question Reply) [ Some state ↦ Err (wrong_state state) | None ↦ Ok q ]))
 busy-asks true None q is here = (is, here)
 busy-asks true (Some st) q is here = (22, Some (state_number st), refl)
 busy-asks false busy q is here = (25, None, refl)
@@ -304,7 +306,8 @@ price-asks busy product price slot =
       slot = slot;
     }) refl refl
 
--- if the request is granted, its command is the release or preset of the granted amount at point n
+-- If the request is granted, its command is for point n. The command is a release or a preset, as k says, of the
+-- granted amount.
 abbrev Grants : Kind → ℕ → Request → Type 0
 Grants k n r = (g : ℕ) → granted_command r g ≡ Some (n, command_of k g)
 
@@ -325,40 +328,40 @@ granted-nowhere s till n g k r v some at grants =
     ∙ changed-nowhere s.points n (λ x. after_command x till (command_of k g)) at
 
 grant-at : (s : SiteState) (till r : ℕ) (q : Question) (p : PointState) → at_number s.points q.point ≡ Some p
-    → grant s till q r ≡ (let g : ℕ = granted_point q.kind q.asked r p.preset in (g, with_point s q.point (after_command p till (command_of q.kind g))))
+    → grant s till q r ≡ (let g : ℕ = granted_amount q.kind q.asked r p.preset in (g, with_point s q.point (after_command p till (command_of q.kind g))))
 unfolding grant
 grant-at s till r q p at = rw (at, grant)
 
--- The points that follow from a request and its granted amount are those of the state after the grant, and nothing was
--- cleared. The counters of the two states may differ.
-record GrantTells (s : SiteState) (till : ℕ) (r : Request) (v : ℕ) (g : ℕ × SiteState) : Type 0 where
+-- The state after the grant, g.1, has the points that follow from the request r and its granted amount, g.0. The grant
+-- cleared nothing.
+record GrantAgrees (s : SiteState) (till : ℕ) (r : Request) (v : ℕ) (g : ℕ × SiteState) : Type 0 where
   points : with_act s.points (act.Till till r) (reply.Granted g.0 v) ≡ g.1.points
   cleared : g.1.cleared ≡ s.cleared
   clears : g.1.clears ≡ s.clears
 
 grant-tells : (s : SiteState) (till x : ℕ) (q : Question) (r : Request) (v : ℕ) (c : Counters) (o : Option PointState) → 0 < till
-    → at_number s.points q.point ≡ o → Grants q.kind q.point r → GrantTells s till r v (grant (record s { counters = c }) till q x)
+    → at_number s.points q.point ≡ o → Grants q.kind q.point r → GrantAgrees s till r v (grant (record s { counters = c }) till q x)
 grant-tells s till x q r v c None some at grants =
     let none = grant-none (record s { counters = c }) till x q at in
-    subst (GrantTells s till r v) (sym none) (record {
+    subst (GrantAgrees s till r v) (sym none) (record {
       points = granted-nowhere s till q.point q.asked q.kind r v some at grants;
       cleared = refl;
       clears = refl;
     })
 grant-tells s till x q r v c (Some p) some at grants =
     let is = grant-at (record s { counters = c }) till x q p at in
-    subst (GrantTells s till r v) (sym is)
-    (record { points = granted-points s till q.point (granted_point q.kind q.asked x p.preset) p q.kind r v some at grants; cleared = refl; clears = refl })
+    subst (GrantAgrees s till r v) (sym is)
+    (record { points = granted-points s till q.point (granted_amount q.kind q.asked x p.preset) p q.kind r v some at grants; cleared = refl; clears = refl })
 
--- A grant of a price changes no point.
+-- A grant of a price change changes no point and clears nothing.
 price-tells : (s : SiteState) (till x : ℕ) (q : Question) (n a : ℕ) (v : ℕ) (c : Counters) → q.point ≡ 0
-    → GrantTells s till (request.Price n a) v (grant (record s { counters = c }) till q x)
+    → GrantAgrees s till (request.Price n a) v (grant (record s { counters = c }) till q x)
 price-tells s till x q n a v c nowhere =
     let none = grant-none (record s { counters = c }) till x q (ap (at_number s.points) nowhere) in
-    subst (GrantTells s till (request.Price n a) v) (sym none) (record { points = refl; cleared = refl; clears = refl })
+    subst (GrantAgrees s till (request.Price n a) v) (sym none) (record { points = refl; cleared = refl; clears = refl })
 
-plain-clearing : (s : SiteState) (till : ℕ) (r : Request) (g v : ℕ) (after : SiteState) (run : Option Run) → GrantTells s till r v (g, after)
-    → Tells s (act.Till till r) (record { reply = reply.Granted g v; run = run; after = after })
+plain-clearing : (s : SiteState) (till : ℕ) (r : Request) (g v : ℕ) (after : SiteState) (run : Option Run) → GrantAgrees s till r v (g, after)
+    → AgreesAfter s (act.Till till r) (record { reply = reply.Granted g v; run = run; after = after })
 plain-clearing s till r g v after run h = record {
   points = h.points;
   cleared = (let e : after.cleared ≡ s.cleared = h.cleared in omega (arith, e));
@@ -366,41 +369,41 @@ plain-clearing s till r g v after run h = record {
 }
 
 silent-run : (s : SiteState) (till : ℕ) (r : Request) (m : ℕ) (o : Option ℕ) (c : Counters) (run : Option Run)
-    → Tells s (act.Till till r) (record { reply = reply.Refused m o; run = run; after = record s { counters = c } })
+    → AgreesAfter s (act.Till till r) (record { reply = reply.Refused m o; run = run; after = record s { counters = c } })
 silent-run s till r m o c run = record { points = refl; cleared = omega arith; clears = omega arith }
 
 verdict-says : (s : SiteState) (till moment : ℕ) (q : Question) (v : Version) (x : ℕ) (c : Counters) (r : Request) (b : Bool) → (x == 0) ≡ b
-    → ((y : ℕ) (d : Counters) → GrantTells s till r v.number (grant (record s { counters = d }) till q y))
-    → Tells s (act.Till till r) (verdict s till moment q v x c)
+    → ((y : ℕ) (d : Counters) → GrantAgrees s till r v.number (grant (record s { counters = d }) till q y))
+    → AgreesAfter s (act.Till till r) (verdict s till moment q v x c)
 verdict-says s till moment q v x c r true denies says =
-    subst (Tells s (act.Till till r)) (sym (verdict-deny s till moment x q v c denies)) (silent-run s till r 24 _ c _)
+    subst (AgreesAfter s (act.Till till r)) (sym (verdict-deny s till moment x q v c denies)) (silent-run s till r 24 _ c _)
 verdict-says s till moment q v x c r false nonzero says =
     let g = grant (record s { counters = c }) till q x in
-    subst (Tells s (act.Till till r)) (sym (verdict-grant s till moment x g.0 q v c g.1 nonzero refl)) (plain-clearing s till r g.0 v.number g.1 _ (says x c))
+    subst (AgreesAfter s (act.Till till r)) (sym (verdict-grant s till moment x g.0 q v c g.1 nonzero refl)) (plain-clearing s till r g.0 v.number g.1 _ (says x c))
 
 version-says : (config : ConfigValue) (past : List Entry) (s : SiteState) (till moment : ℕ) (q : Question) (r : Request) (o : Option Version) → in_force config q.slot past ≡ o
-    → ((v : ℕ) (y : ℕ) (d : Counters) → GrantTells s till r v (grant (record s { counters = d }) till q y))
-    → Tells s (act.Till till r) (decided config past s till moment (Ok q))
-version-says config past s till moment q r None none says = subst (Tells s (act.Till till r)) (sym (decided-none config past s till moment q none)) (same-till s till r _ tt)
+    → ((v : ℕ) (y : ℕ) (d : Counters) → GrantAgrees s till r v (grant (record s { counters = d }) till q y))
+    → AgreesAfter s (act.Till till r) (decided config past s till moment (Ok q))
+version-says config past s till moment q r None none says = subst (AgreesAfter s (act.Till till r)) (sym (decided-none config past s till moment q none)) (same-till s till r _ tt)
 version-says config past s till moment q r (Some v) some says =
-    let x : ℕ × Counters = ran (outcome v.program (bytes_of (context v.program.layout s till moment q)) (view_of s) s.counters) s.counters in
-    subst (Tells s (act.Till till r)) (sym (decided-some config past s till moment q v some))
+    let x : ℕ × Counters = run_result (outcome v.program (bytes_of (context v.program.layout s till moment q)) (view_of s) s.counters) s.counters in
+    subst (AgreesAfter s (act.Till till r)) (sym (decided-some config past s till moment q v some))
     (verdict-says s till moment q v x.0 x.1 r (x.0 == 0) refl (says v.number))
 
 point-says : (config : ConfigValue) (past : List Entry) (s : SiteState) (till moment n : ℕ) (k : Kind) (r : Request) (x : Result Question Reply) → 0 < till → AsksAt k n x
-    → Grants k n r → Tells s (act.Till till r) (decided config past s till moment x)
+    → Grants k n r → AgreesAfter s (act.Till till r) (decided config past s till moment x)
 point-says config past s till moment n k r (Err f) some asks grants =
-    subst (Tells s (act.Till till r)) (sym (decided-refused config past s till moment f))
-    (subst (λ y. Tells s (act.Till till r) (replied y s)) (sym asks.2) (same-till s till r (reply.Refused asks.0 asks.1) tt))
+    subst (AgreesAfter s (act.Till till r)) (sym (decided-refused config past s till moment f))
+    (subst (λ y. AgreesAfter s (act.Till till r) (replied y s)) (sym asks.2) (same-till s till r (reply.Refused asks.0 asks.1) tt))
 point-says config past s till moment n k r (Ok q) some asks grants =
     let here : Grants q.kind q.point r = λ g. grants g ∙ (λ i. Some (sym asks.1 i, command_of (sym asks.0 i) g)) in
     version-says config past s till moment q r (in_force config q.slot past) refl (λ v y d. grant-tells s till y q r v d (at_number s.points q.point) some refl here)
 
 price-says : (config : ConfigValue) (past : List Entry) (s : SiteState) (till moment n a : ℕ) (x : Result Question Reply) → AsksAt kind.Price 0 x
-    → Tells s (act.Till till (request.Price n a)) (decided config past s till moment x)
+    → AgreesAfter s (act.Till till (request.Price n a)) (decided config past s till moment x)
 price-says config past s till moment n a (Err f) asks =
-    subst (Tells s (act.Till till (request.Price n a))) (sym (decided-refused config past s till moment f))
-    (subst (λ y. Tells s (act.Till till (request.Price n a)) (replied y s)) (sym asks.2)
+    subst (AgreesAfter s (act.Till till (request.Price n a))) (sym (decided-refused config past s till moment f))
+    (subst (λ y. AgreesAfter s (act.Till till (request.Price n a)) (replied y s)) (sym asks.2)
     (same-till s till (request.Price n a) (reply.Refused asks.0 asks.1) tt))
 price-says config past s till moment n a (Ok q) asks =
     version-says config past s till moment q (request.Price n a) (in_force config q.slot past) refl (λ v y d. price-tells s till y q n a v d asks.1)
@@ -408,15 +411,15 @@ price-says config past s till moment n a (Ok q) asks =
 -- ---- the steps of all acts
 
 show-tells : (s : SiteState) (till n : ℕ) (o : Option PointState) → at_number s.points n ≡ o
-    → Tells s (act.Till till (request.Show n)) (replied (show_reply s n) s)
+    → AgreesAfter s (act.Till till (request.Show n)) (replied (show_reply s n) s)
 unfolding show_reply
 show-tells s till n None at =
-    subst (λ r. Tells s (act.Till till (request.Show n)) (replied r s)) (sym (rw (at, show_reply) refl)) (same-till s till (request.Show n) (refused 20) tt)
+    subst (λ r. AgreesAfter s (act.Till till (request.Show n)) (replied r s)) (sym (rw (at, show_reply) refl)) (same-till s till (request.Show n) (refused 20) tt)
 show-tells s till n (Some p) at =
-    subst (λ r. Tells s (act.Till till (request.Show n)) (replied r s)) (sym (rw (at, show_reply) refl)) (same-till s till (request.Show n) (shown p) tt)
+    subst (λ r. AgreesAfter s (act.Till till (request.Show n)) (replied r s)) (sym (rw (at, show_reply) refl)) (same-till s till (request.Show n) (shown p) tt)
 
 asked-says : (config : ConfigValue) (past : List Entry) (s : SiteState) (till moment : ℕ) (r : Request) → 0 < till
-    → Tells s (act.Till till r) (asked config past s till moment r)
+    → AgreesAfter s (act.Till till r) (asked config past s till moment r)
 asked-says config past s till moment (request.Release n a) some = point-says config past s till moment n kind.Release (request.Release n a)
     (release_question config s n a) some (release-asks config s n a (at_number s.points n) refl) (λ g. refl)
 asked-says config past s till moment (request.Preset n a) some = point-says config past s till moment n kind.Preset (request.Preset n a) (preset_question config s n a)
@@ -440,17 +443,17 @@ positive : (config : ConfigValue) (till : ℕ) → is_till config till ≡ true 
 positive config till h = grind (arith, nat_tests, h)
 
 till-says : (config : ConfigValue) (past : List Entry) (s : SiteState) (till moment : ℕ) (r : Request) (b : Bool) → is_till config till ≡ b
-    → Tells s (act.Till till r) (if b then asked config past s till moment r else replied no_such_till s)
+    → AgreesAfter s (act.Till till r) (if b then asked config past s till moment r else replied no_such_till s)
 till-says config past s till moment r true is = asked-says config past s till moment r (positive config till is)
 till-says config past s till moment r false is = same-till s till r no_such_till tt
 
 order-tells : (s : SiteState) (n : ℕ) (event : DispenserEvent) (o : Option Order) (after : SiteState) → with_event s.points n event ≡ after.points
-    → after.cleared ≡ s.cleared → after.clears ≡ s.clears → Tells s (act.Dispenser n event) (replied (order_reply o) after)
+    → after.cleared ≡ s.cleared → after.clears ≡ s.clears → AgreesAfter s (act.Dispenser n event) (replied (order_reply o) after)
 order-tells s n event None after points cleared clears = record { points = points; cleared = omega (arith, cleared); clears = omega (arith, clears) }
 order-tells s n event (Some order) after points cleared clears = record { points = points; cleared = omega (arith, cleared); clears = omega (arith, clears) }
 
 fault-tells : (s : SiteState) (n : ℕ) (event : DispenserEvent) (f : PointFault) → with_event s.points n event ≡ s.points
-    → Tells s (act.Dispenser n event) (replied (fault_reply f) s)
+    → AgreesAfter s (act.Dispenser n event) (replied (fault_reply f) s)
 fault-tells s n event (WrongState st) points = record { points = points; cleared = omega arith; clears = omega arith }
 fault-tells s n event TransactionsFull points = record { points = points; cleared = omega arith; clears = omega arith }
 fault-tells s n event NotYourTransaction points = record { points = points; cleared = omega arith; clears = omega arith }
@@ -472,25 +475,25 @@ at-read points n p at =
     let is : get_or points (n - 1) p ≡ p = got points (n - 1) p (if-got (nat_le 1 n) points (n - 1) p at) in
     ap (λ x. slice_set points (n - 1) x) (sym is) ∙ set-get_or points (n - 1) p
 
-event-says : (s : SiteState) (n : ℕ) (event : DispenserEvent) (p : PointState) (a : Answer (Option Order)) → at_number s.points n ≡ Some p
-    → event_step p event ≡ a → Tells s (act.Dispenser n event) (event_effect s n a)
+event-says : (s : SiteState) (n : ℕ) (event : DispenserEvent) (p : PointState) (a : StepResult (Option Order)) → at_number s.points n ≡ Some p
+    → event_step p event ≡ a → AgreesAfter s (act.Dispenser n event) (event_effect s n a)
 event-says s n event p (Err f) at is =
-    let same : after_event p event ≡ p = ap (λ (x : Answer (Option Order)). elim x as (λ _. PointState) [ Ok o ↦ o.0 | Err _ ↦ p ]) is in
+    let same : after_event p event ≡ p = ap (λ (x : StepResult (Option Order)). elim x as (λ _. PointState) [ Ok o ↦ o.0 | Err _ ↦ p ]) is in
     fault-tells s n event f (changed-at s.points n p (λ x. after_event x event) at ∙ ap (λ x. slice_set s.points (n - 1) x) same ∙ at-read s.points n p at)
 event-says s n event p (Ok (new, o)) at is =
-    let became : after_event p event ≡ new = ap (λ (x : Answer (Option Order)). elim x as (λ _. PointState) [ Ok y ↦ y.0 | Err _ ↦ p ]) is in
+    let became : after_event p event ≡ new = ap (λ (x : StepResult (Option Order)). elim x as (λ _. PointState) [ Ok y ↦ y.0 | Err _ ↦ p ]) is in
     order-tells s n event o (with_point s n new) (changed-at s.points n p (λ x. after_event x event) at ∙ ap (λ x. slice_set s.points (n - 1) x) became) refl
     refl
 
-reported-says : (s : SiteState) (n : ℕ) (event : DispenserEvent) (o : Option PointState) → at_number s.points n ≡ o
-    → Tells s (act.Dispenser n event) (reported s n event)
-reported-says s n event None at = subst (Tells s (act.Dispenser n event)) (sym (reported-none s n event at))
+dispenser_effect-says : (s : SiteState) (n : ℕ) (event : DispenserEvent) (o : Option PointState) → at_number s.points n ≡ o
+    → AgreesAfter s (act.Dispenser n event) (dispenser_effect s n event)
+dispenser_effect-says s n event None at = subst (AgreesAfter s (act.Dispenser n event)) (sym (dispenser_effect-none s n event at))
     (record { points = changed-nowhere s.points n (λ x. after_event x event) at; cleared = omega arith; clears = omega arith })
-reported-says s n event (Some p) at =
-    subst (Tells s (act.Dispenser n event)) (sym (reported-some s n event p at)) (event-says s n event p (event_step p event) at refl)
+dispenser_effect-says s n event (Some p) at =
+    subst (AgreesAfter s (act.Dispenser n event)) (sym (dispenser_effect-some s n event p at)) (event-says s n event p (event_step p event) at refl)
 
 load-says : (s : SiteState) (a : Act) (slot more : Bool) (v : ℕ) → ((r : Reply) → with_act s.points a r ≡ s.points) → ((r : Reply) → clearing_of a r ≡ None)
-    → Tells s a (replied (if slot then if more then reply.Version v else refused 30 else refused 32) s)
+    → AgreesAfter s a (replied (if slot then if more then reply.Version v else refused 30 else refused 32) s)
 load-says s a slot more v points none = record {
   points = points _;
   cleared = (let e = ap (λ c. cents_of (paid s.points c)) (none (if slot then if more then reply.Version v else refused 30 else refused 32)) in
@@ -506,8 +509,8 @@ load-clears-none slot mask layout bytes (reply.Order o) = refl
 load-clears-none slot mask layout bytes (reply.Point a b c d e f g) = refl
 load-clears-none slot mask layout bytes (reply.Refused n v) = refl
 
-pub effect-says : (config : ConfigValue) (past : List Entry) (s : SiteState) (moment : ℕ) (a : Act) → Tells s a (effect config past s moment a)
+pub effect-says : (config : ConfigValue) (past : List Entry) (s : SiteState) (moment : ℕ) (a : Act) → AgreesAfter s a (effect config past s moment a)
 effect-says config past s moment (act.Till till r) = till-says config past s till moment r (is_till config till) refl
-effect-says config past s moment (act.Dispenser n event) = reported-says s n event (at_number s.points n) refl
+effect-says config past s moment (act.Dispenser n event) = dispenser_effect-says s n event (at_number s.points n) refl
 effect-says config past s moment (act.Load slot mask layout bytes) = load-says s (act.Load slot mask layout bytes) (nat_le slot 15)
     (nat_lt (versions past) 4096) (versions_before config + versions past + 1) (λ r. refl) (load-clears-none slot mask layout bytes)

@@ -1,4 +1,4 @@
--- Promises: laws about what a history adds up to.
+-- Promises: a history's sales agree with its site, and its versions count all its decisions.
 use Rattle.std.specs.Prelude.{◌≡◌, ◌≤◌, ℕ, ◌+◌, true, false, List, length, sum_by, count_by}
 use Rattle.std.specs.List.{range_with_len, filter_map}
 use Rattle.decision_journal.specs.declared.entries.Entry.{Entry}
@@ -7,19 +7,21 @@ use Rattle.site_core.specs.State.{SiteState, opening_state}
 use Rattle.site_core.specs.Decide.{is_decided}
 use Rattle.site_core.specs.Legal.{LegalHistory}
 use Rattle.day_report.specs.Walk.{points_after}
-use Rattle.day_report.specs.Carried.{OpensRightly}
+use Rattle.day_report.specs.Carried.{HasValidOpening}
 use Rattle.day_report.specs.Sales.{sales_of}
 use Rattle.day_report.specs.Decisions.{decision_of}
 use Rattle.day_report.specs.Totals.{count_in, cents_in, decided_by, versions_of}
 use Rattle.day_report.specs.declared.rulings.Decision.{Decision}
-use Rattle.day_report.specs.declared.counting.Deciding.TheVariants as deciding
-use Rattle.day_report.specs.declared.sales.Part.TheVariants as part
+use Rattle.day_report.specs.declared.counting.DecisionPart.TheVariants as deciding
+use Rattle.day_report.specs.declared.sales.SalesPart.TheVariants as part
 
--- The sales in a journal agree with the state of its site. The points after the last entry are the site's points. What
--- was cleared before the day and what was sold in the day are together what the site cleared: in number, and in cents.
--- The cents can be added up over all sales, or over the tills 1 to `tills`, if these include all tills of the
--- configuration. They can be added up over all points of the configuration, if the site begins with as many points.
-pub record TellsItsSite (config : ConfigValue) (history : List Entry) (state : SiteState) : Type 0 where
+-- The sales in a journal agree with the state of its site:
+-- - The points after the last entry are the site's points.
+-- - What was cleared before the day, plus the sales of the day, is what the site cleared: in number, and in cents.
+-- - The cents of the day are also the sum over all points of the configuration, if the site begins with that many
+--   points.
+-- - They are also the sum over the tills 1 to `tills`, if these include all tills of the configuration.
+pub record AgreesWithItsSite (config : ConfigValue) (history : List Entry) (state : SiteState) : Type 0 where
   pub points : points_after config history ≡ state.points
   pub count : (opening_state config).clears + count_in part.All (sales_of config history) ≡ state.clears
   pub cents : (opening_state config).cleared + cents_in part.All (sales_of config history) ≡ state.cleared
@@ -29,20 +31,19 @@ pub record TellsItsSite (config : ConfigValue) (history : List Entry) (state : S
       → (opening_state config).cleared + sum_by (λ t. cents_in (part.Till t) (sales_of config history)) (range_with_len 1 tills) ≡ state.cleared
 
 -- The sales in the journal of any legal history agree with the state that the history leads to.
-abbrev pub SalesTellTheSite : Type 0
-SalesTellTheSite = (config : ConfigValue) (history : List Entry) (state : SiteState) → LegalHistory config history state → TellsItsSite config history state
+abbrev pub SalesAgreeWithTheSite : Type 0
+SalesAgreeWithTheSite = (config : ConfigValue) (history : List Entry) (state : SiteState) → LegalHistory config history state → AgreesWithItsSite config history state
 
--- how many decisions a version made in all: on releases, presets and prices, granted and denied
+-- How many decisions a version of a rule made in all: on releases, presets and prices, granted and denied.
 abbrev pub decided_in_all : ℕ → List Decision → ℕ
 decided_in_all v ds =
     decided_by deciding.Releases true v ds + decided_by deciding.Releases false v ds + decided_by deciding.Presets true v ds
     + decided_by deciding.Presets false v ds + decided_by deciding.Prices true v ds + decided_by deciding.Prices false v ds
 
--- The grants and denials of all versions together, those that were carried in and those that were loaded, are as many as
--- the entries whose reply only a rule can lead to. By `OpensRightly` no version is carried in twice, and each that
--- is carried in has a number below those of the day's loads.
-abbrev pub VersionsTellAllDecisions : Type 0
-VersionsTellAllDecisions =
-    (config : ConfigValue) (history : List Entry) (state : SiteState) → OpensRightly config → LegalHistory config history state →
+-- In a legal history, all versions, carried in or loaded, together granted and denied as often as an entry's reply is a
+-- grant or the refusal S24. `HasValidOpening` is required so that no version is counted twice.
+abbrev pub VersionsCountAllDecisions : Type 0
+VersionsCountAllDecisions =
+    (config : ConfigValue) (history : List Entry) (state : SiteState) → HasValidOpening config → LegalHistory config history state →
     sum_by (λ v. decided_in_all v (filter_map decision_of history)) (versions_of config history) ≡ count_by
     (λ (entry : Entry). is_decided entry.reply) history

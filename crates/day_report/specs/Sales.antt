@@ -15,8 +15,8 @@ use Rattle.day_report.specs.Walk.{with_entry}
 use Rattle.day_report.specs.declared.sales.Clearing.{Clearing}
 use Rattle.day_report.specs.declared.sales.Sale.{Sale}
 
--- What a till's request Clear asks to clear: the till, the point and the number of the transaction. None for another
--- act.
+-- What a till's request `Clear` asks to clear: the till, the point and the number of the transaction. None for any
+-- other act.
 abbrev pub cleared_by : Act → Option Clearing
 cleared_by (act.Till till (request.Clear n number)) = Some (record { till = till; point = n; number = number })
 cleared_by _ = None
@@ -46,6 +46,6 @@ abbrev pub sales : List PointState → List Entry → List Sale
 sales points [] = []
 sales points (entry ∷ entries) = cons_option (sale_of points entry) (sales (with_entry points entry) entries)
 
--- The sales of a history of a site of this configuration. The points before it are those that the site starts with.
+-- The sales in the history of a site of this configuration.
 abbrev pub sales_of : ConfigValue → List Entry → List Sale
 sales_of config history = sales (opening_state config).points history

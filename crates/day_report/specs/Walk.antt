@@ -1,5 +1,5 @@
--- Definitions: the states of a site's points, as they follow from its journal (this profile). Entries are oldest first.
--- The table of fuelling points defines what a command or an event does at a point.
+-- Definitions: how the entries of a journal, oldest first, change the points of its site (this profile). The table of
+-- fuelling points defines what a command or an event does at a point.
 use Rattle.std.specs.Prelude.{ℕ, ◌-◌, nat_lt, if◌then◌else◌, List, fold, slice_set, Option, Some, None, Ok, Err}
 use Rattle.fuelling_point.specs.Table.{PointState, event_step}
 use Rattle.fuelling_point.specs.declared.kinds.Command.{Command}
@@ -36,17 +36,17 @@ done_command _ = None
 
 -- The point and the command that were carried out for a till's request with this reply; None if no command was carried
 -- out, as for a refused request, a price change, or a request to show a point.
-abbrev pub command_told : Request → Reply → Option (ℕ × Command)
-command_told request (reply.Granted granted version) = granted_command request granted
-command_told request reply.Done = done_command request
-command_told request _ = None
+abbrev pub executed_command : Request → Reply → Option (ℕ × Command)
+executed_command request (reply.Granted granted version) = granted_command request granted
+executed_command request reply.Done = done_command request
+executed_command request _ = None
 
 -- The points after a change of point n. They stay the same if there is no point of this number.
 unfoldable pub with_changed : List PointState → ℕ → (PointState → PointState) → List PointState
 with_changed points n becomes = elim (at_number points n) [ None ↦ points | Some p ↦ slice_set points (n - 1) (becomes p) ]
 
--- The points after a till's command; `c` has the number of a point and the command at this point. Tills are numbered
--- from 1, so a command of till 0 changes nothing.
+-- The points after a till's command; the pair is the number of a point and the command for this point. Tills are
+-- numbered from 1, so a command of till 0 changes nothing.
 abbrev pub with_command : List PointState → ℕ → ℕ × Command → List PointState
 with_command points till c = if nat_lt 0 till then with_changed points c.0 (λ p. after_command p till c.1) else points
 
@@ -58,10 +58,10 @@ after_event p event = elim (event_step p event) [ Ok o ↦ o.0 | Err _ ↦ p ]
 abbrev pub with_event : List PointState → ℕ → DispenserEvent → List PointState
 with_event points n event = with_changed points n (λ p. after_event p event)
 
--- The points after an act with this reply.
+-- The points after an act that got this reply.
 abbrev pub with_act : List PointState → Act → Reply → List PointState
 with_act points (act.Till till request) reply =
-    elim (command_told request reply) [ None ↦ points | Some c ↦ with_command points till c ]
+    elim (executed_command request reply) [ None ↦ points | Some c ↦ with_command points till c ]
 with_act points (act.Dispenser n event) reply = with_event points n event
 with_act points (act.Load slot mask layout bytes) reply = points
 
@@ -70,9 +70,9 @@ unfoldable pub with_entry : List PointState → Entry → List PointState
 with_entry points entry = with_act points entry.act entry.reply
 
 -- The points after a list of entries.
-abbrev pub stand : List PointState → List Entry → List PointState
-stand points entries = fold with_entry points entries
+abbrev pub replayed : List PointState → List Entry → List PointState
+replayed points entries = fold with_entry points entries
 
--- The points of a site of this configuration after these entries, which are the first of its history.
+-- The points of a site of this configuration after a history with these entries.
 abbrev pub points_after : ConfigValue → List Entry → List PointState
-points_after config entries = stand (opening_state config).points entries
+points_after config entries = replayed (opening_state config).points entries

@@ -11,25 +11,25 @@ ghost use Rattle.day_report.specs.Decisions.{decision_of, refusal_of, price_chan
 ghost use Rattle.day_report.specs.Totals.{IsSum, SumsUp, CountsRefusals, HasOutcomes, DecidedByTills, versions_of};
 ghost use Rattle.day_report.specs.Totals.{unpaid_transaction, unpaid_of, part_by, part_of_point, part_of_till, part_of_hour};
 ghost use Rattle.day_report.specs.Totals.{carried_in};
-ghost use Rattle.day_report.specs.declared.sales.Part.TheVariants as part;
-ghost use Rattle.day_report.specs.declared.counting.Deciding.TheVariants as deciding;
+ghost use Rattle.day_report.specs.declared.sales.SalesPart.TheVariants as part;
+ghost use Rattle.day_report.specs.declared.counting.DecisionPart.TheVariants as deciding;
 
-use crate::counting::{Deciding, Outcomes, count_of, count_outcome, tally};
+use crate::counting::{DecisionPart, Outcomes, count_of, count_outcome, tally};
 use crate::loading::{Load, loads};
 use crate::opening::{CarriedRule, carried_rules, rules_in};
 use crate::pushing::push_some;
 use crate::rulings::{Decision, PriceChange, decisions, price_changes, refusals};
-use crate::sales::{Part, Sale, Sum, find_sales, sum_of};
+use crate::sales::{Sale, SalesPart, Sum, find_sales, sum_of};
 use decision_journal::{Entry, FIRST_REFUSAL, REFUSALS};
 use fuelling_point::{Point, Transaction};
 use site_core::{Config, Opening};
 use std::alloc::{AllocError, Global};
 
-/// The greatest number of parts into which sales are divided at once.
+/// The most parts that sales are split into at once, such as one part for each till.
 const MOST_PARTS: usize = 64;
 
 /// The most tills that a site can have.
-pub const TILLS: u32 = 64;
+pub const MAX_TILLS: u32 = 64;
 
 /// How many hours a day has.
 const HOURS: u32 = 24;
@@ -48,7 +48,7 @@ pub struct Totals {
     pub by_hour: Vec<Sum>,
     /// The fuelling points as they are after the last entry.
     pub points: Vec<Point>,
-    /// How often each of the refusals S20 to S34 was the reply, S20 first.
+    /// How many entries have each of the refusals S20 to S34 as their reply, S20 first.
     pub refused: Vec<usize>,
     /// The rules that were carried in from the day before, in the order of their slots.
     pub carried: Vec<CarriedRule>,
@@ -56,7 +56,7 @@ pub struct Totals {
     /// The numbers of the versions: those of `carried`, and then those of `loads`.
     pub versions: Vec<u32>,
     pub prices: Vec<PriceChange>,
-    /// The transactions that are unpaid after the last entry, point by point.
+    /// The transactions that are unpaid after the last entry, those of point 1 first.
     pub unpaid: Vec<Unpaid>,
     pub unpaid_cents: u128,
     /// How many decisions of rules were grants.
@@ -69,8 +69,8 @@ pub struct Totals {
     pub tills: Vec<Outcomes>,
 }
 
-/// What was carried in from the day before: how many unpaid transactions and their total in cents, how many rules, and
-/// the total that was cleared before the day, in cents.
+/// What a day takes over from the day before: the number and the total cents of unpaid transactions, the number of
+/// rules, and the total cents that were cleared before the day.
 #[derive(Clone, Copy)]
 pub struct CarriedIn {
     pub unpaid: usize,
@@ -90,30 +90,30 @@ pub struct Unpaid {
     pub holder: u32,
 }
 
-/// How sales are divided into parts: by point, by till, or by hour of the day.
+/// How sales are split into parts: by point, by till, or by hour of the day.
 #[derive(Clone, Copy)]
-enum By {
+enum SplitBy {
     Point,
     Till,
     Hour,
 }
 
-/// Returns the part of the sales at this place, counted from 0, if sales are divided as `by` says. `place` must be at
-/// most 64.
-fn part_at(by: By, place: usize) -> Part
+/// Returns the part of the sales for point `place` + 1, for till `place` + 1 or for hour `place`, as `by` says. `place`
+/// must be at most 64.
+fn part_at(by: SplitBy, place: usize) -> SalesPart
     requires { place ≤ MOST_PARTS }
     ensures { result ≡ part_by by place }
 {
     match by {
-        By::Point => Part::Point(place as u32 + 1),
-        By::Till => Part::Till(place as u32 + 1),
-        By::Hour => Part::Hour(place as u32),
+        SplitBy::Point => SalesPart::Point(place as u32 + 1),
+        SplitBy::Till => SalesPart::Till(place as u32 + 1),
+        SplitBy::Hour => SalesPart::Hour(place as u32),
     }
 }
 
 /// Splits the sales by point, by till or by hour, as `by` says, and returns the total of each of the first `count`
 /// points, tills or hours. `count` must be at most 64. The error is that memory ran out.
-fn sums_by(alloc: Global, sales: &[Sale], by: By, count: usize) -> Result<Vec<Sum>, AllocError>
+fn sums_by(alloc: Global, sales: &[Sale], by: SplitBy, count: usize) -> Result<Vec<Sum>, AllocError>
     requires { count ≤ MOST_PARTS }
     ensures { IfOk result (λ sums. SumsUp (part_by by) count sums.items sales.now) }
 {
@@ -124,9 +124,9 @@ fn sums_by(alloc: Global, sales: &[Sale], by: By, count: usize) -> Result<Vec<Su
     Ok(sums)
 }
 
-/// Returns how often each of the refusals S20 to S34 is among these numbers, S20 first. The error is that memory ran
-/// out.
-fn by_number(alloc: Global, numbers: &[u32]) -> Result<Vec<usize>, AllocError>
+/// Returns how often each of the refusals S20 to S34 is among these numbers of refusals, S20 first. The error is that
+/// memory ran out.
+fn refusal_counts(alloc: Global, numbers: &[u32]) -> Result<Vec<usize>, AllocError>
     ensures { IfOk result (λ counts. CountsRefusals counts.items numbers.now) }
 {
     let mut counts = Vec::new(alloc);
@@ -136,21 +136,22 @@ fn by_number(alloc: Global, numbers: &[u32]) -> Result<Vec<usize>, AllocError>
     Ok(counts)
 }
 
-/// Returns how often each of the refusals S20 to S34 was the reply, S20 first. The error is that memory ran out.
+/// Returns how many of the entries have each of the refusals S20 to S34 as their reply, S20 first. The error is that
+/// memory ran out.
 fn refused_in(alloc: Global, entries: &[Entry]) -> Result<Vec<usize>, AllocError>
     ensures { IfOk result (λ counts. CountsRefusals counts.items (filter_map refusal_of entries.now)) }
 {
     let numbers = refusals(alloc, entries)?;
-    by_number(alloc, &numbers)
+    refusal_counts(alloc, &numbers)
 }
 
-/// Returns how often each of these versions granted and denied, counting only the decisions in `part`. The error is
-/// that memory ran out.
+/// Returns how often each of these versions of rules granted and how often it denied. Only decisions in `part` are
+/// counted. The error is that memory ran out.
 fn outcomes(
     alloc: Global,
     decisions: &[Decision],
     versions: &[u32],
-    part: Deciding,
+    part: DecisionPart,
 ) -> Result<Outcomes, AllocError>
     ensures { IfOk result (λ found. HasOutcomes part versions.now decisions.now found) }
 {
@@ -160,23 +161,24 @@ fn outcomes(
     })
 }
 
-/// Returns for each of the tills 1 to 64, till 1 first, how often each version granted and denied requests of this
-/// till. The error is that memory ran out.
-fn by_till_asked(
+/// Returns for each of the tills 1 to 64, till 1 first, how often each version of a rule granted and denied requests of
+/// this till. The error is that memory ran out.
+fn outcomes_by_till(
     alloc: Global,
     decisions: &[Decision],
     versions: &[u32],
 ) -> Result<Vec<Outcomes>, AllocError>
-    ensures { IfOk result (λ found. DecidedByTills TILLS versions.now decisions.now found.items) }
+    ensures { IfOk result (λ found. DecidedByTills MAX_TILLS versions.now decisions.now found.items) }
 {
     let mut found = Vec::new(alloc);
-    for till in 0..TILLS {
-        found.push(outcomes(alloc, decisions, versions, Deciding::Till(till + 1))?)?;
+    for till in 0..MAX_TILLS {
+        found.push(outcomes(alloc, decisions, versions, DecisionPart::Till(till + 1))?)?;
     }
     Ok(found)
 }
 
-/// Returns an unpaid transaction with the number of its point, which is `point`; `None` if there is no transaction.
+/// Returns the unpaid transaction together with the number of its point, which is `point`; `None` if there is no
+/// transaction.
 fn unpaid_as(point: usize, transaction: Option<Transaction>) -> Option<Unpaid>
     ensures { result ≡ option_map (unpaid_transaction point) transaction }
 {
@@ -190,8 +192,8 @@ fn unpaid_as(point: usize, transaction: Option<Transaction>) -> Option<Unpaid>
     })
 }
 
-/// Returns the unpaid transactions of the points, point by point, and the older one of a point first. The error is that
-/// memory ran out. Without a transaction there is no error.
+/// Returns the unpaid transactions of all points. Those of point 1 come first, and of the two that a point can have,
+/// the older one comes first. The error is that memory ran out. Without a transaction there is no error.
 fn unpaid_of(alloc: Global, points: &[Point]) -> Result<Vec<Unpaid>, AllocError>
     ensures found { IfOk result (λ found. found.items ≡ unpaid_of points.now) }
     ensures none { unpaid_of points.now ≡ [] → IsOk result }
@@ -206,7 +208,7 @@ fn unpaid_of(alloc: Global, points: &[Point]) -> Result<Vec<Unpaid>, AllocError>
     Ok(found)
 }
 
-/// Returns the total of the unpaid transactions, in cents.
+/// Returns the total in cents of these unpaid transactions.
 fn cents_of(unpaid: &[Unpaid]) -> u128
     ensures { result ≡ sum_by (λ (u : Unpaid). u.amount) unpaid.now }
 {
@@ -217,8 +219,8 @@ fn cents_of(unpaid: &[Unpaid]) -> u128
     cents
 }
 
-/// The totals of the sales at each fuelling point, of what each of the tills 1 to 64 cleared, and of the sales in each
-/// hour of the day.
+/// The totals of the sales at each fuelling point, of the sales that each of the tills 1 to 64 cleared, and of the
+/// sales in each hour of the day.
 #[derive(Drop)]
 struct Sums {
     points: Vec<Sum>,
@@ -229,17 +231,17 @@ struct Sums {
 fn sums_of(alloc: Global, sales: &[Sale], points: usize) -> Result<Sums, AllocError>
     requires { points ≤ MOST_PARTS }
     ensures points { IfOk result (λ s. SumsUp part_of_point points s.points.items sales.now) }
-    ensures tills { IfOk result (λ s. SumsUp part_of_till TILLS s.tills.items sales.now) }
+    ensures tills { IfOk result (λ s. SumsUp part_of_till MAX_TILLS s.tills.items sales.now) }
     ensures hours { IfOk result (λ s. SumsUp part_of_hour HOURS s.hours.items sales.now) }
 {
     Ok(Sums {
-        points: sums_by(alloc, sales, By::Point, points)?,
-        tills: sums_by(alloc, sales, By::Till, TILLS as usize)?,
-        hours: sums_by(alloc, sales, By::Hour, HOURS as usize)?,
+        points: sums_by(alloc, sales, SplitBy::Point, points)?,
+        tills: sums_by(alloc, sales, SplitBy::Till, MAX_TILLS as usize)?,
+        hours: sums_by(alloc, sales, SplitBy::Hour, HOURS as usize)?,
     })
 }
 
-/// How often each version granted and denied: by what was asked, and by the till that asked.
+/// How often each version of a rule granted and denied: by the kind of the request, and by the till that sent it.
 #[derive(Drop)]
 struct Verdicts {
     releases: Outcomes,
@@ -256,19 +258,19 @@ fn verdicts_of(
     ensures releases { IfOk result (λ v. HasOutcomes deciding.Releases versions.now decisions.now v.releases) }
     ensures presets { IfOk result (λ v. HasOutcomes deciding.Presets versions.now decisions.now v.presets) }
     ensures prices { IfOk result (λ v. HasOutcomes deciding.Prices versions.now decisions.now v.prices) }
-    ensures tills { IfOk result (λ v. DecidedByTills TILLS versions.now decisions.now v.tills.items) }
+    ensures tills { IfOk result (λ v. DecidedByTills MAX_TILLS versions.now decisions.now v.tills.items) }
 {
     Ok(Verdicts {
-        releases: outcomes(alloc, decisions, versions, Deciding::Releases)?,
-        presets: outcomes(alloc, decisions, versions, Deciding::Presets)?,
-        prices: outcomes(alloc, decisions, versions, Deciding::Prices)?,
-        tills: by_till_asked(alloc, decisions, versions)?,
+        releases: outcomes(alloc, decisions, versions, DecisionPart::Releases)?,
+        presets: outcomes(alloc, decisions, versions, DecisionPart::Presets)?,
+        prices: outcomes(alloc, decisions, versions, DecisionPart::Prices)?,
+        tills: outcomes_by_till(alloc, decisions, versions)?,
     })
 }
 
 /// What the sales of a history add up to, the points after the last entry, and the unpaid transactions of these points.
 #[derive(Drop)]
-struct Takings {
+struct SalesTotals {
     sold: Sum,
     sums: Sums,
     points: Vec<Point>,
@@ -276,14 +278,14 @@ struct Takings {
     unpaid_cents: u128,
 }
 
-fn takings_of(alloc: Global, config: &Config, entries: &[Entry]) -> Result<Takings, AllocError>
+fn takings_of(alloc: Global, config: &Config, entries: &[Entry]) -> Result<SalesTotals, AllocError>
     requires { length entries.now ≤ ENTRIES }
     ensures sold { IfOk result (λ t. IsSum t.sold part.All (sales_of config.now entries.now)) }
     ensures by_point { IfOk result
         (λ t. SumsUp part_of_point (length config.now.points) t.sums.points.items
         (sales_of config.now entries.now)) }
     ensures by_till { IfOk result
-        (λ t. SumsUp part_of_till TILLS t.sums.tills.items (sales_of config.now entries.now)) }
+        (λ t. SumsUp part_of_till MAX_TILLS t.sums.tills.items (sales_of config.now entries.now)) }
     ensures by_hour { IfOk result
         (λ t. SumsUp part_of_hour HOURS t.sums.hours.items (sales_of config.now entries.now)) }
     ensures points { IfOk result (λ t. t.points.items ≡ points_after config.now entries.now) }
@@ -295,8 +297,8 @@ fn takings_of(alloc: Global, config: &Config, entries: &[Entry]) -> Result<Takin
     let found = find_sales(alloc, config, entries)?;
     let sums = sums_of(alloc, &found.sales, config.points().len())?;
     let unpaid = unpaid_of(alloc, &found.points)?;
-    Ok(Takings {
-        sold: sum_of(&found.sales, Part::All),
+    Ok(SalesTotals {
+        sold: sum_of(&found.sales, SalesPart::All),
         sums,
         points: found.points,
         unpaid_cents: cents_of(&unpaid),
@@ -312,8 +314,8 @@ struct Versions {
     numbers: Vec<u32>,
 }
 
-/// Returns the numbers of the versions: those of `carried`, and then those of `loads`. The error is that memory ran
-/// out.
+/// Returns the numbers of the versions: first those of the rules in `carried`, then those of `loads`. The error is that
+/// memory ran out.
 fn numbers_of(
     alloc: Global,
     carried: &[CarriedRule],
@@ -345,7 +347,8 @@ fn versions_in(alloc: Global, config: &Config, entries: &[Entry]) -> Result<Vers
     })
 }
 
-/// How often rules granted and denied what tills asked. `verdicts` counts this for each version.
+/// How many requests of tills were granted by rules, and how many were denied. `verdicts` has these counts for each
+/// version of a rule.
 #[derive(Drop)]
 struct Decided {
     granted: usize,
@@ -366,7 +369,7 @@ fn decided_in(alloc: Global, versions: &[u32], entries: &[Entry]) -> Result<Deci
     ensures prices { IfOk result
         (λ d. HasOutcomes deciding.Prices versions.now (filter_map decision_of entries.now) d.verdicts.prices) }
     ensures tills { IfOk result
-        (λ d. DecidedByTills TILLS versions.now (filter_map decision_of entries.now) d.verdicts.tills.items) }
+        (λ d. DecidedByTills MAX_TILLS versions.now (filter_map decision_of entries.now) d.verdicts.tills.items) }
 {
     let decisions = decisions(alloc, entries)?;
     let verdicts = verdicts_of(alloc, &decisions, versions)?;
@@ -377,7 +380,8 @@ fn decided_in(alloc: Global, versions: &[u32], entries: &[Entry]) -> Result<Deci
     })
 }
 
-/// Adds up the history of a site of this configuration. The error is that memory ran out.
+/// Returns the totals of the history of a site of this configuration. There must be at most 1,048,576 entries. The
+/// error is that memory ran out.
 pub fn add_up(alloc: Global, config: &Config, entries: &[Entry]) -> Result<Totals, AllocError>
     requires { length entries.now ≤ ENTRIES }
     ensures entries { IfOk result (λ t. t.entries ≡ length entries.now) }
@@ -386,7 +390,7 @@ pub fn add_up(alloc: Global, config: &Config, entries: &[Entry]) -> Result<Total
         (λ t. SumsUp part_of_point (length config.now.points) t.by_point.items
         (sales_of config.now entries.now)) }
     ensures by_till { IfOk result
-        (λ t. SumsUp part_of_till TILLS t.by_till.items (sales_of config.now entries.now)) }
+        (λ t. SumsUp part_of_till MAX_TILLS t.by_till.items (sales_of config.now entries.now)) }
     ensures by_hour { IfOk result
         (λ t. SumsUp part_of_hour HOURS t.by_hour.items (sales_of config.now entries.now)) }
     ensures points { IfOk result (λ t. t.points.items ≡ points_after config.now entries.now) }
@@ -404,7 +408,7 @@ pub fn add_up(alloc: Global, config: &Config, entries: &[Entry]) -> Result<Total
     ensures denied { IfOk result
         (λ t. t.denied ≡ count_by (λ (d : Decision). not d.is_granted) (filter_map decision_of entries.now)) }
     ensures tills { IfOk result
-        (λ t. DecidedByTills TILLS (versions_of config.now entries.now) (filter_map decision_of entries.now)
+        (λ t. DecidedByTills MAX_TILLS (versions_of config.now entries.now) (filter_map decision_of entries.now)
         t.tills.items) }
     ensures releases { IfOk result
         (λ t. HasOutcomes deciding.Releases (versions_of config.now entries.now)
@@ -444,8 +448,9 @@ pub fn add_up(alloc: Global, config: &Config, entries: &[Entry]) -> Result<Total
     })
 }
 
-/// Returns what an opening carries in. The opening must have at most 16 slots. The error is that memory ran out, which
-/// it can't if the opening has no unpaid transaction and no rule.
+/// Returns what the opening (the state that a day begins with) takes over from the day before. The opening must have at
+/// most 16 slots. The error is that memory ran out. If the opening has no unpaid transaction and no rule, there is no
+/// error.
 fn carried_by(alloc: Global, opening: &Opening) -> Result<CarriedIn, AllocError>
     requires { length opening.now.rules ≤ 16 }
     ensures found { IfOk result (λ found. found ≡ carried_in opening.now) }
@@ -461,8 +466,9 @@ fn carried_by(alloc: Global, opening: &Opening) -> Result<CarriedIn, AllocError>
     })
 }
 
-/// Returns what the opening of this configuration carries in, or `None` if it has no opening. The error is that memory
-/// ran out, which it can't without an opening, or if the opening has no unpaid transaction and no rule.
+/// Returns what the opening (the state that a day begins with) takes over from the day before, or `None` if the
+/// configuration has no opening. The error is that memory ran out. There is no error without an opening, or if the
+/// opening has no unpaid transaction and no rule.
 pub fn carried_in(alloc: Global, config: &Config) -> Result<Option<CarriedIn>, AllocError>
     ensures found { IfOk result (λ found. found ≡ option_map carried_in config.now.opening) }
     ensures none { IfSome config.now.opening

@@ -1,17 +1,17 @@
-//! Counts how often each version granted and denied, and how often each refusal was the reply.
+//! Counts how often each version of a rule granted and denied requests, and how often each refusal was the reply.
 
 ghost use Rattle.std.specs.Prelude.{◌≡◌, ◌==◌, ◌&&◌, ◌+◌, ◌-◌, ◌^◌, ◌≤◌, ℕ};
 ghost use Rattle.std.specs.Prelude.{if◌then◌else◌, false, IfOk, IsOk, OnOk, count_by, map};
 ghost use Rattle.day_report.specs.Totals.{is_among, has_outcome, is_wanted, decided_by, count_for, CountsVersions};
 
-use crate::rulings::{Asked, Decision};
+use crate::rulings::{Decision, RequestKind};
 use std::alloc::{AllocError, Global};
 use std::collections::HashMap;
 
 /// A part of the decisions that is counted: those on releases, on presets or on prices, or those on one till's
 /// requests.
 #[derive(Clone, Copy)]
-pub enum Deciding {
+pub enum DecisionPart {
     Releases,
     Presets,
     Prices,
@@ -19,14 +19,14 @@ pub enum Deciding {
     Till(u32),
 }
 
-fn is_among(part: Deciding, decision: &Decision) -> bool
+fn is_among(part: DecisionPart, decision: &Decision) -> bool
     ensures { result ≡ is_among part decision.now }
 {
     match part {
-        Deciding::Releases => decision.asked == Asked::Release,
-        Deciding::Presets => decision.asked == Asked::Preset,
-        Deciding::Prices => decision.asked == Asked::Price,
-        Deciding::Till(till) => decision.till == till,
+        DecisionPart::Releases => decision.asked == RequestKind::Release,
+        DecisionPart::Presets => decision.asked == RequestKind::Preset,
+        DecisionPart::Prices => decision.asked == RequestKind::Price,
+        DecisionPart::Till(till) => decision.till == till,
     }
 }
 
@@ -36,16 +36,17 @@ fn has_outcome(granted: bool, decision: &Decision) -> bool
     decision.is_granted == granted
 }
 
-/// Returns whether a decision is in this part, and is a grant if `granted` is true, or a denial if it is false.
+/// Returns whether a decision is in this part and has this outcome: a grant if `granted` is true, a denial if it is
+/// false.
 #[tactic(auto, unfolding(crate::specs::Totals::is_wanted))]
-fn is_wanted(part: Deciding, granted: bool, decision: &Decision) -> bool
+fn is_wanted(part: DecisionPart, granted: bool, decision: &Decision) -> bool
     ensures { result ≡ is_wanted part granted decision.now }
 {
     is_among(part, decision) && has_outcome(granted, decision)
 }
 
-/// Counts one more decision of a version, if `wanted` is true. All counts must be at most 2^64 - 2. The error is that
-/// memory ran out. If `wanted` is false there is no error.
+/// Adds 1 to the count of a version, if `wanted` is true. All counts must be at most 2^64 - 2. The error is that memory
+/// ran out. If `wanted` is false there is no error.
 fn count_if(counts: &mut HashMap<u32, u64>, version: u32, wanted: bool) -> Result<(), AllocError>
     requires { (v : ℕ) → count_for counts.old v ≤ 2 ^ 64 - 2 }
     ensures counted { OnOk result ((v : ℕ) → count_for counts.new v ≡ count_for counts.old v
@@ -59,12 +60,12 @@ fn count_if(counts: &mut HashMap<u32, u64>, version: u32, wanted: bool) -> Resul
     Ok(())
 }
 
-/// Returns for each version how many of the decisions in this part it granted, if `granted` is true, or denied, if it
-/// is false. A version without such a decision isn't in the map. The error is that memory ran out.
+/// Counts the decisions in `part` for each version of a rule: the grants if `granted` is true, else the denials. A
+/// version that isn't in the map has none. The error is that memory ran out.
 fn by_version(
     alloc: Global,
     decisions: &[Decision],
-    part: Deciding,
+    part: DecisionPart,
     granted: bool,
 ) -> Result<HashMap<u32, u64>, AllocError>
     ensures { IfOk result (CountsVersions part granted decisions.now) }
@@ -77,8 +78,8 @@ fn by_version(
     Ok(counts)
 }
 
-/// Returns the count of each of these versions, at its place in the list; 0 for a version that the map doesn't have.
-/// The error is that memory ran out.
+/// Returns the counts that the map has for these versions, in the order of `versions`; 0 for a version that isn't in
+/// the map. The error is that memory ran out.
 fn counts_of(
     alloc: Global,
     counts: &HashMap<u32, u64>,
@@ -92,13 +93,13 @@ fn counts_of(
         .collect(alloc)
 }
 
-/// Returns for each of these versions, at its place in the list, how many decisions in this part it granted, if
-/// `granted` is true, or denied, if it is false. The error is that memory ran out.
+/// Counts the decisions in `part` for each version in `versions`, in their order: the grants if `granted` is true, else
+/// the denials. The error is that memory ran out.
 pub fn tally(
     alloc: Global,
     decisions: &[Decision],
     versions: &[u32],
-    part: Deciding,
+    part: DecisionPart,
     granted: bool,
 ) -> Result<Vec<u64>, AllocError>
     ensures { IfOk result
@@ -108,7 +109,7 @@ pub fn tally(
     counts_of(alloc, &counts, versions)
 }
 
-/// Returns how many decisions were grants, or denials if `granted` is false.
+/// Returns how many of the decisions are grants, if `granted` is true, or denials, if it is false.
 pub(crate) fn count_outcome(decisions: &[Decision], granted: bool) -> usize
     ensures { result ≡ count_by (λ (d : Decision). has_outcome granted d) decisions.now }
 {
@@ -121,7 +122,7 @@ pub(crate) fn count_outcome(decisions: &[Decision], granted: bool) -> usize
     count
 }
 
-/// How often each version granted and denied in one part of the decisions. Both lists have the order of
+/// How often each version of a rule granted and denied, in one part of the decisions. Both lists have the order of
 /// `Totals::versions`.
 #[derive(Drop)]
 pub struct Outcomes {
@@ -129,7 +130,7 @@ pub struct Outcomes {
     pub denied: Vec<u64>,
 }
 
-/// Returns how often this number is among the numbers.
+/// Returns how often `number` is in the list `numbers`.
 pub fn count_of(numbers: &[u32], number: u32) -> usize
     ensures { result ≡ count_by (λ n. n == number) numbers.now }
 {

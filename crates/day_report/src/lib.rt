@@ -12,11 +12,11 @@ pub mod sales;
 pub mod steps;
 pub mod walk;
 
-pub use adding::{CarriedIn, TILLS, Totals, Unpaid};
-pub use counting::{Deciding, Outcomes};
+pub use adding::{CarriedIn, MAX_TILLS, Totals, Unpaid};
+pub use counting::{DecisionPart, Outcomes};
 pub use decision_journal::{FIRST_REFUSAL, REFUSALS};
 pub use loading::Load;
 pub use opening::CarriedRule;
-pub use rulings::{Asked, Decision, PriceChange};
-pub use sales::{Part, Sale, Sold, Sum};
+pub use rulings::{Decision, PriceChange, RequestKind};
+pub use sales::{Sale, SalesPart, Sold, Sum};
 pub use steps::{Axis, Bands};

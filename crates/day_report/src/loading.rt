@@ -8,8 +8,8 @@ use decision_journal::Entry;
 use std::alloc::{AllocError, Global};
 use till_request::{Act, Reply};
 
-/// A load of a program that was accepted: the number of its entry, its slot and its version. Since the entry of a load
-/// has no moment, `moment` is that of the last entry before it that has one, or 0 if none has.
+/// An accepted load of a program: the number of its entry, its slot and its version. The entry of a load has no time.
+/// So `moment` is the time in seconds of the last earlier entry that has a time, or 0 if there is none.
 #[derive(Clone, Copy)]
 pub struct Load {
     pub number: u32,
@@ -36,7 +36,8 @@ fn load_of(moment: u64, entry: &Entry) -> Option<Load>
     }
 }
 
-/// Returns the moment of an entry, or, if the entry has none, `moment`, which is the last moment before the entry.
+/// Returns the moment of an entry (its time in seconds), or `moment` if the entry has none. `moment` is the last moment
+/// before the entry.
 fn moment_after(moment: u64, entry: &Entry) -> u64
     ensures { result ≡ moment_after moment entry.now }
 {
@@ -47,8 +48,8 @@ fn moment_after(moment: u64, entry: &Entry) -> u64
     }
 }
 
-/// Returns the accepted loads of a history, oldest first. The error is that memory ran out. Without a load there is no
-/// error.
+/// Returns the accepted loads of programs in the entries, oldest first. The error is that memory ran out. Without a
+/// load there is no error.
 pub fn loads(alloc: Global, entries: &[Entry]) -> Result<Vec<Load>, AllocError>
     ensures found { IfOk result (λ found. found.items ≡ loads 0 entries.now) }
     ensures none { loads 0 entries.now ≡ [] → IsOk result }

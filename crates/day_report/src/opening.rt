@@ -3,7 +3,7 @@
 ghost use Rattle.std.specs.Prelude.{◌≡◌, ◌≤◌, [], IfOk, IsOk, length, replicate};
 ghost use Rattle.fuelling_point.specs.Table.{fresh_point};
 ghost use Rattle.site_core.specs.State.{opening_state, opened_state, fresh_state};
-ghost use Rattle.day_report.specs.Following.{AreWithin};
+ghost use Rattle.day_report.specs.Following.{HaveNumbersUpTo};
 ghost use Rattle.day_report.specs.Carried.{carried_at, carried_from, carried_rules};
 
 use crate::pushing::push_some;
@@ -12,11 +12,11 @@ use program_slots::Version;
 use site_core::{Config, Opening};
 use std::alloc::{AllocError, Global};
 
-/// Returns the points that a site of this configuration starts with: those of its opening, or, without an opening,
-/// closed ones. The error is that memory ran out.
+/// Returns the points that a site of this configuration starts with: those of its opening (what it takes over from the
+/// day before), or, without an opening, closed ones. The error is that memory ran out.
 pub fn opening_points(alloc: Global, config: &Config) -> Result<Vec<Point>, AllocError>
     ensures points { IfOk result (λ points. points.items ≡ (opening_state config.now).points) }
-    ensures within { IfOk result (λ points. AreWithin 4290000000 points.items) }
+    ensures within { IfOk result (λ points. HaveNumbersUpTo 4290000000 points.items) }
 {
     match config.opening() {
         None => closed_points(alloc, config),
@@ -27,7 +27,7 @@ pub fn opening_points(alloc: Global, config: &Config) -> Result<Vec<Point>, Allo
 /// Returns a closed point for each point of the configuration. The error is that memory ran out.
 fn closed_points(alloc: Global, config: &Config) -> Result<Vec<Point>, AllocError>
     ensures points { IfOk result (λ points. points.items ≡ (fresh_state config.now).points) }
-    ensures within { IfOk result (λ points. AreWithin 4290000000 points.items) }
+    ensures within { IfOk result (λ points. HaveNumbersUpTo 4290000000 points.items) }
 {
     new_points(alloc, config.points().len())
 }
@@ -38,18 +38,18 @@ fn new_points(alloc: Global, count: usize) -> Result<Vec<Point>, AllocError>
     vec![in alloc; Point::new(); count]
 }
 
-/// Returns a copy of an opening's points. None of them may have given out a transaction number over 4,290,000,000. The
-/// error is that memory ran out.
+/// Returns a copy of the points of an opening (the state that a day begins with). The last transaction number of each
+/// of them must be at most 4,290,000,000. The error is that memory ran out.
 fn points_in(alloc: Global, opening: &Opening) -> Result<Vec<Point>, AllocError>
-    requires { AreWithin 4290000000 opening.now.points }
+    requires { HaveNumbersUpTo 4290000000 opening.now.points }
     ensures points { IfOk result (λ points. points.items ≡ (opened_state opening.now).points) }
-    ensures within { IfOk result (λ points. AreWithin 4290000000 points.items) }
+    ensures within { IfOk result (λ points. HaveNumbersUpTo 4290000000 points.items) }
 {
     Vec::from_slice(alloc, opening.points.as_slice())
 }
 
 /// Returns the prices of products 1 to 8 that a site of this configuration starts with: those of its opening, or,
-/// without an opening, those of the configuration. They are in thousandths of the currency per litre, 0 for none.
+/// without an opening, those of the configuration. They are in thousandths of the currency per litre; 0 is no price.
 pub fn opening_prices(config: &Config) -> [u32; 8]
     ensures { result ≡ (opening_state config.now).prices }
 {
@@ -79,7 +79,7 @@ fn carried_at(slot: u32, rule: &Option<Version>) -> Option<CarriedRule>
 }
 
 /// Returns the rules of the slots that aren't empty, in the order of the slots. `rules` has an item for each slot, slot
-/// 0 first, and must have at most 16. The error is that memory ran out. If all slots are empty there is no error.
+/// 0 first, and must have at most 16 items. The error is that memory ran out. If all slots are empty there is no error.
 pub(crate) fn rules_in(
     alloc: Global,
     rules: &[Option<Version>],

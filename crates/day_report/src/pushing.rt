@@ -3,7 +3,8 @@ ghost use Rattle.std.specs.Prelude.{◌≡◌, ◌++◌, IsOk, None, OnOk, optio
 
 use std::alloc::AllocError;
 
-/// Adds the item to the list, if there is one. The error is that memory ran out. Without an item there is no error.
+/// Adds the item, unless it is `None`, at the end of the list. The error is that memory ran out. Without an item there
+/// is no error.
 pub(crate) fn push_some<T: Copy + Drop>(
     items: &mut Vec<T>,
     item: Option<T>,

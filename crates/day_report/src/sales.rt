@@ -2,22 +2,22 @@
 
 ghost use Rattle.std.specs.Prelude.{◌≡◌, ◌≤◌, [], IfOk, IsOk, length};
 ghost use Rattle.site_core.specs.declared.site.TheConstants.{ENTRIES};
-ghost use Rattle.day_report.specs.Walk.{stand, points_after};
-ghost use Rattle.day_report.specs.Following.{HaveRoom};
+ghost use Rattle.day_report.specs.Walk.{replayed, points_after};
+ghost use Rattle.day_report.specs.Following.{HaveFreeNumbers};
 ghost use Rattle.day_report.specs.Sales.{clearing_of, unpaid_at, sale_of, sales, sales_of};
 ghost use Rattle.day_report.specs.Totals.{is_in, count_in, cents_in, centilitres_in};
 
 use crate::opening::opening_points;
 use crate::pushing::push_some;
-use crate::walk::follow;
+use crate::walk::apply_entry;
 use decision_journal::Entry;
 use fuelling_point::{Point, Transaction};
 use site_core::Config;
 use std::alloc::{AllocError, Global};
 use till_request::{Act, Reply, Request};
 
-/// A transaction that a till cleared. It has the number and the moment of the entry that cleared it, the till, the
-/// point, the amount in cents and the volume in centilitres. The moment is in seconds, or 0 if the entry has none.
+/// A transaction that a till cleared. `number` and `moment` (the time in seconds, or 0 if the entry has none) are those
+/// of the journal entry that cleared it. `amount` is in cents, and `volume` in centilitres.
 #[derive(Clone, Copy)]
 pub struct Sale {
     pub number: u32,
@@ -35,7 +35,7 @@ pub struct Sold {
     pub points: Vec<Point>,
 }
 
-/// A request that cleared a transaction (it was answered `done`): the till, the point and the transaction's number.
+/// A request that cleared a transaction (its reply was `done`): the till, the point and the transaction's number.
 #[derive(Clone, Copy)]
 struct Clearing {
     till: u32,
@@ -62,7 +62,8 @@ fn clearing_of(act: &Act, reply: &Reply) -> Option<Clearing>
     }
 }
 
-/// Returns the unpaid transaction number `number` of point `n`, or `None` if there is none. Points count from 1.
+/// Returns the unpaid transaction of point `n` that has this number, or `None` if there is none. Points are numbered
+/// from 1.
 fn unpaid_at(points: &[Point], n: u32, number: u32) -> Option<Transaction>
     ensures { result ≡ unpaid_at points.now n number }
 {
@@ -89,42 +90,42 @@ pub fn sale_of(points: &[Point], entry: &Entry) -> Option<Sale>
     })
 }
 
-/// Returns the sales that the entries made. `points` must be the points before the entries, and become those after
-/// them, if there is no error. The last transaction number of each point, plus the number of entries, must be at most
-/// 2^32 - 1. The error is that memory ran out. Without a sale there is no error.
-fn follow_sales(
+/// Applies the entries to the points, and returns the sales that the entries made. The last transaction number of each
+/// point, plus the number of entries, must be at most 2^32 - 1. The error is that memory ran out; then nothing is
+/// promised about the points. Without a sale there is no error.
+fn replay_sales(
     alloc: Global,
     points: &mut [Point],
     entries: &[Entry],
 ) -> Result<Vec<Sale>, AllocError>
-    requires few { HaveRoom points.old (length entries.now) }
+    requires within_limit { HaveFreeNumbers points.old (length entries.now) }
     ensures sales { IfOk result (λ found. found.items ≡ sales points.old entries.now) }
-    ensures points { IfOk result (λ found. points.new ≡ stand points.old entries.now) }
+    ensures points { IfOk result (λ found. points.new ≡ replayed points.old entries.now) }
     ensures none { sales points.old entries.now ≡ [] → IsOk result }
 {
     let mut sales = Vec::new(alloc);
     for entry in entries {
         push_some(&mut sales, sale_of(points, entry))?;
-        follow(points, entry);
+        apply_entry(points, entry);
     }
     Ok(sales)
 }
 
-/// Returns the sales in the history of a site of this configuration, and the points after the last entry. The error is
-/// that memory ran out.
+/// Returns the sales in the history of a site of this configuration, and the points after the last entry. There must be
+/// at most 1,048,576 entries. The error is that memory ran out.
 pub fn find_sales(alloc: Global, config: &Config, entries: &[Entry]) -> Result<Sold, AllocError>
     requires { length entries.now ≤ ENTRIES }
     ensures sales { IfOk result (λ sold. sold.sales.items ≡ sales_of config.now entries.now) }
     ensures points { IfOk result (λ sold. sold.points.items ≡ points_after config.now entries.now) }
 {
     let mut points = opening_points(alloc, config)?;
-    let sales = follow_sales(alloc, &mut points, entries)?;
+    let sales = replay_sales(alloc, &mut points, entries)?;
     Ok(Sold { sales, points })
 }
 
 /// A part of the sales that is added up separately.
 #[derive(Clone, Copy)]
-pub enum Part {
+pub enum SalesPart {
     All,
     /// The sales at the point of this number.
     Point(u32),
@@ -134,8 +135,8 @@ pub enum Part {
     Hour(u32),
 }
 
-/// How many sales there are, and their totals in cents and in centilitres. The totals have 128 bits, so sums of 64-bit
-/// numbers can't overflow them.
+/// How many sales there are, and their totals in cents and in centilitres. A total has 128 bits, so adding up 64-bit
+/// numbers can't overflow it.
 #[derive(Clone, Copy)]
 pub struct Sum {
     pub count: u64,
@@ -143,19 +144,19 @@ pub struct Sum {
     pub centilitres: u128,
 }
 
-fn is_in(part: Part, sale: &Sale) -> bool
+fn is_in(part: SalesPart, sale: &Sale) -> bool
     ensures { result ≡ is_in part sale.now }
 {
     match part {
-        Part::All => true,
-        Part::Point(n) => sale.point == n,
-        Part::Till(till) => sale.till == till,
-        Part::Hour(hour) => sale.moment != 0 && sale.moment / 3600 % 24 == hour as u64,
+        SalesPart::All => true,
+        SalesPart::Point(n) => sale.point == n,
+        SalesPart::Till(till) => sale.till == till,
+        SalesPart::Hour(hour) => sale.moment != 0 && sale.moment / 3600 % 24 == hour as u64,
     }
 }
 
-/// Returns how many sales a part has, and their totals.
-pub fn sum_of(sales: &[Sale], part: Part) -> Sum
+/// Returns how many of the sales are in this part, and their totals in cents and in centilitres.
+pub fn sum_of(sales: &[Sale], part: SalesPart) -> Sum
     ensures count { result.count ≡ count_in part sales.now }
     ensures cents { result.cents ≡ cents_in part sales.now }
     ensures centilitres { result.centilitres ≡ centilitres_in part sales.now }

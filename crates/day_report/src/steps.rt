@@ -1,33 +1,33 @@
-//! The states of the points in each step of a picture's axis.
+//! The picture of a history: its axis, the steps of the axis, and the states of the points in each step.
 
 ghost use Rattle.std.specs.Prelude.{◌≡◌, ◌+◌, ◌≤◌, ℕ, IfOk, IfSome, IsOk, OnOk, length, map};
 ghost use Rattle.fuelling_point.specs.Table.{PointState};
 ghost use Rattle.site_core.specs.declared.site.TheConstants.{ENTRIES};
 ghost use Rattle.site_core.specs.State.{opening_state};
-ghost use Rattle.day_report.specs.Following.{AreWithin, HaveRoom};
-ghost use Rattle.day_report.specs.Picture.{step_of, steps_along, step_at, axis_of, point_named, first_or, with_cut, AreCuts};
+ghost use Rattle.day_report.specs.Following.{HaveNumbersUpTo, HaveFreeNumbers};
+ghost use Rattle.day_report.specs.Picture.{step_of, steps_along, step_at, axis_of, point_changed_by_act, first_or, with_cut, AreStepEnds};
 ghost use Rattle.day_report.specs.Picture.{raised, with_point, with_points, step_shows, Shows};
-ghost use Rattle.day_report.specs.Walk.{stand};
+ghost use Rattle.day_report.specs.Walk.{replayed};
 
 use crate::opening::opening_points;
-use crate::walk::follow;
+use crate::walk::apply_entry;
 use decision_journal::Entry;
 use fuelling_point::{Point, State};
 use site_core::Config;
 use std::alloc::{AllocError, Global};
 use till_request::{Act, Request};
 
-/// The greatest number of steps into which the axis of a picture is divided.
+/// The most steps that the axis of a picture is divided into.
 const STEPS: usize = 2000;
 
-/// If a history lasts at least this many seconds, the axis of its picture can be time. Otherwise the axis is its
-/// entries.
+/// The fewest seconds that a history must last for the axis of its picture to be time. In a shorter history, the axis
+/// is the entries.
 const SPAN: u64 = 600;
 
 /// The axis of a picture of a history: its entries, or time.
 #[derive(Clone, Copy)]
 pub enum Axis {
-    /// The entries of a history, of which there are this many.
+    /// The entries of a history; the number says how many there are.
     Entries(usize),
     /// Time, from the first moment to the last, both in seconds since the start of 1970.
     Time(u64, u64),
@@ -41,7 +41,7 @@ fn first_or(first: u64, moment: u64) -> u64
 }
 
 /// Returns the axis for a history: time, if its moments never decrease and span at least ten minutes; else its entries.
-/// An entry whose moment is 0 has none.
+/// An entry whose moment is 0 has no moment.
 #[tactic(auto, unfolding(crate::specs::Picture::axis_of))]
 pub fn axis_of(entries: &[Entry]) -> Axis
     ensures { result ≡ axis_of entries.now }
@@ -64,11 +64,14 @@ pub fn axis_of(entries: &[Entry]) -> Axis
     Axis::Time(first, last)
 }
 
-/// Returns the number of the step, counted from 0, that `at` belongs to. The numbers below `most` are divided into
-/// `steps` equal steps. Returns 0 if `most` is 0, and otherwise `steps` if `at` isn't below `most`.
+/// Returns the step, counted from 0, that `at` belongs to if the numbers below `most` are divided into `steps` equal
+/// steps:
+///
+/// - 0 if `most` is 0
+/// - otherwise `steps` if `at` isn't below `most`
 pub fn step_of(at: u64, most: u128, steps: usize) -> usize
     ensures step { result ≡ step_of at most steps }
-    ensures few { result ≤ steps }
+    ensures within_limit { result ≤ steps }
 {
     if most == 0 {
         return 0;
@@ -91,7 +94,7 @@ fn steps_of(axis: Axis) -> usize
 /// entry's place in the history, counted from 0. Returns `None` if the axis is time and the entry has no moment.
 fn step_at(axis: Axis, place: usize, entry: &Entry, steps: usize) -> Option<usize>
     ensures step { result ≡ step_at axis place entry.now.moment steps }
-    ensures few { IfSome result (λ step. step ≤ steps) }
+    ensures within_limit { IfSome result (λ step. step ≤ steps) }
 {
     match axis {
         Axis::Entries(count) => Some(step_of(place as u64, count as u128, steps)),
@@ -106,40 +109,40 @@ fn step_at(axis: Axis, place: usize, entry: &Entry, steps: usize) -> Option<usiz
     }
 }
 
-/// Appends `place` to `cuts` until `cuts` has an item for each step before `step`. If `step` is `None`, nothing is
-/// appended. The error is that memory ran out, which it can't if nothing is appended.
-fn cut_at(cuts: &mut Vec<usize>, step: Option<usize>, place: usize) -> Result<(), AllocError>
-    ensures cut { OnOk result (cuts.new.items ≡ with_cut cuts.old.items step place) }
-    ensures none { IfSome step (λ step. step ≤ length cuts.old.items) → IsOk result }
+/// Appends `place` to `step_ends` until `step_ends` has an item for each step before `step`. If `step` is `None`,
+/// nothing is appended. The error is that memory ran out. If nothing is appended, there is no error.
+fn end_step(step_ends: &mut Vec<usize>, step: Option<usize>, place: usize) -> Result<(), AllocError>
+    ensures cut { OnOk result (step_ends.new.items ≡ with_cut step_ends.old.items step place) }
+    ensures none { IfSome step (λ step. step ≤ length step_ends.old.items) → IsOk result }
 {
     match step {
-        Some(step) => cuts.resize(step.max(cuts.len()), place),
+        Some(step) => step_ends.resize(step.max(step_ends.len()), place),
         None => Ok(()),
     }
 }
 
-/// Divides a history into the steps of a picture's axis. Returns for each step how many entries belong to it or to an
-/// earlier step. If the axis is time, an entry without a moment belongs to the step of the entry before it. The error
-/// is that memory ran out, which it can't if `steps` is 0.
-fn cuts(
+/// Divides a history into the steps of a picture's axis. Returns for each step where it ends: the place, counted from
+/// 0, of the first entry of a later step, or the number of entries if there is none. The error is that memory ran out.
+/// If `steps` is 0, there is no error.
+fn step_ends(
     alloc: Global,
     entries: &[Entry],
     axis: Axis,
     steps: usize,
 ) -> Result<Vec<usize>, AllocError>
-    ensures divided { IfOk result (λ cuts. AreCuts axis steps entries.now cuts.items) }
+    ensures divided { IfOk result (λ step_ends. AreStepEnds axis steps entries.now step_ends.items) }
     ensures none { steps ≡ 0 → IsOk result }
 {
-    let mut cuts = Vec::new(alloc);
+    let mut step_ends = Vec::new(alloc);
     for (place, entry) in entries.iter().enumerate() {
-        cut_at(&mut cuts, step_at(axis, place, entry, steps), place)?;
+        end_step(&mut step_ends, step_at(axis, place, entry, steps), place)?;
     }
-    cut_at(&mut cuts, Some(steps), entries.len())?;
-    Ok(cuts)
+    end_step(&mut step_ends, Some(steps), entries.len())?;
+    Ok(step_ends)
 }
 
-/// The state that is shown of each of `points` points in each of `steps` steps: first the states of all points in step
-/// 0, point 1 first, then those in step 1, and so on.
+/// The states that a picture shows of `points` points in `steps` steps: first the states of all points in step 0, point
+/// 1 first, then those in step 1, and so on.
 #[derive(Drop)]
 pub struct Bands {
     pub points: usize,
@@ -147,9 +150,10 @@ pub struct Bands {
     pub states: Vec<State>,
 }
 
-/// Returns the number of the point that an entry's act names, if the act can change a point.
+/// Returns the number of the point that an entry's act (its request or event) can change, or `None` if it can change
+/// none.
 fn point_of(entry: &Entry) -> Option<u32>
-    ensures { result ≡ point_named entry.now.act }
+    ensures { result ≡ point_changed_by_act entry.now.act }
 {
     match &entry.act {
         Act::Till { request, .. } => match request {
@@ -164,8 +168,8 @@ fn point_of(entry: &Entry) -> Option<u32>
     }
 }
 
-/// Sets the stored state of point `n` to `state`, if `state` has the greater number of the two. If there is no point
-/// `n`, nothing changes.
+/// Sets the state of point `n` in `states` to `state`, if `state` has a greater number than the state it replaces. If
+/// there is no point `n`, nothing changes.
 fn raise(states: &mut [State], n: u32, state: State)
     ensures { states.new ≡ raised states.old n state }
 {
@@ -174,8 +178,8 @@ fn raise(states: &mut [State], n: u32, state: State)
     }
 }
 
-/// Sets the stored state of point `n` to its state in `points`, if the one in `points` has the greater number. If `n`
-/// is `None` or there is no such point, nothing changes.
+/// Sets the state of point `n` in `states` to its state in `points`, if the one in `points` has the greater number. If
+/// `n` is `None` or there is no such point, nothing changes.
 fn show_point(states: &mut [State], points: &[Point], n: Option<u32>)
     ensures { states.new ≡ with_point states.old points.now n }
 {
@@ -187,22 +191,22 @@ fn show_point(states: &mut [State], points: &[Point], n: Option<u32>)
     }
 }
 
-/// Applies the entries of a step to the points. After each entry, the state of the point that it names is stored in
-/// `states`, if this state has a greater number than the one that is stored there. The last transaction number of each
+/// Applies the entries of a step to the points. After each entry, the new state of the point that the entry can change
+/// replaces the point's state in `states`, if the new one has the greater number. The last transaction number of each
 /// point, plus the number of entries, must be at most 2^32 - 1.
-fn follow_step(points: &mut [Point], states: &mut [State], entries: &[Entry])
-    requires few { HaveRoom points.old (length entries.now) }
-    ensures stand { points.new ≡ stand points.old entries.now }
-    ensures bounded { (n : ℕ) → AreWithin n points.old → AreWithin (n + length entries.now) points.new }
+fn replay_step(points: &mut [Point], states: &mut [State], entries: &[Entry])
+    requires within_limit { HaveFreeNumbers points.old (length entries.now) }
+    ensures replayed { points.new ≡ replayed points.old entries.now }
+    ensures bounded { (n : ℕ) → HaveNumbersUpTo n points.old → HaveNumbersUpTo (n + length entries.now) points.new }
     ensures shown { states.new ≡ with_points states.old points.old entries.now }
 {
     for entry in entries {
-        follow(points, entry);
+        apply_entry(points, entry);
         show_point(states, points, point_of(entry));
     }
 }
 
-/// Returns the states of the points. The error is that memory ran out.
+/// Returns the state of each point, point 1 first. The error is that memory ran out.
 fn states_of(alloc: Global, points: &[Point]) -> Result<Vec<State>, AllocError>
     ensures { IfOk result (λ states. states.items ≡ map (λ (p : PointState). p.state) points.now) }
 {
@@ -213,29 +217,29 @@ fn states_of(alloc: Global, points: &[Point]) -> Result<Vec<State>, AllocError>
     Ok(states)
 }
 
-/// Applies the entries of a step to the points, and returns a state for each point: of the states that it has before
-/// the entries and after each of them, the one with the greatest number. The last transaction number of each point,
-/// plus the number of entries, must be at most 2^32 - 1. The error is that memory ran out.
+/// Applies the entries of a step to the points. Returns for each point the state with the greatest number among its
+/// states before the entries and after each of them. The last transaction number of each point, plus the number of
+/// entries, must be at most 2^32 - 1. The error is that memory ran out; then nothing is promised about the points.
 fn step_states(
     alloc: Global,
     points: &mut [Point],
     entries: &[Entry],
 ) -> Result<Vec<State>, AllocError>
-    requires few { HaveRoom points.old (length entries.now) }
-    ensures stand { OnOk result (points.new ≡ stand points.old entries.now) }
+    requires within_limit { HaveFreeNumbers points.old (length entries.now) }
+    ensures replayed { OnOk result (points.new ≡ replayed points.old entries.now) }
     ensures bounded { OnOk result
-        ((n : ℕ) → AreWithin n points.old → AreWithin (n + length entries.now) points.new) }
+        ((n : ℕ) → HaveNumbersUpTo n points.old → HaveNumbersUpTo (n + length entries.now) points.new) }
     ensures shown { IfOk result (λ states. states.items ≡ step_shows points.old entries.now) }
 {
     let mut states = states_of(alloc, points)?;
-    follow_step(points, &mut states, entries);
+    replay_step(points, &mut states, entries);
     Ok(states)
 }
 
-/// Returns a state for each step of the axis and each point: of the states that the point has before the entries of the
-/// step and after each of them, the one with the greatest number. The entries are the history of a site of this
-/// configuration. The error is that memory ran out.
-pub fn follow_states(
+/// Returns what the picture of the history of a site of this configuration shows for each step of the axis and each
+/// point: of the point's states before the step's entries and after each of them, the one with the greatest number.
+/// There must be at most 1,048,576 entries. The error is that memory ran out.
+pub fn states_by_step(
     alloc: Global,
     config: &Config,
     entries: &[Entry],
@@ -248,15 +252,15 @@ pub fn follow_states(
         (λ bands. Shows axis (opening_state config.now).points entries.now bands.states.items) }
 {
     let steps = steps_of(axis);
-    let cuts = cuts(alloc, entries, axis, steps)?;
-    let mut stand = opening_points(alloc, config)?;
-    let points = stand.len();
-    let stand = stand.as_mut_slice();
+    let step_ends = step_ends(alloc, entries, axis, steps)?;
+    let mut replayed = opening_points(alloc, config)?;
+    let points = replayed.len();
+    let replayed = replayed.as_mut_slice();
     let mut states = Vec::new(alloc);
     let mut done = 0;
-    for cut in &cuts {
+    for cut in &step_ends {
         let end = (*cut).min(entries.len()).max(done);
-        let step = step_states(alloc, stand, &entries[done..end])?;
+        let step = step_states(alloc, replayed, &entries[done..end])?;
         states.extend_from_slice(&step)?;
         done = end;
     }

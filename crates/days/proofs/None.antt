@@ -6,7 +6,7 @@ use Rattle.std.proofs.lemmas.Bool.{cases_lt}
 use Rattle.std.proofs.lemmas.List.Splits.{join_with_byte-slice_split, length-slice_split}
 use Rattle.till_request.specs.declared.act.LineFault.{LineFault}
 use Rattle.reg_types.specs.declared.refusal.Refusal.{Refusal}
-use Rattle.reg_types.specs.Shown.{refusal_of}
+use Rattle.reg_types.specs.RefusedPrograms.{refusal_of}
 use Rattle.bpf_model.specs.Program.{ProgramText}
 use Rattle.days.specs.declared.file.OpeningFile.{OpeningFile}
 use Rattle.days.specs.declared.file.OpeningFlaw.{OpeningFlaw}
@@ -17,7 +17,7 @@ use Rattle.days.specs.File.{IsOpeningFile}
 use Rattle.days.specs.Ranges.{FileFits}
 use Rattle.days.specs.Flaws.{BeginOne, CannotFollow, HasNoOpening, IsCut, IsFlaw, IsPiece, IsRefusedLine}
 use Rattle.days.specs.Parsing.{line_read}
-use Rattle.days.specs.Reading.{AllStand, BadBehind, CanStand, CutBehind, Flawed, HasRead, IsRefusedIn}
+use Rattle.days.specs.Reading.{AreAllowedInOrder, BadBehind, IsAllowedNext, CutBehind, Flawed, HasRead, IsRefusedIn}
 use Rattle.days.specs.Reading.{ReadingValue, ReadsBack, RefusedBehind, after_line, after_lines, nothing_read}
 use Rattle.days.specs.Reading.{program_in}
 use Rattle.days.specs.Text.{line_spelling, opening_lines, opening_text}
@@ -66,11 +66,11 @@ prefix (l ∷ ls) (m ∷ ms) ws hl hm some h =
 record Begins (f : OpeningFile) (taken : List Line) (rest : List ℕ) : Type 0 where
   more : List Line
   lines : opening_lines f ≡ taken ++ more
-  stand : AllStand (after_lines nothing_read taken) more
+  allowed : AreAllowedInOrder (after_lines nothing_read taken) more
   back : AllByRecursion ReadsBack more
   spelled : map line_spelling more ++ [] ∷ [] ≡ slice_split (λ b. eqb b 10) rest
 
-stand_rest : (r : ReadingValue) (ls ms : List Line) → AllStand r (ls ++ ms) → AllStand (after_lines r ls) ms
+stand_rest : (r : ReadingValue) (ls ms : List Line) → AreAllowedInOrder r (ls ++ ms) → AreAllowedInOrder (after_lines r ls) ms
 stand_rest r [] ms h = h
 stand_rest r (l ∷ ls) ms h = stand_rest (after_line r l) ls ms h.1
 
@@ -88,7 +88,7 @@ begins text rest n r has f good fits is =
     prefix has.taken (opening_lines f) (slice_split (λ b. eqb b 10) rest) has.back back (pieces rest) own in record {
       more = p.0;
       lines = p.1;
-      stand = stand_rest nothing_read has.taken p.0 (subst (λ ls. AllStand nothing_read ls) p.1 (opening_leads f good).stand);
+      allowed = stand_rest nothing_read has.taken p.0 (subst (λ ls. AreAllowedInOrder nothing_read ls) p.1 (opening_leads f good).allowed);
       back = back_rest has.taken p.0 (subst (λ ls. AllByRecursion ReadsBack ls) p.1 back);
       spelled = p.2;
     }
@@ -96,13 +96,13 @@ begins text rest n r has f good fits is =
 bad_none : (text : List ℕ) (n : ℕ) → BadBehind text n → HasNoOpening text
 bad_none text n bad f good fits is =
     let b : Begins f bad.read.taken bad.rest = begins text bad.rest n bad.r bad.read f good fits is in
-    by_more b.more (subst (λ x. AllStand x b.more) (sym bad.read.is) b.stand) b.back (b.spelled ∙ bad.next)
+    by_more b.more (subst (λ x. AreAllowedInOrder x b.more) (sym bad.read.is) b.allowed) b.back (b.spelled ∙ bad.next)
   where
-    by_more : (more : List Line) → AllStand bad.r more → AllByRecursion ReadsBack more
+    by_more : (more : List Line) → AreAllowedInOrder bad.r more → AllByRecursion ReadsBack more
         → map line_spelling more ++ [] ∷ [] ≡ bad.line ∷ slice_split (λ b. eqb b 10) bad.behind → ⊥
-    by_more [] stand back e = not_none (slice_split (λ b. eqb b 10) bad.behind) [] (pieces bad.behind) (same_tail [] bad.line [] (slice_split (λ b. eqb b 10) bad.behind) e)
-    by_more (l ∷ ls) stand back e =
-        bad.bad l back.0 (same_head (line_spelling l) bad.line (map line_spelling ls ++ [] ∷ []) (slice_split (λ b. eqb b 10) bad.behind) e) stand.0
+    by_more [] allowed back e = not_none (slice_split (λ b. eqb b 10) bad.behind) [] (pieces bad.behind) (same_tail [] bad.line [] (slice_split (λ b. eqb b 10) bad.behind) e)
+    by_more (l ∷ ls) allowed back e =
+        bad.bad l back.0 (same_head (line_spelling l) bad.line (map line_spelling ls ++ [] ∷ []) (slice_split (λ b. eqb b 10) bad.behind) e) allowed.0
 
 cut_none : (text : List ℕ) (n : ℕ) → CutBehind text n → HasNoOpening text
 cut_none text n cut f good fits is =
@@ -117,7 +117,7 @@ cut_none text n cut f good fits is =
         not_none ([] ∷ []) (map line_spelling ls) (omega arith) (sym (same_tail (line_spelling l) cut.line (map line_spelling ls ++ [] ∷ []) [] e))
 
 -- a line whose program is refused can't come next
-refused_stands : (r : ReadingValue) (l : Line) (refusal : Refusal) → IsRefusedIn (program_in l) refusal → CanStand r l → ⊥
+refused_stands : (r : ReadingValue) (l : Line) (refusal : Refusal) → IsRefusedIn (program_in l) refusal → IsAllowedNext r l → ⊥
 refused_stands r (lines.Day n) refusal h c = h
 refused_stands r (lines.Cleared total count) refusal h c = h
 refused_stands r (lines.Versions n) refusal h c = h
@@ -137,7 +137,7 @@ refused_none text n refusal it =
       line = line_spelling it.line;
       behind = it.behind;
       next = it.next;
-      bad = λ l back is stands. refused_stands it.r it.line refusal it.refused (subst (λ x. CanStand it.r x) (one_line it.line l it.back back is) stands);
+      bad = λ l back is stands. refused_stands it.r it.line refusal it.refused (subst (λ x. IsAllowedNext it.r x) (one_line it.line l it.back back is) stands);
     })
 
 -- if the whole text was read, then an opening with this text is the one that was read
@@ -161,20 +161,20 @@ one_opening f g good fits good' fits' is =
       taken = opening_lines f;
       split = split_text (opening_lines f) (opening_fits f good fits);
       back = all_back (opening_lines f) (opening_fits f good fits);
-      stand = leads.stand;
+      allowed = leads.allowed;
       is = sym leads.after;
       number_is = refl;
     } in
     ap (λ (r : ReadingValue). r.file) (one_file (opening_text f) (min (length (opening_lines f) + 1) 4294967295) (record { next = 61; file = f }) has g good' fits' (sym is))
 
--- if the whole text was read, and the last line of an opening wasn't, then no opening has the text
+-- if the whole text was read, and no last line of an opening was among its lines, then no opening has the text
 pub short_none : (text : List ℕ) (n : ℕ) (r : ReadingValue) → HasRead text [] n r → ¬ (r.next ≡ 61) → HasNoOpening text
 short_none text n r has open_yet f good fits is = open_yet (ap (λ (x : ReadingValue). x.next) (one_file text n r has f good fits is))
 
 -- ---- the line of a flaw
 
 -- From any place on, there are lines that can come one after another, up to the last line of an opening.
-ends : (k : ℕ) (f : OpeningFile) → k ≤ 61 → (more : List Line) × AllStand (record { next = k; file = f }) more
+ends : (k : ℕ) (f : OpeningFile) → k ≤ 61 → (more : List Line) × AreAllowedInOrder (record { next = k; file = f }) more
     × ((after_lines (record { next = k; file = f }) more).next ≡ 61)
 ends zero f le = (
   lines.Day 2 ∷ lines.Cleared 0 0 ∷ lines.Versions 0 ∷ lines.Journal 0 (replicate 32 0) ∷ [],
@@ -189,21 +189,21 @@ ends (suc zero) f le = (
 ends (suc (suc zero)) f le = (lines.Versions 0 ∷ lines.Journal 0 (replicate 32 0) ∷ [], ((refl, lit≤ tt), ((lit≤ tt, lit≤ tt), tt)), refl)
 ends (suc (suc (suc k))) f le = by_order (cases_lt 60 (suc (suc (suc k))))
   where
-    by_order : ((60 < suc (suc (suc k))) ⊎ (suc (suc (suc k)) ≤ 60)) → (more : List Line) × AllStand (record { next = suc (suc (suc k)); file = f }) more
+    by_order : ((60 < suc (suc (suc k))) ⊎ (suc (suc (suc k)) ≤ 60)) → (more : List Line) × AreAllowedInOrder (record { next = suc (suc (suc k)); file = f }) more
         × ((after_lines (record { next = suc (suc (suc k)); file = f }) more).next ≡ 61)
     by_order (inl last) = ([], tt, omega (arith, last, le))
     by_order (inr few) = (lines.Journal 0 (replicate 32 0) ∷ [], ((omega arith, few), tt), refl)
 
-stand_on : (r : ReadingValue) (ls ms : List Line) → AllStand r ls → AllStand (after_lines r ls) ms → AllStand r (ls ++ ms)
+stand_on : (r : ReadingValue) (ls ms : List Line) → AreAllowedInOrder r ls → AreAllowedInOrder (after_lines r ls) ms → AreAllowedInOrder r (ls ++ ms)
 stand_on r [] ms h k = k
 stand_on r (l ∷ ls) ms h k = (h.0, stand_on (after_line r l) ls ms h.1 k)
 
 -- lines that can come one after another from the beginning are the first lines of an opening
-begin_one : (ls : List Line) → AllStand nothing_read ls → BeginOne ls
+begin_one : (ls : List Line) → AreAllowedInOrder nothing_read ls → BeginOne ls
 begin_one ls h =
     let r : ReadingValue = after_lines nothing_read ls in
-    let e : (more : List Line) × AllStand r more × ((after_lines r more).next ≡ 61) = ends r.next r.file (all_gone nothing_read ls nothing_is h).is.few in
-    let all : AllStand nothing_read (ls ++ e.0) = stand_on nothing_read ls e.0 h e.1 in
+    let e : (more : List Line) × AreAllowedInOrder r more × ((after_lines r more).next ≡ 61) = ends r.next r.file (all_gone nothing_read ls nothing_is h).is.few in
+    let all : AreAllowedInOrder nothing_read (ls ++ e.0) = stand_on nothing_read ls e.0 h e.1 in
     let after : after_lines r e.0 ≡ after_lines nothing_read (ls ++ e.0) = sym (after_both nothing_read ls e.0) in record {
       f = (after_lines r e.0).file;
       good = whole_file (after_lines r e.0) (ls ++ e.0) after all (omega (arith, e.2));
@@ -214,22 +214,22 @@ begin_one ls h =
 -- if the piece is no line that can come after the lines `ls`, then no opening's text begins with these lines and has
 -- the piece as its next line
 follows : (ls : List Line) → AllByRecursion ReadsBack ls → (r : ReadingValue) → r ≡ after_lines nothing_read ls → (piece : List ℕ)
-    → ((l : Line) → ReadsBack l → line_spelling l ≡ piece → CanStand r l → ⊥) → (behind : List (List ℕ)) → CannotFollow ls piece behind
+    → ((l : Line) → ReadsBack l → line_spelling l ≡ piece → IsAllowedNext r l → ⊥) → (behind : List (List ℕ)) → CannotFollow ls piece behind
 follows ls hl r is piece bad behind f good fits next rest e =
     let back : AllByRecursion ReadsBack (opening_lines f) = all_back (opening_lines f) (opening_fits f good fits) in
     let p : (more : List Line) × (opening_lines f ≡ ls ++ more) × (map line_spelling more ++ [] ∷ [] ≡ piece ∷ next ∷ rest) =
     prefix ls (opening_lines f) (piece ∷ next ∷ rest) hl back (omega arith) (sym (split_text (opening_lines f) (opening_fits f good fits)) ∙ e) in
-    by_more p.0 (subst (λ x. AllStand x p.0) (sym is) (stand_rest nothing_read ls p.0 (subst (λ ms. AllStand nothing_read ms) p.1 (opening_leads f good).stand)))
+    by_more p.0 (subst (λ x. AreAllowedInOrder x p.0) (sym is) (stand_rest nothing_read ls p.0 (subst (λ ms. AreAllowedInOrder nothing_read ms) p.1 (opening_leads f good).allowed)))
     (back_rest ls p.0 (subst (λ ms. AllByRecursion ReadsBack ms) p.1 back)) p.2
   where
-    by_more : (more : List Line) → AllStand r more → AllByRecursion ReadsBack more → map line_spelling more ++ [] ∷ [] ≡ piece ∷ next ∷ rest → ⊥
-    by_more [] stand back e = not_none (next ∷ rest) [] (omega arith) (same_tail [] piece [] (next ∷ rest) e)
-    by_more (l ∷ ms) stand back e = bad l back.0 (same_head (line_spelling l) piece (map line_spelling ms ++ [] ∷ []) (next ∷ rest) e) stand.0
+    by_more : (more : List Line) → AreAllowedInOrder r more → AllByRecursion ReadsBack more → map line_spelling more ++ [] ∷ [] ≡ piece ∷ next ∷ rest → ⊥
+    by_more [] allowed back e = not_none (next ∷ rest) [] (omega arith) (same_tail [] piece [] (next ∷ rest) e)
+    by_more (l ∷ ms) allowed back e = bad l back.0 (same_head (line_spelling l) piece (map line_spelling ms ++ [] ∷ []) (next ∷ rest) e) allowed.0
 
 bad_piece : (text : List ℕ) (n : ℕ) → BadBehind text n → IsPiece text n CannotFollow
 bad_piece text n bad = record {
   before = bad.read.taken;
-  begin_one = begin_one bad.read.taken bad.read.stand;
+  begin_one = begin_one bad.read.taken bad.read.allowed;
   piece = bad.line;
   behind = slice_split (λ b. eqb b 10) bad.behind;
   pieces_are = bad.read.split ∙ ap (λ ws. map line_spelling bad.read.taken ++ ws) bad.next;
@@ -246,7 +246,7 @@ short_is text n r has open_yet = (
   short_none text n r has open_yet,
   record {
     before = has.taken;
-    begin_one = begin_one has.taken has.stand;
+    begin_one = begin_one has.taken has.allowed;
     piece = [];
     behind = [];
     pieces_are = has.split;
@@ -259,7 +259,7 @@ cut_piece : (text : List ℕ) (n : ℕ) → CutBehind text n → IsPiece text n 
 cut_piece text n cut =
     let whole : cut.rest ≡ cut.line = sym (join_with_byte-slice_split 10 cut.rest) ∙ ap (join_with_byte 10) cut.cut in record {
       before = cut.read.taken;
-      begin_one = begin_one cut.read.taken cut.read.stand;
+      begin_one = begin_one cut.read.taken cut.read.allowed;
       piece = cut.line;
       behind = [];
       pieces_are = cut.read.split ∙ ap (λ ws. map line_spelling cut.read.taken ++ ws) cut.cut;
@@ -274,7 +274,7 @@ program_refused (Some p) refusal h = (p, refl, h)
 refused_piece : (text : List ℕ) (n : ℕ) (refusal : Refusal) → RefusedBehind text n refusal → IsPiece text n (IsRefusedLine refusal)
 refused_piece text n refusal it = record {
   before = it.read.taken;
-  begin_one = begin_one it.read.taken it.read.stand;
+  begin_one = begin_one it.read.taken it.read.allowed;
   piece = line_spelling it.line;
   behind = slice_split (λ b. eqb b 10) it.behind;
   pieces_are = it.read.split ∙ ap (λ ws. map line_spelling it.read.taken ++ ws) it.next;

@@ -16,7 +16,7 @@ numbered_both w n (x ∷ xs) ys =
     ap (λ ls. w n x ++ ls) (numbered_both w (n + 1) xs ys ∙ ap (λ k. numbered_lines w (n + 1) xs ++ numbered_lines w k ys) (on n (length xs) (length (x ∷ xs)) (omega arith)))
     ∙ sym (append_assoc (w n x) (numbered_lines w (n + 1) xs) (numbered_lines w (n + length (x ∷ xs)) ys))
 
--- one more item of a list has its lines behind those of the items before it
+-- the lines of the first i + 1 items are those of the first i items, followed by those of the next item
 pub numbered_more : {T : Type 0} (w : ℕ → T → List Line) (n : ℕ) (xs : List T) (i : ℕ) (d : T) → i < length xs
     → numbered_lines w n (take (i + 1) xs) ≡ numbered_lines w n (take i xs) ++ w (n + i) (get_or xs i d)
 numbered_more w n xs i d lt =
@@ -63,7 +63,7 @@ none_set w n i [] v h = tt
 none_set w n zero (x ∷ xs) v h = h
 none_set w n (suc i) (x ∷ xs) v h = none_set w (n + 1) i xs v h
 
--- an item whose lines grow adds them at the end, if no item behind it has lines
+-- if the item at place i gets more lines, and no item after it has lines, then these lines are added at the end
 pub numbered_set : {T : Type 0} (w : ℕ → T → List Line) (n i : ℕ) (xs : List T) (d v : T) (more : List Line) → i < length xs
     → w (n + i) v ≡ w (n + i) (get_or xs i d) ++ more → NoneFrom w n (suc i) xs → numbered_lines w n (set xs i v) ≡ numbered_lines w n xs ++ more
 numbered_set w n zero [] d v more lt e h = absurd (omega arith)
@@ -77,7 +77,7 @@ numbered_set w n (suc i) (x ∷ xs) d v more lt e h =
     let own : w (n + 1 + i) v ≡ w (n + 1 + i) (get_or xs i d) ++ more = subst (λ k. w k v ≡ w k (get_or xs i d) ++ more) z e in
     ap (λ ls. w n x ++ ls) (numbered_set w (n + 1) i xs d v more (omega arith) own h) ∙ sym (append_assoc (w n x) (numbered_lines w (n + 1) xs) more)
 
--- an item that had no lines gets its own at the end
+-- if no item from place i on has lines, then the lines of a new item at place i are added at the end
 pub numbered_placed : {T : Type 0} (w : ℕ → T → List Line) (n i : ℕ) (xs : List T) (d v : T) → i < length xs → NoneFrom w n i xs
     → numbered_lines w n (set xs i v) ≡ numbered_lines w n xs ++ w (n + i) v
 numbered_placed w n i xs d v lt h =

@@ -1,4 +1,4 @@
--- The lines that were read of a text, and what is wrong with the line behind them.
+-- The lines that were read of a text, and the flaw of the line after them.
 use Rattle.std.proofs.Common.{◌≡◌, ℕ, ◌+◌, List, [], ◌∷◌, ◌++◌, length, map, min, eqb, MatchOption}
 use Rattle.std.proofs.Common.{Option, Some, Err, refl, sym, ◌∙◌, ap, subst, append_assoc, length-append, arith}
 use Rattle.std.specs.List.{AllByRecursion, slice_split}
@@ -6,14 +6,14 @@ use Rattle.std.proofs.lemmas.List.{map-append}
 use Rattle.days.specs.declared.line.Line.{Line}
 use Rattle.days.specs.declared.file.OpeningFlaw.{OpeningFlaw}
 use Rattle.days.specs.declared.file.OpeningFlaw.TheVariants as flaws
-use Rattle.days.specs.Reading.{AllStand, CanStand, Flawed, HasRead, IsRefusedIn, Takes}
+use Rattle.days.specs.Reading.{AreAllowedInOrder, IsAllowedNext, Flawed, HasRead, IsRefusedIn, Takes}
 use Rattle.days.specs.Reading.{program_in, ReadingValue, ReadsBack, after_line, after_lines, nothing_read}
 use Rattle.days.specs.Text.{line_spelling}
 
 pub read_none : (text : List ℕ) (r : ReadingValue) → r ≡ nothing_read → HasRead text text 1 r
-read_none text r e = record { taken = []; split = refl; back = tt; stand = tt; is = e; number_is = refl }
+read_none text r e = record { taken = []; split = refl; back = tt; allowed = tt; is = e; number_is = refl }
 
-stand_more : (r : ReadingValue) (ls : List Line) (l : Line) → AllStand r ls → CanStand (after_lines r ls) l → AllStand r (ls ++ l ∷ [])
+stand_more : (r : ReadingValue) (ls : List Line) (l : Line) → AreAllowedInOrder r ls → IsAllowedNext (after_lines r ls) l → AreAllowedInOrder r (ls ++ l ∷ [])
 stand_more r [] l h k = (k, tt)
 stand_more r (x ∷ ls) l h k = (h.0, stand_more (after_line r x) ls l h.1 k)
 
@@ -33,9 +33,9 @@ next_number ls l n m h k = omega (arith, length-append ls (l ∷ []))
 -- comes after that line
 pub read_more : (text rest more bytes : List ℕ) (n m : ℕ) (r new : ReadingValue) → HasRead text rest n r
     → slice_split (λ b. eqb b 10) rest ≡ bytes ∷ slice_split (λ b. eqb b 10) more
-    → (l : Line) × (line_spelling l ≡ bytes) × ReadsBack l × CanStand r l × (new ≡ after_line r l) → m ≡ min (n + 1) 4294967295 → HasRead text more m new
+    → (l : Line) × (line_spelling l ≡ bytes) × ReadsBack l × IsAllowedNext r l × (new ≡ after_line r l) → m ≡ min (n + 1) 4294967295 → HasRead text more m new
 read_more text rest more bytes n m r new has next one k =
-    let P : ReadingValue → Type 0 = λ x. CanStand x one.0 in
+    let P : ReadingValue → Type 0 = λ x. IsAllowedNext x one.0 in
     let rests : List (List ℕ) = slice_split (λ b. eqb b 10) more in record {
       taken = has.taken ++ one.0 ∷ [];
       split =
@@ -43,7 +43,7 @@ read_more text rest more bytes n m r new has next one k =
           ∙ sym (append_assoc (map line_spelling has.taken) (line_spelling one.0 ∷ []) rests)
           ∙ ap (λ ws. ws ++ rests) (sym (map-append line_spelling has.taken (one.0 ∷ [])));
       back = back_more has.taken one.0 has.back one.2;
-      stand = stand_more nothing_read has.taken one.0 has.stand (subst P has.is one.3);
+      allowed = stand_more nothing_read has.taken one.0 has.allowed (subst P has.is one.3);
       is = one.4 ∙ ap (λ x. after_line x one.0) has.is ∙ sym (after_more nothing_read has.taken one.0);
       number_is = next_number has.taken one.0 n m has.number_is k;
     }
@@ -51,7 +51,7 @@ read_more text rest more bytes n m r new has next one k =
 pub some_found : {T : Type 0} (found : Option T) (x : T) (A : Type 0) (P : T → Type 0) → found ≡ Some x → MatchOption found A P → P x
 some_found found x A P e h = subst (λ o. MatchOption o A P) e h
 
--- what is wrong with the line behind those that were read is wrong with the text
+-- if the line after those that were read has a flaw, then the text has this flaw
 pub line_flawed : (flaw : OpeningFlaw) (text rest behind bytes : List ℕ) (n : ℕ) (r new : ReadingValue) → HasRead text rest n r
     → slice_split (λ b. eqb b 10) rest ≡ bytes ∷ slice_split (λ b. eqb b 10) behind → Takes n bytes r (Err flaw) new → Flawed text flaw
 line_flawed (flaws.BadLine m) text rest behind bytes n r new has next h = record {

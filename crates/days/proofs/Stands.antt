@@ -17,16 +17,16 @@ use Rattle.days.specs.declared.file.OpeningFile.{OpeningFile}
 use Rattle.days.specs.declared.line.Line.{Line}
 use Rattle.days.specs.declared.line.Line.TheVariants as lines
 use Rattle.days.specs.File.{IsOpeningFile}
-use Rattle.days.specs.Reading.{AllStand, CanStand, ReadingValue, after_line, after_lines, nothing_read, point_at, with_unpaid}
+use Rattle.days.specs.Reading.{AreAllowedInOrder, IsAllowedNext, ReadingValue, after_line, after_lines, nothing_read, point_at, with_unpaid}
 use Rattle.days.specs.Text.{counter_lines, head_lines, numbered_lines, opening_lines, own_values, point_lines, price_lines, version_lines}
 use Rattle.days.proofs.Taken.{one_counter, one_price}
 
 -- The lines can all come, one after another, when `r` has been read, and what has been read after them is `s`.
 pub record Leads (r : ReadingValue) (ls : List Line) (s : ReadingValue) : Type 0 where
-  pub stand : AllStand r ls
+  pub allowed : AreAllowedInOrder r ls
   pub after : after_lines r ls ≡ s
 
-stand_both : (r : ReadingValue) (ls ms : List Line) → AllStand r ls → AllStand (after_lines r ls) ms → AllStand r (ls ++ ms)
+stand_both : (r : ReadingValue) (ls ms : List Line) → AreAllowedInOrder r ls → AreAllowedInOrder (after_lines r ls) ms → AreAllowedInOrder r (ls ++ ms)
 stand_both r [] ms h k = k
 stand_both r (l ∷ ls) ms h k = (h.0, stand_both (after_line r l) ls ms h.1 k)
 
@@ -36,12 +36,12 @@ after_both r (l ∷ ls) ms = after_both (after_line r l) ls ms
 
 leads_both : (r s t : ReadingValue) (ls ms : List Line) → Leads r ls s → Leads s ms t → Leads r (ls ++ ms) t
 leads_both r s t ls ms h k = record {
-  stand = stand_both r ls ms h.stand (subst (λ x. AllStand x ms) (sym h.after) k.stand);
+  allowed = stand_both r ls ms h.allowed (subst (λ x. AreAllowedInOrder x ms) (sym h.after) k.allowed);
   after = after_both r ls ms ∙ ap (λ x. after_lines x ms) h.after ∙ k.after;
 }
 
-leads_one : (r s : ReadingValue) (l : Line) → CanStand r l → after_line r l ≡ s → Leads r (l ∷ []) s
-leads_one r s l h e = record { stand = (h, tt); after = e }
+leads_one : (r s : ReadingValue) (l : Line) → IsAllowedNext r l → after_line r l ≡ s → Leads r (l ∷ []) s
+leads_one r s l h e = record { allowed = (h, tt); after = e }
 
 -- ---- lists whose items are put in their places one after another
 
@@ -56,7 +56,7 @@ set_front (z ∷ xs) (suc i) x y rest e = ap (λ ys. z ∷ ys) (set_front xs i x
 abbrev Fills : {T : Type 0} → (ℕ → List T → ReadingValue) → (ℕ → T → List Line) → T → ℕ → ℕ → ℕ → ℕ → List T → T → Type 0
 Fills St w blank base k i number ys x =
     ((w number x ≡ []) × (x ≡ blank))
-    ⊎ ((l : Line) × (w number x ≡ l ∷ []) × CanStand (St k ys) l × (after_line (St k ys) l ≡ St (base + i + 1) (set ys i x)))
+    ⊎ ((l : Line) × (w number x ≡ l ∷ []) × IsAllowedNext (St k ys) l × (after_line (St k ys) l ≡ St (base + i + 1) (set ys i x)))
 
 -- The lines lead from `r` to the list with the items `ys`. The next place is then from 3 to `most`.
 abbrev Filled : {T : Type 0} → (ℕ → List T → ReadingValue) → ReadingValue → List Line → ℕ → List T → Type 0
@@ -110,7 +110,7 @@ fill : {T : Type 0} (St : ℕ → List T → ReadingValue) (w : ℕ → T → Li
     → ((k i number : ℕ) (ys : List T) (x : T) → 3 ≤ k → k ≤ base + i → i < count → number ≡ n + i → Good ys x → Fills St w blank base k i number ys x)
     → (k i number : ℕ) (xs zs : List T) → length xs ≡ i → 3 ≤ k → k ≤ base + i → i + length zs ≡ count → number ≡ n + i → AllPlaced Good blank xs zs
     → Filled St (St k (xs ++ replicate (length zs) blank)) (numbered_lines w number zs) (base + count) (xs ++ zs)
-fill St w blank n base count Good item k i number xs [] e ge le total at good = (k, ge, omega (arith, le, total), record { stand = tt; after = refl })
+fill St w blank n base count Good item k i number xs [] e ge le total at good = (k, ge, omega (arith, le, total), record { allowed = tt; after = refl })
 fill St w blank n base count Good item k i number xs (x ∷ zs) e ge le total at good =
     fill_on St w blank base count k i number xs x zs e ge le
     (λ j ge' le'. fill St w blank n base count Good item j (i + 1) (number + 1) (xs ++ x ∷ []) zs (omega (arith, length-append xs (x ∷ []), e)) ge'
@@ -300,7 +300,7 @@ point_leads f k n xs p (t ∷ u ∷ w ∷ us) ge le at last good = absurd (omega
 points_lead : (f : OpeningFile) (k n : ℕ) (xs zs : List PointState) → 3 ≤ k → k ≤ 59 → n ≡ length xs + 1 → All (λ (p : PointState). p.last ≤ 4290000000) zs
     → All IsPointState zs → (j : ℕ) × (3 ≤ j) × (j ≤ 59) × Leads (points_stage f k xs) (numbered_lines point_lines n zs) (points_stage f j (xs ++ zs))
 points_lead f k n xs [] ge le at last good =
-    (k, ge, le, record { stand = tt; after = ap (points_stage f k) (sym (append-nil xs)) })
+    (k, ge, le, record { allowed = tt; after = ap (points_stage f k) (sym (append-nil xs)) })
 points_lead f k n xs (p ∷ zs) ge le at last good =
     let rest : (j : ℕ) × (3 ≤ j) × (j ≤ 59) × Leads (points_stage f 59 (xs ++ p ∷ [])) (numbered_lines point_lines (n + 1) zs) (points_stage f j ((xs ++ p ∷ []) ++ zs)) =
     points_lead f 59 (n + 1) (xs ++ p ∷ []) zs (lit≤ tt) (lit≤ tt) (omega (arith, at, length-append xs (p ∷ [])))
@@ -322,7 +322,7 @@ each P (x ∷ xs) h = (all_first P x xs h, each P xs (all_rest P x xs h))
 
 head_leads : (f : OpeningFile) → IsOpeningFile f → Leads nothing_read (head_lines f) (stage f (replicate 16 None) no_prices no_counters [] 3)
 head_leads f h = record {
-  stand = ((refl, h.day), ((refl, h.opening.cleared, h.opening.clears), ((refl, h.opening.versions), tt)));
+  allowed = ((refl, h.day), ((refl, h.opening.cleared, h.opening.clears), ((refl, h.opening.versions), tt)));
   after = refl;
 }
 

@@ -1,4 +1,4 @@
--- The lines that were taken are those of what was read.
+-- The lines that were taken are the lines of the opening that was read from them.
 use Rattle.std.proofs.Common.{◌≡◌, ℕ, zero, suc, ◌+◌, ◌-◌, ◌<◌, ◌≤◌, ◌^◌, nat_lt, cond, true, false}
 use Rattle.std.proofs.Common.{Bool, List, [], ◌∷◌, ◌++◌, length, map, take, set, replicate, Option, Some, None}
 use Rattle.std.proofs.Common.{refl, sym, ◌∙◌, ap, subst, append_assoc, append-nil, arith, rules, eqb, lit≤, ◌&&◌}
@@ -22,7 +22,7 @@ use Rattle.days.specs.declared.file.OpeningFile.{OpeningFile}
 use Rattle.days.specs.declared.line.Line.{Line}
 use Rattle.days.specs.declared.line.Line.TheVariants as lines
 use Rattle.days.specs.File.{IsOpeningFile}
-use Rattle.days.specs.Reading.{AllStand, CanStand, HasRead, ReadingValue, after_line, after_lines, nothing_read, point_at, with_unpaid}
+use Rattle.days.specs.Reading.{AreAllowedInOrder, IsAllowedNext, HasRead, ReadingValue, after_line, after_lines, nothing_read, point_at, with_unpaid}
 use Rattle.days.specs.Text.{counter_lines, head_lines, line_spelling, line_text, numbered_lines, opening_lines}
 use Rattle.days.specs.Text.{opening_text, own_values, point_lines, price_lines, version_lines}
 use Rattle.days.proofs.Numbered.{NoneFrom, none_more, none_placed, numbered_both, numbered_placed, numbered_set}
@@ -74,7 +74,7 @@ pub record IsReading (r : ReadingValue) : Type 0 where
   pub distinct : HaveOwnNumbers r.file.opening.rules
 
 -- `IsReading` holds after the line. `lines_read` is then what it was before, with this line added at its end.
-pub record Goes (r : ReadingValue) (l : Line) : Type 0 where
+pub record AddsLine (r : ReadingValue) (l : Line) : Type 0 where
   pub is : IsReading (after_line r l)
   pub lines : lines_read (after_line r l) ≡ lines_read r ++ l ∷ []
 
@@ -122,7 +122,7 @@ headed r next f ys ys' l h k e g =
 
 -- ---- the first three lines
 
-day_goes : (f : OpeningFile) (n : ℕ) → IsReading (record { next = 0; file = f }) → 2 ≤ n → Goes (record { next = 0; file = f }) (lines.Day n)
+day_goes : (f : OpeningFile) (n : ℕ) → IsReading (record { next = 0; file = f }) → 2 ≤ n → AddsLine (record { next = 0; file = f }) (lines.Day n)
 day_goes f n h k = record {
   is = record {
     few = lit≤ tt;
@@ -151,7 +151,7 @@ day_goes f n h k = record {
 }
 
 cleared_goes : (f : OpeningFile) (total count : ℕ) → IsReading (record { next = 1; file = f }) → total ≤ 1000000000000000000 → count ≤ 1000000000000000000
-    → Goes (record { next = 1; file = f }) (lines.Cleared total count)
+    → AddsLine (record { next = 1; file = f }) (lines.Cleared total count)
 cleared_goes f total count h k m = record {
   is = record {
     few = lit≤ tt;
@@ -180,7 +180,7 @@ cleared_goes f total count h k m = record {
 }
 
 versions_goes : (f : OpeningFile) (n : ℕ) → IsReading (record { next = 2; file = f }) → n ≤ 4290000000
-    → Goes (record { next = 2; file = f }) (lines.Versions n)
+    → AddsLine (record { next = 2; file = f }) (lines.Versions n)
 versions_goes f n h k = record {
   is = record {
     few = lit≤ tt;
@@ -211,7 +211,7 @@ versions_goes f n h k = record {
 -- ---- the lines of slots, products and counters
 
 version_goes : (r : ReadingValue) (slot number mask : ℕ) (layout : Layout) (bytes : List ℕ) → IsReading r
-    → CanStand r (lines.Version slot number mask layout bytes) → Goes r (lines.Version slot number mask layout bytes)
+    → IsAllowedNext r (lines.Version slot number mask layout bytes) → AddsLine r (lines.Version slot number mask layout bytes)
 version_goes r slot number mask layout bytes h c =
     let v : Option Version = Some (record { number = number; program = as_loaded bytes mask layout }) in
     let l : Line = lines.Version slot number mask layout bytes in
@@ -261,7 +261,7 @@ pub one_price : (product price : ℕ) → 1 ≤ price → price_lines product pr
 one_price product price h =
     let some : eqb price 0 ≡ false = search (rules, common_steps) in ap (λ b. cond b [] (lines.Price product price ∷ [])) some
 
-price_goes : (r : ReadingValue) (product price : ℕ) → IsReading r → CanStand r (lines.Price product price) → Goes r (lines.Price product price)
+price_goes : (r : ReadingValue) (product price : ℕ) → IsReading r → IsAllowedNext r (lines.Price product price) → AddsLine r (lines.Price product price)
 price_goes r product price h c =
     let l : Line = lines.Price product price in
     let f : OpeningFile = r.file in
@@ -318,7 +318,7 @@ one_counter c value bound h =
     let some : eqb bound 0 ≡ false = search (rules, common_steps) in
     ap (λ b. cond b [] (lines.Counter c value bound ∷ [])) (and_no (eqb value 0) (eqb bound 0) some)
 
-counter_goes : (r : ReadingValue) (n value bound : ℕ) → IsReading r → CanStand r (lines.Counter n value bound) → Goes r (lines.Counter n value bound)
+counter_goes : (r : ReadingValue) (n value bound : ℕ) → IsReading r → IsAllowedNext r (lines.Counter n value bound) → AddsLine r (lines.Counter n value bound)
 counter_goes r n value bound h c =
     let l : Line = lines.Counter n value bound in
     let f : OpeningFile = r.file in
@@ -375,7 +375,7 @@ own_line n s h =
 All-one : {T : Type 0} (P : T → Type 0) (x : T) → P x → All P (x ∷ [])
 All-one P x h = All-replicate P 1 x h
 
-point_goes : (r : ReadingValue) (n : ℕ) (s : Snapshot) → IsReading r → CanStand r (lines.Point n s) → Goes r (lines.Point n s)
+point_goes : (r : ReadingValue) (n : ℕ) (s : Snapshot) → IsReading r → IsAllowedNext r (lines.Point n s) → AddsLine r (lines.Point n s)
 point_goes r n s h c =
     let l : Line = lines.Point n s in
     let f : OpeningFile = r.file in
@@ -418,19 +418,19 @@ point_goes r n s h c =
           refl (no_ending r.next f (omega (arith, c.1)))))));
     }
 
--- a transaction more adds one line
+-- one more unpaid transaction adds one line
 unpaid_line : (n : ℕ) (p : PointState) (t : Transaction) → point_lines n (with_unpaid p t) ≡ point_lines n p ++ lines.Unpaid n t ∷ []
 unpaid_line n p t = ap (λ ls. lines.Point n (own_values p) ∷ ls) (map-append (λ u. lines.Unpaid n u) p.unpaid (t ∷ []))
 
--- behind the last item no item has lines
+-- after the last item of a list no item has lines
 none_past : {T : Type 0} (w : ℕ → T → List Line) (n i : ℕ) (xs : List T) → length xs ≤ i → NoneFrom w n i xs
 none_past w n zero [] h = refl
 none_past w n zero (x ∷ xs) h = absurd (omega arith)
 none_past w n (suc i) [] h = tt
 none_past w n (suc i) (x ∷ xs) h = none_past w (n + 1) i xs (omega arith)
 
-unpaid_goes : (f : OpeningFile) (n : ℕ) (t : Transaction) → IsReading (record { next = 59; file = f }) → CanStand (record { next = 59; file = f }) (lines.Unpaid n t)
-    → Goes (record { next = 59; file = f }) (lines.Unpaid n t)
+unpaid_goes : (f : OpeningFile) (n : ℕ) (t : Transaction) → IsReading (record { next = 59; file = f }) → IsAllowedNext (record { next = 59; file = f }) (lines.Unpaid n t)
+    → AddsLine (record { next = 59; file = f }) (lines.Unpaid n t)
 unpaid_goes f n t h c =
     let r : ReadingValue = record { next = 59; file = f } in
     let l : Line = lines.Unpaid n t in
@@ -477,8 +477,8 @@ unpaid_goes f n t h c =
 
 -- ---- the last line
 
-journal_goes : (r : ReadingValue) (entries : ℕ) (digest : List ℕ) → IsReading r → CanStand r (lines.Journal entries digest)
-    → Goes r (lines.Journal entries digest)
+journal_goes : (r : ReadingValue) (entries : ℕ) (digest : List ℕ) → IsReading r → IsAllowedNext r (lines.Journal entries digest)
+    → AddsLine r (lines.Journal entries digest)
 journal_goes r entries digest h c =
     let l : Line = lines.Journal entries digest in
     let f : OpeningFile = r.file in
@@ -517,17 +517,17 @@ journal_goes r entries digest h c =
 
 -- ---- all lines
 
-pub goes : (r : ReadingValue) (l : Line) → IsReading r → CanStand r l → Goes r l
+pub goes : (r : ReadingValue) (l : Line) → IsReading r → IsAllowedNext r l → AddsLine r l
 goes r (lines.Day n) h c =
     let P : ℕ → Type 0 = λ k. IsReading (record { next = k; file = r.file }) in
-    let Q : ℕ → Type 0 = λ k. Goes (record { next = k; file = r.file }) (lines.Day n) in subst Q (sym c.0) (day_goes r.file n (subst P c.0 h) c.1)
+    let Q : ℕ → Type 0 = λ k. AddsLine (record { next = k; file = r.file }) (lines.Day n) in subst Q (sym c.0) (day_goes r.file n (subst P c.0 h) c.1)
 goes r (lines.Cleared total count) h c =
     let P : ℕ → Type 0 = λ k. IsReading (record { next = k; file = r.file }) in
-    let Q : ℕ → Type 0 = λ k. Goes (record { next = k; file = r.file }) (lines.Cleared total count) in
+    let Q : ℕ → Type 0 = λ k. AddsLine (record { next = k; file = r.file }) (lines.Cleared total count) in
     subst Q (sym c.0) (cleared_goes r.file total count (subst P c.0 h) c.1 c.2)
 goes r (lines.Versions n) h c =
     let P : ℕ → Type 0 = λ k. IsReading (record { next = k; file = r.file }) in
-    let Q : ℕ → Type 0 = λ k. Goes (record { next = k; file = r.file }) (lines.Versions n) in
+    let Q : ℕ → Type 0 = λ k. AddsLine (record { next = k; file = r.file }) (lines.Versions n) in
     subst Q (sym c.0) (versions_goes r.file n (subst P c.0 h) c.1)
 goes r (lines.Version slot number mask layout bytes) h c = version_goes r slot number mask layout bytes h c
 goes r (lines.Price product price) h c = price_goes r product price h c
@@ -535,20 +535,20 @@ goes r (lines.Counter n value bound) h c = counter_goes r n value bound h c
 goes r (lines.Point n s) h c = point_goes r n s h c
 goes r (lines.Unpaid n t) h c =
     let P : ℕ → Type 0 = λ k. IsReading (record { next = k; file = r.file }) in
-    let Q : ℕ → Type 0 = λ k. Goes (record { next = k; file = r.file }) (lines.Unpaid n t) in
+    let Q : ℕ → Type 0 = λ k. AddsLine (record { next = k; file = r.file }) (lines.Unpaid n t) in
     subst Q (sym c.0) (unpaid_goes r.file n t (subst P c.0 h) (refl, c.1, c.2, c.3))
 goes r (lines.Journal entries digest) h c = journal_goes r entries digest h c
 
 -- `IsReading` holds after these lines. `lines_read` is then what it was before, with these lines added at its end.
-pub record Gone (r : ReadingValue) (ls : List Line) : Type 0 where
+pub record AddsAllLines (r : ReadingValue) (ls : List Line) : Type 0 where
   pub is : IsReading (after_lines r ls)
   pub lines : lines_read (after_lines r ls) ≡ lines_read r ++ ls
 
-pub all_gone : (r : ReadingValue) (ls : List Line) → IsReading r → AllStand r ls → Gone r ls
+pub all_gone : (r : ReadingValue) (ls : List Line) → IsReading r → AreAllowedInOrder r ls → AddsAllLines r ls
 all_gone r [] h s = record { is = h; lines = sym (append-nil (lines_read r)) }
 all_gone r (l ∷ ls) h s =
-    let one : Goes r l = goes r l h s.0 in
-    let rest : Gone (after_line r l) ls = all_gone (after_line r l) ls one.is s.1 in record {
+    let one : AddsLine r l = goes r l h s.0 in
+    let rest : AddsAllLines (after_line r l) ls = all_gone (after_line r l) ls one.is s.1 in record {
       is = rest.is;
       lines = rest.lines ∙ ap (λ ms. ms ++ ls) one.lines ∙ append_assoc (lines_read r) (l ∷ []) ls;
     }
@@ -580,13 +580,13 @@ nothing_is = record {
 }
 
 -- the lines that were read up to the last one are those of the opening
-pub whole_lines : (r : ReadingValue) (ls : List Line) → r ≡ after_lines nothing_read ls → AllStand nothing_read ls → r.next ≡ 61 → opening_lines r.file ≡ ls
+pub whole_lines : (r : ReadingValue) (ls : List Line) → r ≡ after_lines nothing_read ls → AreAllowedInOrder nothing_read ls → r.next ≡ 61 → opening_lines r.file ≡ ls
 whole_lines r ls e s last =
-    let gone : Gone nothing_read ls = all_gone nothing_read ls nothing_is s in
+    let gone : AddsAllLines nothing_read ls = all_gone nothing_read ls nothing_is s in
     let P : ReadingValue → Type 0 = λ x. lines_read x ≡ ls in
     let Q : ℕ → Type 0 = λ k. lines_read (record { next = k; file = r.file }) ≡ ls in subst Q last (subst P (sym e) gone.lines)
 
-pub whole_file : (r : ReadingValue) (ls : List Line) → r ≡ after_lines nothing_read ls → AllStand nothing_read ls → 1 ≤ r.next → IsOpeningFile r.file
+pub whole_file : (r : ReadingValue) (ls : List Line) → r ≡ after_lines nothing_read ls → AreAllowedInOrder nothing_read ls → 1 ≤ r.next → IsOpeningFile r.file
 whole_file r ls e s some =
     let h : IsReading r = subst IsReading (sym e) (all_gone nothing_read ls nothing_is s).is in record {
       day = h.day some;
@@ -608,7 +608,7 @@ whole_file r ls e s some =
 
 -- the counters that were read are within their bounds
 pub read_bounded : (text : List ℕ) (n : ℕ) (r : ReadingValue) → HasRead text [] n r → All (λ (c : ℕ × ℕ). c.0 ≤ c.1) r.file.opening.counters
-read_bounded text n r has = (subst IsReading (sym has.is) (all_gone nothing_read has.taken nothing_is has.stand).is).bounded
+read_bounded text n r has = (subst IsReading (sym has.is) (all_gone nothing_read has.taken nothing_is has.allowed).is).bounded
 
 -- ---- the text
 
@@ -625,8 +625,8 @@ joined_text (l ∷ ls) =
 -- a text whose lines were all read, up to the last one, is that of the opening
 pub whole_text : (text : List ℕ) (n : ℕ) (r : ReadingValue) → HasRead text [] n r → r.next ≡ 61 → opening_text r.file ≡ text
 whole_text text n r has last =
-    ap (flat_map line_text) (whole_lines r has.taken has.is has.stand last) ∙ sym (joined_text has.taken) ∙ ap (join_with_byte 10) (sym has.split)
+    ap (flat_map line_text) (whole_lines r has.taken has.is has.allowed last) ∙ sym (joined_text has.taken) ∙ ap (join_with_byte 10) (sym has.split)
     ∙ join_with_byte-slice_split 10 text
 
 pub good_file : (text : List ℕ) (n : ℕ) (r : ReadingValue) → HasRead text [] n r → r.next ≡ 61 → IsOpeningFile r.file
-good_file text n r has last = whole_file r has.taken has.is has.stand (omega (arith, last))
+good_file text n r has last = whole_file r has.taken has.is has.allowed (omega (arith, last))

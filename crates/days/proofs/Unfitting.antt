@@ -15,7 +15,7 @@ use Rattle.site_core.specs.Fitting.{Misfits as IsFaulty}
 use Rattle.site_core.specs.declared.opening.OpeningFault.{OpeningFault}
 use Rattle.site_core.specs.declared.opening.OpeningFault.TheVariants as fault
 use Rattle.days.specs.Fitting.{AreBounded, BeginsWith, Fits, HasTill}
-use Rattle.days.specs.Misfits.{CannotBegin, IsHeldOver, IsUnfit, IsWant, Misfits, first_held}
+use Rattle.days.specs.Misfits.{CannotBegin, IsHeldOver, IsUnfit, IsOutOfMemory, Misfits, first_held}
 use Rattle.days.specs.declared.beginning.Unfit.{Unfit}
 use Rattle.days.specs.declared.beginning.Unfit.TheVariants as unfit
 use Rattle.days.specs.declared.fitting.Misfit.{Misfit}
@@ -58,14 +58,14 @@ faulty_none count o fault.Clears h good = absurd (h.1 good.clears)
 faulty_none count o fault.Versions h good = absurd (h.1 good.versions)
 faulty_none count o fault.Slots h good = absurd (h.1 good.slots)
 faulty_none count o fault.Rules h good = absurd (h.1 good.rules)
-faulty_none count o fault.Twice h good = absurd (h.1 good.distinct)
+faulty_none count o fault.DuplicateVersion h good = absurd (h.1 good.distinct)
 faulty_none count o fault.OutOfMemory h good = refl
 
 -- there is at most one list of 32 counters that has these values and these bounds
 cells_once : (values bounds a b : Counters) → AreBounded values bounds a → AreBounded values bounds b → length a ≡ 32 → length b ≡ 32 → a ≡ b
 cells_once values bounds a b h k long same = ext_get_or (0, 0) a b (long ∙ sym same) (λ c lt. h c (omega (arith, long, lt)) ∙ sym (k c (omega (arith, long, lt))))
 
-pub unfit_none : (config : ConfigValue) (o : OpeningValue) (u : Unfit) → IsUnfit config o u → (IsWant u → ⊥) → CannotBegin config o
+pub unfit_none : (config : ConfigValue) (o : OpeningValue) (u : Unfit) → IsUnfit config o u → (IsOutOfMemory u → ⊥) → CannotBegin config o
 unfit_none config o (unfit.Misfit m) h wants begun b = misfit_none config o m h b.0
 unfit_none config o (unfit.Fault f) h wants begun b =
     let k = h.1 in

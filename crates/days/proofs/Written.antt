@@ -33,27 +33,27 @@ adds_item w n xs i d a b c lt h k =
     let P : List Line → Type 0 = λ ls. AddsLines a c ls in
     subst P (sym (numbered_more w n xs i d lt)) (adds_both a b c (numbered_lines w n (take i xs)) (w (n + i) (get_or xs i d)) h k)
 
--- the same where the item's number was counted the other way
+-- the same as `adds_item`, with the item's number written as i + n
 pub adds_next : {T : Type 0} (w : ℕ → T → List Line) (n : ℕ) (xs : List T) (i : ℕ) (d : T) (a b c : List ℕ) → i < length xs
     → AddsLines a b (numbered_lines w n (take i xs)) → AddsLines b c (w (i + n) (get_or xs i d)) → AddsLines a c (numbered_lines w n (take (i + 1) xs))
 adds_next w n xs i d a b c lt h k =
     let P : ℕ → Type 0 = λ m. AddsLines b c (w m (get_or xs i d)) in
     let e : i + n ≡ n + i = omega arith in adds_item w n xs i d a b c lt h (subst P e k)
 
--- the same where the item was read by its index
+-- the same as `adds_next`, for an item that was read by its index
 pub adds_indexed : {T : Type 0} (w : ℕ → T → List Line) (n : ℕ) (xs : List T) (i : ℕ) (x : T) (a b c : List ℕ) → i < length xs
     → AddsLines a b (numbered_lines w n (take i xs)) → x ≡ get_or xs i x → AddsLines b c (w (i + n) x) → AddsLines a c (numbered_lines w n (take (i + 1) xs))
 adds_indexed w n xs i x a b c lt h e k =
     let P : _ → Type 0 = λ y. AddsLines b c (w (i + n) y) in adds_next w n xs i x a b c lt h (subst P e k)
 
--- the same where items are numbered from 0
+-- the same as `adds_indexed`, for items that are numbered from 0
 pub adds_from_zero : {T : Type 0} (w : ℕ → T → List Line) (xs : List T) (i : ℕ) (x : T) (a b c : List ℕ) → i < length xs
     → AddsLines a b (numbered_lines w 0 (take i xs)) → x ≡ get_or xs i x → AddsLines b c (w i x) → AddsLines a c (numbered_lines w 0 (take (i + 1) xs))
 adds_from_zero w xs i x a b c lt h e k =
     let P : ℕ → Type 0 = λ m. AddsLines b c (w m x) in
     let z : i ≡ i + 0 = omega arith in adds_indexed w 0 xs i x a b c lt h e (subst P z k)
 
--- the same of a counter, whose value and bound were read one by one
+-- the same as `adds_item`, for a counter whose value and bound were read one by one
 pub adds_counter : (xs : Counters) (i value bound : ℕ) (a b c : List ℕ) → i < 32 → AreCounters xs → value ≡ (counter xs i).0 → bound ≡ (counter xs i).1
     → AddsLines a b (numbered_lines counter_lines 0 (take i xs)) → AddsLines b c (counter_lines i (value, bound))
     → AddsLines a c (numbered_lines counter_lines 0 (take (i + 1) xs))
@@ -72,7 +72,8 @@ pub adds_whole : {T : Type 0} (w : ℕ → T → List Line) (n : ℕ) (xs : List
 adds_whole w n xs i a b ge h =
     let P : List _ → Type 0 = λ ys. AddsLines a b (numbered_lines w n ys) in subst P (take_all i xs ge) h
 
--- the head, the slots and products, the counters and points, and the last line are the whole text
+-- the first three lines, those of slots and products, those of counters and points, and the last line are the whole
+-- text
 pub whole_text : (f : OpeningFile) (z a b c d : List ℕ) → z ≡ [] → AddsLines z a (head_lines f)
     → AddsLines a b (numbered_lines version_lines 0 f.opening.rules ++ numbered_lines price_lines 1 f.opening.prices)
     → AddsLines b c (numbered_lines counter_lines 0 f.opening.counters ++ numbered_lines point_lines 1 f.opening.points)

@@ -3,7 +3,7 @@ use Rattle.std.specs.Prelude.{◌≡◌, ◌==◌, ℕ, ◌+◌, ◌<◌, min, L
 use Rattle.std.specs.List.{slice_split}
 use Rattle.bpf_model.specs.Program.{ProgramText}
 use Rattle.reg_types.specs.declared.refusal.Refusal.{Refusal}
-use Rattle.reg_types.specs.Shown.{refusal_of}
+use Rattle.reg_types.specs.RefusedPrograms.{refusal_of}
 use Rattle.days.specs.declared.file.OpeningFile.{OpeningFile}
 use Rattle.days.specs.declared.file.OpeningFlaw.{OpeningFlaw}
 use Rattle.days.specs.declared.file.OpeningFlaw.TheVariants.{BadLine, CutLine, BadProgram, OutOfMemory}
@@ -32,9 +32,9 @@ pub record BeginOne (lines : List Line) : Type 0 where
   pub more : List Line
   pub lines_are : opening_lines f ≡ lines ++ more
 
--- The text has a piece with this number, counted from 1. The pieces before it are the first lines of an opening, and
--- `IsSo` holds of these lines, the piece, and the pieces behind it. A number above 4,294,967,295 is given as
--- 4,294,967,295.
+-- The text, split at its LFs, has a piece with this number. Pieces are counted from 1; 4,294,967,295 stands for all
+-- greater numbers too. The pieces before this one are the first lines of an opening. `IsSo` holds of these lines, of
+-- the piece, and of the pieces after it.
 pub record IsPiece (text : List ℕ) (number : ℕ) (IsSo : List Line → List ℕ → List (List ℕ) → Type 0) : Type 0 where
   pub before : List Line
   pub begin_one : BeginOne before

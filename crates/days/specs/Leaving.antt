@@ -9,8 +9,8 @@ use Rattle.days.specs.declared.file.Uncarried.{Uncarried}
 use Rattle.days.specs.declared.file.Uncarried.TheVariants.{Fault, LastDay}
 
 -- The reason is right: it is why the site of day `number` leaves no opening. Either `number` is the greatest that a day
--- can have. Or it isn't, and no site with as many points as this one can begin with what it leaves. Or one can, and
--- memory ran out.
+-- can have. Or it isn't, and no site with as many points can begin with what this site leaves. Or one can, and memory
+-- ran out.
 abbrev pub IsUncarried : ℕ → SiteValue → Uncarried → Type 0
 IsUncarried number site LastDay = number ≡ 4294967295
 IsUncarried number site (Fault fault) =

@@ -11,6 +11,6 @@ pub mod Parsing
 pub mod Ranges
 pub mod Reading
 pub mod Spelling
-pub mod Standing
+pub mod AuditProgress
 pub mod Text
 pub mod Words

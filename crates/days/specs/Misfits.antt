@@ -56,5 +56,5 @@ abbrev pub CannotBegin : ConfigValue → OpeningValue → Type 0
 CannotBegin config o = (begun : ConfigValue) → BeginsWith config o begun → ⊥
 
 -- The reason is that memory ran out.
-abbrev pub IsWant : Unfit → Type 0
-IsWant u = u ≡ unfit.Fault OutOfMemory
+abbrev pub IsOutOfMemory : Unfit → Type 0
+IsOutOfMemory u = u ≡ unfit.Fault OutOfMemory

@@ -1,4 +1,5 @@
--- Promises: how a line of an opening's text is read. Each line of an opening is read as that line, but other lines may be read too.
+-- Promises: how a line of an opening's text is read. The text of each line of an opening is read as that line, and some
+-- other texts are read as lines too.
 use Rattle.std.specs.Prelude.{ℕ, ◌==◌, nat_lt, if◌then◌else◌, List, [], ◌∷◌, codes, drop, length, Option, Some, None, false, Result, Ok, Err}
 use Rattle.std.specs.Str.{bytes_eq}
 use Rattle.hex.specs.Hex.{decode_of, decode_sized}
@@ -134,7 +135,7 @@ abbrev pub journal_of : List (List ℕ) → Result Line LineFault
 journal_of (n ∷ d ∷ []) = journal_with n d
 journal_of ws = Err BadLine
 
--- Reads a line from its name and the words behind its name. Any unknown name is taken for `versions`.
+-- Reads a line from its name and the words after its name. Any unknown name is taken for `versions`.
 abbrev pub line_named : List ℕ → List (List ℕ) → Result Line LineFault
 line_named name ws =
     if bytes_eq name (codes "price") then price_of ws else if bytes_eq name (codes "counter") then counter_of ws

@@ -9,7 +9,7 @@ use Rattle.fuelling_point.specs.Table.{PointState, fresh_point}
 use Rattle.program_slots.specs.Slots.{IsRule}
 use Rattle.program_slots.specs.Value.{Version}
 use Rattle.reg_types.specs.declared.refusal.Refusal.{Refusal}
-use Rattle.reg_types.specs.Shown.{refusal_of}
+use Rattle.reg_types.specs.RefusedPrograms.{refusal_of}
 use Rattle.site_core.specs.Opening.{OpeningValue, IsNewNumber}
 use Rattle.days.specs.declared.file.OpeningFile.{OpeningFile}
 use Rattle.days.specs.declared.line.Line.{Line}
@@ -49,7 +49,7 @@ nothing_read = record {
   };
 }
 
--- The state of the point with one more unpaid transaction, behind the others.
+-- The point with one more unpaid transaction after its others.
 abbrev pub with_unpaid : PointState → Transaction → PointState
 with_unpaid p t = record p { unpaid = p.unpaid ++ t ∷ [] }
 
@@ -58,26 +58,26 @@ abbrev pub point_at : List PointState → ℕ → PointState
 point_at points n = slice_index_or points (n - 1) fresh_point
 
 -- The line can come next after what has been read, and its values are allowed there.
-abbrev pub CanStand : ReadingValue → Line → Type 0
-CanStand r (lines.Day n) = (r.next ≡ 0) × (2 ≤ n)
-CanStand r (lines.Cleared total count) = (r.next ≡ 1) × (total ≤ 1000000000000000000) × (count ≤ 1000000000000000000)
-CanStand r (lines.Versions n) = (r.next ≡ 2) × (n ≤ 4290000000)
-CanStand r (lines.Version slot number mask layout bytes) =
+abbrev pub IsAllowedNext : ReadingValue → Line → Type 0
+IsAllowedNext r (lines.Day n) = (r.next ≡ 0) × (2 ≤ n)
+IsAllowedNext r (lines.Cleared total count) = (r.next ≡ 1) × (total ≤ 1000000000000000000) × (count ≤ 1000000000000000000)
+IsAllowedNext r (lines.Versions n) = (r.next ≡ 2) × (n ≤ 4290000000)
+IsAllowedNext r (lines.Version slot number mask layout bytes) =
     (3 ≤ r.next) × (r.next ≤ 3 + slot) × (slot < 16) × IsRule r.file.opening.versions (Some (record { number = number; program = as_loaded bytes mask layout }))
     × IsNewNumber r.file.opening.rules number
-CanStand r (lines.Price product price) = (3 ≤ r.next) × (r.next ≤ 18 + product) × (1 ≤ product) × (product ≤ 8) × (1 ≤ price) × (price ≤ 9999999)
-CanStand r (lines.Counter c value bound) = (3 ≤ r.next) × (r.next ≤ 27 + c) × (c < 32) × (value ≤ bound) × (1 ≤ bound) × (bound < 2 ^ 64)
-CanStand r (lines.Point n s) =
+IsAllowedNext r (lines.Price product price) = (3 ≤ r.next) × (r.next ≤ 18 + product) × (1 ≤ product) × (product ≤ 8) × (1 ≤ price) × (price ≤ 9999999)
+IsAllowedNext r (lines.Counter c value bound) = (3 ≤ r.next) × (r.next ≤ 27 + c) × (c < 32) × (value ≤ bound) × (1 ≤ bound) × (bound < 2 ^ 64)
+IsAllowedNext r (lines.Point n s) =
     (3 ≤ r.next) × (r.next ≤ 59) × (n ≡ length r.file.opening.points + 1) × (s.last ≤ 4290000000) × (s.unpaid ≡ None ∷ None ∷ []) × IsSnapshot s
-CanStand r (lines.Unpaid n t) =
+IsAllowedNext r (lines.Unpaid n t) =
     (r.next ≡ 59) × (1 ≤ n) × (n ≡ length r.file.opening.points) × IsPointState (with_unpaid (point_at r.file.opening.points n) t)
-CanStand r (lines.Journal entries digest) = (3 ≤ r.next) × (r.next ≤ 60)
+IsAllowedNext r (lines.Journal entries digest) = (3 ≤ r.next) × (r.next ≤ 60)
 
--- What has been read, with `next` and `opening` in place of what it had for them.
+-- What has been read, but with the given `next` and `opening`.
 abbrev pub with_opening : ReadingValue → ℕ → OpeningValue → ReadingValue
 with_opening r next opening = record { next = next; file = record r.file { opening = opening } }
 
--- What has been read once the line is taken.
+-- What has been read once this line is taken too.
 abbrev pub after_line : ReadingValue → Line → ReadingValue
 after_line r (lines.Day n) = record { next = 1; file = record r.file { day = n } }
 after_line r (lines.Cleared total count) = with_opening r 2 (record r.file.opening { cleared = total; clears = count })
@@ -105,25 +105,25 @@ abbrev pub IsRefusedIn : Option ProgramText → Refusal → Type 0
 IsRefusedIn None refusal = ⊥
 IsRefusedIn (Some p) refusal = refusal_of p ≡ Some refusal
 
--- Taking the line needs memory. It is a point's line that can come next, or a version's line that could come next with
--- a program that the verifier accepts.
+-- Taking the line needs memory: it is a point's line that can come next, or a version's line that can come next if the
+-- verifier accepts its program.
 abbrev pub TakesMemory : ReadingValue → Line → Type 0
 TakesMemory r (lines.Version slot number mask layout bytes) =
     (3 ≤ r.next) × (r.next ≤ 3 + slot) × (slot < 16) × (1 ≤ number) × (number ≤ r.file.opening.versions) × IsNewNumber r.file.opening.rules number
-TakesMemory r (lines.Point n s) = CanStand r (lines.Point n s)
+TakesMemory r (lines.Point n s) = IsAllowedNext r (lines.Point n s)
 TakesMemory r line = ⊥
 
--- The result of taking a line: it could come next, and was taken. Or it couldn't come next (`Misplaced`). Or it could
--- but for its program, which the verifier refuses. Or taking it needs memory, which ran out. After an error nothing is
--- claimed of `new`.
+-- The result of taking a line is right. Ok: the line could come next, and `new` is what has been read with it.
+-- `Misplaced`: it couldn't come next. `Refused`: it could, but for its program, which the verifier refuses.
+-- `OutOfMemory`: taking the line needs memory. After an error nothing is claimed of `new`.
 abbrev pub Steps : ReadingValue → Line → Result (Unit {0}) StepFault → ReadingValue → Type 0
-Steps old line (Ok u) new = CanStand old line × (new ≡ after_line old line)
-Steps old line (Err Misplaced) new = CanStand old line → ⊥
+Steps old line (Ok u) new = IsAllowedNext old line × (new ≡ after_line old line)
+Steps old line (Err Misplaced) new = IsAllowedNext old line → ⊥
 Steps old line (Err (Refused refusal)) new = TakesMemory old line × IsRefusedIn (program_in line) refusal
 Steps old line (Err OutOfMemory) new = TakesMemory old line
 
--- The result is a version with this number and this program, which is good and which the verifier accepts. Or the
--- verifier refuses the program for the given reason. Or memory ran out.
+-- The result is right: it is a version with this number and this program, which is good and which the verifier accepts.
+-- Or it is the reason for which the verifier refuses the program. Or memory ran out, and nothing is claimed.
 abbrev pub Verified : ℕ → ProgramText → Result Version StepFault → Type 0
 Verified number p (Ok v) = (v ≡ record { number = number; program = p }) × IsGood p × (refusal_of p ≡ None)
 Verified number p (Err Misplaced) = ⊥
@@ -131,9 +131,9 @@ Verified number p (Err (Refused refusal)) = refusal_of p ≡ Some refusal
 Verified number p (Err OutOfMemory) = Unit {0}
 
 -- Each of the lines can come next after what has been read and the lines before it.
-abbrev pub AllStand : ReadingValue → List Line → Type 0
-AllStand r [] = Unit {0}
-AllStand r (line ∷ rest) = CanStand r line × AllStand (after_line r line) rest
+abbrev pub AreAllowedInOrder : ReadingValue → List Line → Type 0
+AreAllowedInOrder r [] = Unit {0}
+AreAllowedInOrder r (line ∷ rest) = IsAllowedNext r line × AreAllowedInOrder (after_line r line) rest
 
 abbrev pub after_lines : ReadingValue → List Line → ReadingValue
 after_lines r [] = r
@@ -143,21 +143,21 @@ after_lines r (line ∷ rest) = after_lines (after_line r line) rest
 abbrev pub ReadsBack : Line → Type 0
 ReadsBack line = line_read (line_spelling line) ≡ Ok line
 
--- The result of reading these bytes as a line. It is a line that is read back from its spelling, which these bytes are.
--- Or it is `Misplaced`, and there is no such line. Or memory ran out, and nothing is claimed.
+-- The result of reading these bytes as a line is right. It is a line whose spelling these bytes are, and which is read
+-- back from it. Or it is `Misplaced`, and there is no such line. Or memory ran out, and nothing is claimed.
 abbrev pub LineFound : List ℕ → Result Line StepFault → Type 0
 LineFound bytes (Ok line) = (line_spelling line ≡ bytes) × ReadsBack line
 LineFound bytes (Err Misplaced) = (line : Line) → ReadsBack line → line_spelling line ≡ bytes → ⊥
 LineFound bytes (Err (Refused refusal)) = ⊥
 LineFound bytes (Err OutOfMemory) = Unit {0}
 
--- The result of taking the line with this number and these bytes. It was taken. Or no line that can come next has these
--- bytes (`BadLine` with this number). Or the verifier refuses its program (`BadProgram` with this number). Or memory
--- ran out, and nothing is claimed.
+-- The result of taking the line with this number and these bytes is right. Ok: the line was taken. `BadLine` with this
+-- number: no line that can come next has these bytes. `BadProgram` with this number: the verifier refuses the line's
+-- program. `OutOfMemory`: nothing is claimed.
 abbrev pub Takes : ℕ → List ℕ → ReadingValue → Result (Unit {0}) OpeningFlaw → ReadingValue → Type 0
-Takes number bytes old (Ok u) new = (line : Line) × (line_spelling line ≡ bytes) × ReadsBack line × CanStand old line × (new ≡ after_line old line)
+Takes number bytes old (Ok u) new = (line : Line) × (line_spelling line ≡ bytes) × ReadsBack line × IsAllowedNext old line × (new ≡ after_line old line)
 Takes number bytes old (Err (flaws.BadLine n)) new =
-    (n ≡ number) × ((line : Line) → ReadsBack line → line_spelling line ≡ bytes → CanStand old line → ⊥)
+    (n ≡ number) × ((line : Line) → ReadsBack line → line_spelling line ≡ bytes → IsAllowedNext old line → ⊥)
 Takes number bytes old (Err (flaws.CutLine n)) new = ⊥
 Takes number bytes old (Err (flaws.BadProgram n refusal)) new =
     (n ≡ number) × ((line : Line) × (line_spelling line ≡ bytes) × ReadsBack line × IsRefusedIn (program_in line) refusal)
@@ -169,7 +169,7 @@ pub record HasRead (text rest : List ℕ) (number : ℕ) (r : ReadingValue) : Ty
   pub taken : List Line
   pub split : slice_split (λ b. b == 10) text ≡ map line_spelling taken ++ slice_split (λ b. b == 10) rest
   pub back : AllByRecursion ReadsBack taken
-  pub stand : AllStand nothing_read taken
+  pub allowed : AreAllowedInOrder nothing_read taken
   pub is : r ≡ after_lines nothing_read taken
   pub number_is : number ≡ min (length taken + 1) 4294967295
 
@@ -182,9 +182,9 @@ pub record BadBehind (text : List ℕ) (number : ℕ) : Type 0 where
   pub line : List ℕ
   pub behind : List ℕ
   pub next : slice_split (λ b. b == 10) rest ≡ line ∷ slice_split (λ b. b == 10) behind
-  pub bad : (l : Line) → ReadsBack l → line_spelling l ≡ line → CanStand r l → ⊥
+  pub bad : (l : Line) → ReadsBack l → line_spelling l ≡ line → IsAllowedNext r l → ⊥
 
--- Line `number` of the text is cut off: the lines before it were read, and behind them are bytes without an LF.
+-- Line `number` of the text is cut off: the lines before it were read, and after them there are bytes without an LF.
 pub record CutBehind (text : List ℕ) (number : ℕ) : Type 0 where
   pub rest : List ℕ
   pub r : ReadingValue

@@ -46,13 +46,14 @@ line_spelling line = join_with_byte 32 (line_words line)
 abbrev pub line_text : Line → List ℕ
 line_text line = line_spelling line ++ 10 ∷ []
 
--- The lines of all items of a list. `lines_of` gives those of an item by its number. The first item has the number n.
+-- The lines of all items of a list, in order. `lines_of` gives the lines of one item from its number and the item. The
+-- first item has the number n, and each later one the next number.
 abbrev pub numbered_lines : {T : Type 0} → (ℕ → T → List Line) → ℕ → List T → List Line
 numbered_lines lines_of n [] = []
 numbered_lines lines_of n (item ∷ items) = lines_of n item ++ numbered_lines lines_of (n + 1) items
 
--- A slot has a line if it has a version, a product if its price isn't 0, and a counter unless both its value and its
--- bound are 0.
+-- The line of a slot, or no line if it has no version. Below: that of a product, or none if its price is 0, and that of
+-- a counter, or none if both its value and its bound are 0.
 abbrev pub version_lines : ℕ → Option Version → List Line
 version_lines slot None = []
 version_lines slot (Some v) = lines.Version slot v.number v.program.declared v.program.layout v.program.bytes ∷ []

@@ -1,15 +1,15 @@
-//! The beginning of a site with an opening.
+//! Puts an opening (what a day leaves for the next day) into the configuration that a site begins with.
 
 ghost use Rattle.std.specs.Prelude.{IfErr, IfOk};
 ghost use Rattle.days.specs.Fitting.{BeginsWith};
-ghost use Rattle.days.specs.Misfits.{CannotBegin, IsUnfit, IsWant};
+ghost use Rattle.days.specs.Misfits.{CannotBegin, IsUnfit, IsOutOfMemory};
 
 use crate::fitting::{Misfit, fitted};
 use site_core::{Config, Opening, OpeningFault};
 use std::alloc::Global;
 use std::fmt::{self, Display};
 
-/// Why no site of a configuration begins with an opening.
+/// Why no site of a configuration can begin with an opening, or that memory ran out.
 #[derive(Clone, Copy)]
 pub enum Unfit {
     /// The opening and the configuration don't fit each other.
@@ -32,13 +32,13 @@ impl Display for Unfit {
     }
 }
 
-/// Returns `config` with `opening` in place of any opening that it had, so that a site of the result begins with
-/// `opening`. The counters have the values of `opening`, and the bounds of `config`. The error is why no site of this
-/// configuration can begin with the opening, or, if one can, that memory ran out.
+/// Returns `config` with `opening` as the opening that a site begins with. An opening that `config` had is dropped.
+/// Each counter has its value from `opening` and its bound from `config`. The error is why no site of `config` can
+/// begin with `opening`, or, if one can, that memory ran out.
 pub fn begun(alloc: Global, config: Config, opening: Opening) -> Result<Config, Unfit>
     ensures begun { IfOk result (BeginsWith config opening) }
     ensures unfit { IfErr result (IsUnfit config opening) }
-    ensures none { IfErr result (λ unfit. ¬ IsWant unfit → CannotBegin config opening) }
+    ensures none { IfErr result (λ unfit. ¬ IsOutOfMemory unfit → CannotBegin config opening) }
 {
     // This read gives the prover that there are 32 counters.
     let _first = opening.counters.get(0);

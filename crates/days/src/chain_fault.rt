@@ -6,14 +6,14 @@ use site_core::{AuditFault, Config};
 
 /// Why a day leaves no opening for the next day.
 #[derive(Clone, Copy)]
-pub enum Unleft {
+pub enum NoNextOpening {
     /// The day has no journal.
     NoJournal,
-    /// The day's site leaves no opening, or memory ran out.
+    /// Why the day's site leaves no opening, or that memory ran out.
     Uncarried(Uncarried),
 }
 
-/// Why a day doesn't begin with what the day before left. Each case has the text of the opening that was left.
+/// Why a day doesn't begin with the opening that the day before left. Each case has the text of that opening.
 #[derive(Drop)]
 pub enum Unfollowed {
     /// The day has no opening.
@@ -50,7 +50,8 @@ pub enum Unclosed<J> {
     OutOfMemory(Option<J>),
 }
 
-/// Why days don't follow one another. `Unleft`, `Unbegun` and `Unclosed` can also say that memory ran out.
+/// Why days don't follow one another, or why that isn't known: a day couldn't be read (`Unread`), the device of its
+/// journal failed (`Unclosed`), or memory ran out (`NoNextOpening`, `Unbegun` or `Unclosed`).
 #[derive(Drop)]
 pub enum Cause<J> {
     /// There is no day.
@@ -58,8 +59,8 @@ pub enum Cause<J> {
     /// The day couldn't be read.
     Unread,
     /// The day leaves no opening for the next day.
-    Unleft(Unleft),
-    /// The day doesn't begin with what the day before left.
+    NoNextOpening(NoNextOpening),
+    /// The day doesn't begin with the opening that the day before left.
     Unfollowed(Unfollowed),
     /// No site of the day's configuration begins the day.
     Unbegun(Unbegun),

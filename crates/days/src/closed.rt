@@ -4,7 +4,7 @@ ghost use Rattle.sha2.specs.Sha256.{sha256};
 ghost use Rattle.decision_journal.specs.Text.{journal_text};
 ghost use Rattle.site_core.specs.Days.{carried};
 ghost use Rattle.site_core.specs.Opening.{IsOpening};
-ghost use Rattle.days.specs.Chain.{left_by};
+ghost use Rattle.days.specs.Chain.{next_opening};
 ghost use Rattle.days.specs.Leaving.{IsUncarried};
 
 use crate::file::{OpeningFile, Uncarried};
@@ -25,7 +25,7 @@ impl Closed {
     /// for an opening: that of a point's newest transaction, the cleared total, the count of cleared transactions, or
     /// the count of versions.
     pub fn opening(&self, day: u32) -> Result<OpeningFile, Uncarried>
-        ensures left { IfOk result (λ file. file ≡ left_by day self.now.site) }
+        ensures left { IfOk result (λ file. file ≡ next_opening day self.now.site) }
         ensures carries { OnOk result (IsOpening (length self.now.site.config.points) (carried self.now.site)) }
         ensures uncarried { IfErr result (IsUncarried day self.now.site) }
     {

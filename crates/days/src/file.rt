@@ -4,7 +4,7 @@ use reg_types::Refusal;
 use site_core::{Opening, OpeningFault};
 use std::fmt;
 
-/// The values in the text of an opening.
+/// The values in the text of an opening: what a day leaves for the next day.
 #[derive(Drop)]
 pub struct OpeningFile {
     /// The number of the day that begins with the opening: 2 or more.

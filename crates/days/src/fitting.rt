@@ -68,7 +68,7 @@ impl Display for HeldBy {
     }
 }
 
-/// A counter's value in the opening, and its smaller bound in the configuration.
+/// A counter's value in the opening, and the counter's bound in the configuration.
 #[derive(Clone, Copy)]
 struct OverBound(u64, u64);
 

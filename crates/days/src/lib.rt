@@ -19,7 +19,7 @@ mod step;
 pub mod writing;
 
 pub use beginning::Unfit;
-pub use chain_fault::{Cause, DaysFault, Unbegun, Unclosed, Unfollowed, Unleft};
+pub use chain_fault::{Cause, DaysFault, NoNextOpening, Unbegun, Unclosed, Unfollowed};
 pub use closed::Closed;
 pub use day::{Chained, DayIn, DaysIn, NoDay};
 pub use file::{OpeningFile, OpeningFlaw, Uncarried};

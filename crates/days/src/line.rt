@@ -14,8 +14,8 @@ pub enum Line {
     Cleared(u64, u64),
     /// How many versions were ever loaded.
     Versions(u32),
-    /// The version in force in a slot, counted from 0: the version's number, and its program with the mask of the
-    /// counters that the program declares.
+    /// The version (a loaded rule) in force in `slot`; slots are counted from 0. `number` is the version's number.
+    /// `mask` has a bit for each counter that the program declares. `layout` and `bytes` are the program's.
     Version {
         slot: u64,
         number: u32,

@@ -24,8 +24,8 @@ pub(crate) fn is_same(text: &[u8], other: &[u8]) -> bool
     text == other
 }
 
-/// Returns the line that these bytes, given without an LF, spell. `room` is overwritten. The error is `Misplaced` if
-/// the bytes don't spell a line, or that memory ran out.
+/// Returns the line of an opening that `bytes` spell, without an LF. `room` is a buffer that is overwritten. The error
+/// is `Misplaced` if the bytes don't spell a line, or that memory ran out.
 fn read_line(alloc: Global, room: &mut String, bytes: &[u8]) -> Result<Line, StepFault>
     ensures { LineFound bytes.now result }
 {
@@ -47,9 +47,9 @@ fn read_line(alloc: Global, room: &mut String, bytes: &[u8]) -> Result<Line, Ste
     }
 }
 
-/// Reads the line of these bytes, given without an LF, and adds it to the reading. `room` is overwritten. The error is
-/// `BadLine` if the bytes spell no line that can come next, or `BadProgram` if the verifier refuses the line's program,
-/// each with `number` as the number of the line. It can also be that memory ran out.
+/// Reads the line that `bytes` spell, without an LF, and adds it to `reading`. `room` is a buffer that is overwritten.
+/// The error is `BadLine` if they spell no line that can come next, or `BadProgram` if the verifier refuses the line's
+/// program, each with the line's `number`. It can also be that memory ran out.
 fn take_line(
     alloc: Global,
     room: &mut String,

@@ -77,7 +77,8 @@ fn put_answer(text: &mut String, answer: bool) -> Result<(), AllocError>
     }
 }
 
-/// Appends the words of an opening's first line. The error is that memory ran out.
+/// Appends the words of an opening's first line: `day`, and the number of the day that begins with the opening. The
+/// error is that memory ran out.
 fn put_day(text: &mut String, day: u32) -> Result<(), AllocError>
     ensures { OnOk result (string_bytes text.new ≡ with_line (string_bytes text.old) (line_words (Line.Day day))) }
 {
@@ -156,7 +157,8 @@ fn put_unpaid(text: &mut String, point: u64, unpaid: &Transaction) -> Result<(),
     put_number(text, u64::from(unpaid.holder))
 }
 
-/// Appends the words of a product's line. The error is that memory ran out.
+/// Appends the words of a product's line: `price`, the product's number and its price. The error is that memory ran
+/// out.
 fn put_price(text: &mut String, product: u32, price: u32) -> Result<(), AllocError>
     ensures { OnOk result (string_bytes text.new
         ≡ with_line (string_bytes text.old) (line_words (Line.Price product price))) }
@@ -166,7 +168,8 @@ fn put_price(text: &mut String, product: u32, price: u32) -> Result<(), AllocErr
     put_number(text, u64::from(price))
 }
 
-/// Appends the words of an opening's last line. The error is that memory ran out.
+/// Appends the words of an opening's last line: `journal`, how many entries the journal of the day before has, and its
+/// digest. The error is that memory ran out.
 fn put_journal(
     alloc: Global,
     text: &mut String,
@@ -181,7 +184,8 @@ fn put_journal(
     put_hex(alloc, text, digest)
 }
 
-/// Appends the words of a counter's line. The error is that memory ran out.
+/// Appends the words of a counter's line: `counter`, the counter's number, its value and its bound. The error is that
+/// memory ran out.
 fn put_counter(text: &mut String, counter: u32, value: u64, bound: u64) -> Result<(), AllocError>
     ensures { OnOk result (string_bytes text.new
         ≡ with_line (string_bytes text.old) (line_words (Line.Counter counter value bound))) }
@@ -218,7 +222,7 @@ fn put_words(alloc: Global, text: &mut String, line: &Line) -> Result<(), AllocE
     }
 }
 
-/// Replaces a text by a line without its LF. The error is that memory ran out.
+/// Replaces `text` by the spelling of `line`, without an LF. The error is that memory ran out.
 pub(crate) fn spell_line(alloc: Global, text: &mut String, line: &Line) -> Result<(), AllocError>
     ensures { OnOk result (string_bytes text.new ≡ line_spelling line.now) }
 {

@@ -30,16 +30,16 @@ const MOST_CLEARED: u64 = 1_000_000_000_000_000_000;
 /// first three lines have the places 0 to 2, and the lines of slots 1 to 15 have the places after this one.
 const SLOTS_AT: u32 = 3;
 
-/// The place of the line of product 1. The lines of products 2 to 8 have the places after this one.
+/// The place (see `SLOTS_AT`) of the line of product 1. The lines of products 2 to 8 have the places after this one.
 const PRODUCTS_AT: u32 = 19;
 
-/// The place of the line of counter 0. The lines of counters 1 to 31 have the places after this one.
+/// The place (see `SLOTS_AT`) of the line of counter 0. The lines of counters 1 to 31 have the places after this one.
 const COUNTERS_AT: u32 = 27;
 
-/// The place of the lines of all points and of their unpaid transactions.
+/// The place (see `SLOTS_AT`) that the lines of all points, and of their unpaid transactions, share.
 const POINTS_AT: u32 = 59;
 
-/// The place of the last line.
+/// The place (see `SLOTS_AT`) of an opening's last line.
 const END_AT: u32 = 60;
 
 /// Why a line isn't added to a `Reading`.
@@ -100,7 +100,7 @@ impl Model for Reading {
     ghost invariant = { λ r. length r.rules.items ≡ 16 };
 }
 
-/// Returns a list of 16 slots without a version.
+/// Returns a list of 16 slots without a version. The error is that memory ran out.
 fn empty_slots(alloc: Global) -> Result<Vec<Option<Version>>, AllocError>
     ensures { IfOk result (λ rules. rules.items ≡ replicate 16 None) }
 {
@@ -262,7 +262,7 @@ impl Reading {
         if !has_none(&values.unpaid) {
             return Err(StepFault::Misplaced);
         }
-        let Some(point) = Point::restored(*values) else {
+        let Some(point) = Point::from_snapshot(*values) else {
             return Err(StepFault::Misplaced);
         };
         if self.points.push(point).is_err() {
@@ -328,15 +328,15 @@ impl Reading {
     }
 }
 
-/// Returns whether both transactions are missing.
+/// Returns whether there is no transaction: both items are `None`.
 fn has_none(unpaid: &[Option<Transaction>; 2]) -> bool
     ensures { IsTrue result ↔ (unpaid.now ≡ None ∷ None ∷ []) }
 {
     matches!(unpaid, [None, None])
 }
 
-/// Returns the version of this number with the program of these bytes. The error is that the verifier refuses the
-/// program, or that memory ran out.
+/// Verifies the program in `bytes`, and returns it as the version with this number. The error is that the verifier
+/// refuses the program, or that memory ran out.
 fn verified(
     alloc: Global,
     number: u32,
@@ -371,5 +371,5 @@ fn owing(point: &Point, unpaid: Transaction) -> Option<Point>
         [Some(first), None] => snapshot.unpaid = [Some(first), Some(unpaid)],
         [Some(_), Some(_)] => return None,
     }
-    Point::restored(snapshot)
+    Point::from_snapshot(snapshot)
 }

@@ -15,7 +15,7 @@ use program_slots::Version;
 use site_core::Opening;
 use std::alloc::{AllocError, Global};
 
-/// Appends the first three lines of an opening.
+/// Appends the first three lines of an opening. The error is that memory ran out.
 fn put_head(alloc: Global, text: &mut String, file: &OpeningFile) -> Result<(), AllocError>
     ensures { OnOk result (AddsLines (string_bytes text.old) (string_bytes text.new) (head_lines file.now)) }
 {
@@ -28,14 +28,15 @@ fn put_head(alloc: Global, text: &mut String, file: &OpeningFile) -> Result<(), 
     put_line(alloc, text, &Line::Versions(file.opening.versions))
 }
 
-/// Appends the line of a slot, if it has a version.
+/// Appends the line of a slot, if it has a version. The error is that memory ran out.
 fn put_rule(
     alloc: Global,
     text: &mut String,
     slot: u64,
     rule: &Option<Version>,
 ) -> Result<(), AllocError>
-    ensures lines { OnOk result (AddsLines (string_bytes text.old) (string_bytes text.new) (version_lines slot rule.now)) }
+    ensures lines { OnOk result (AddsLines (string_bytes text.old) (string_bytes text.new) (version_lines slot
+        rule.now)) }
     ensures none { rule.now ≡ None → IsOk result }
 {
     match rule {
@@ -44,7 +45,8 @@ fn put_rule(
     }
 }
 
-/// Appends the lines of all slots that have a version. The first item of `rules` is that of slot 0.
+/// Appends the lines of all slots that have a version. The first item of `rules` is that of slot 0. The error is that
+/// memory ran out.
 fn put_rules(alloc: Global, text: &mut String, rules: &[Option<Version>]) -> Result<(), AllocError>
     ensures { OnOk result (AddsLines (string_bytes text.old) (string_bytes text.new)
         (numbered_lines version_lines 0 rules.now)) }
@@ -55,7 +57,7 @@ fn put_rules(alloc: Global, text: &mut String, rules: &[Option<Version>]) -> Res
     Ok(())
 }
 
-/// Appends the line of a product, unless `price` is 0: then the product has no price.
+/// Appends the line of a product, unless `price` is 0: then the product has no price. The error is that memory ran out.
 fn put_price(alloc: Global, text: &mut String, product: u32, price: u32) -> Result<(), AllocError>
     ensures lines { OnOk result (AddsLines (string_bytes text.old) (string_bytes text.new) (price_lines product price)) }
     ensures none { price ≡ 0 → IsOk result }
@@ -66,7 +68,8 @@ fn put_price(alloc: Global, text: &mut String, product: u32, price: u32) -> Resu
     put_line(alloc, text, &Line::Price(product, price))
 }
 
-/// Appends the lines of all products that have a price. The first item of `prices` is the price of product 1.
+/// Appends the lines of all products that have a price. The first item of `prices` is the price of product 1. There
+/// must be at most 8 items. The error is that memory ran out.
 fn put_prices(alloc: Global, text: &mut String, prices: &[u32]) -> Result<(), AllocError>
     requires { length prices.now ≤ 8 }
     ensures { OnOk result (AddsLines (string_bytes text.old) (string_bytes text.new)
@@ -78,7 +81,7 @@ fn put_prices(alloc: Global, text: &mut String, prices: &[u32]) -> Result<(), Al
     Ok(())
 }
 
-/// Appends the line of a counter, unless both its value and its bound are 0.
+/// Appends the line of a counter, unless both its value and its bound are 0. The error is that memory ran out.
 fn put_counter(
     alloc: Global,
     text: &mut String,
@@ -96,7 +99,8 @@ fn put_counter(
     put_line(alloc, text, &Line::Counter(counter, value, bound))
 }
 
-/// Appends the lines of all counters whose value and bound aren't both 0.
+/// Appends the lines of all counters, except of those whose value and bound are both 0. The error is that memory ran
+/// out.
 fn put_counters(alloc: Global, text: &mut String, counters: &Counters) -> Result<(), AllocError>
     ensures { OnOk result (AddsLines (string_bytes text.old) (string_bytes text.new)
         (numbered_lines counter_lines 0 counters.now)) }
@@ -115,7 +119,8 @@ fn put_counters(alloc: Global, text: &mut String, counters: &Counters) -> Result
     Ok(())
 }
 
-/// Appends the line of an unpaid transaction of point `number`, counted from 1, if there is a transaction.
+/// Appends the line of an unpaid transaction of point `number`, counted from 1, if there is a transaction. The error is
+/// that memory ran out.
 fn put_unpaid(
     alloc: Global,
     text: &mut String,
@@ -132,7 +137,8 @@ fn put_unpaid(
     }
 }
 
-/// Appends the line of point `number`, counted from 1, and then the lines of its unpaid transactions.
+/// Appends the line of point `number`, counted from 1, and then the lines of its unpaid transactions. The error is that
+/// memory ran out.
 fn put_point(alloc: Global, text: &mut String, number: u64, point: &Point) -> Result<(), AllocError>
     ensures { OnOk result (AddsLines (string_bytes text.old) (string_bytes text.new) (point_lines number point.now)) }
 {
@@ -147,7 +153,7 @@ fn put_point(alloc: Global, text: &mut String, number: u64, point: &Point) -> Re
     put_unpaid(alloc, text, number, second)
 }
 
-/// Appends the lines of all points.
+/// Appends the lines of all points. The first item of `points` is point 1. The error is that memory ran out.
 fn put_points(alloc: Global, text: &mut String, points: &[Point]) -> Result<(), AllocError>
     ensures { OnOk result (AddsLines (string_bytes text.old) (string_bytes text.new)
         (numbered_lines point_lines 1 points.now)) }
@@ -158,7 +164,8 @@ fn put_points(alloc: Global, text: &mut String, points: &[Point]) -> Result<(), 
     Ok(())
 }
 
-/// Appends the lines of the slots that have a version, and then those of the products that have a price.
+/// Appends the lines of the slots that have a version, and then those of the products that have a price. The error is
+/// that memory ran out.
 fn put_rules_and_prices(
     alloc: Global,
     text: &mut String,
@@ -171,7 +178,8 @@ fn put_rules_and_prices(
     put_prices(alloc, text, &opening.prices)
 }
 
-/// Appends the lines of the counters whose value and bound aren't both 0, and then those of the points.
+/// Appends the lines of the counters, except of those whose value and bound are both 0, and then those of the points.
+/// The error is that memory ran out.
 fn put_counters_and_points(
     alloc: Global,
     text: &mut String,

@@ -1,7 +1,7 @@
-//! The doors of a served site: where its tills, its dispensers and the owner connect.
-use crate::sockets::{Beside, Listening, SocketFile, listen_at};
+//! The doors of a served site: the ports and sockets where its tills, its dispensers and the owner connect.
+use crate::sockets::{Listening, SocketFile, StagingFolder, listen_at};
 use site_config::{Address, Door};
-use site_files::{FAILED, Place, Stop};
+use site_files::{FAILED, JobError, Place};
 use site_server::{Listener, OpenDoor};
 use std::alloc::AllocError;
 use std::fmt::{self, Display};
@@ -10,9 +10,9 @@ use std::io::{self, ErrorKind};
 use std::net::{Net, TcpListener, TcpStream};
 use till_request::Role;
 
-/// The open doors of a site, and the files of those that are sockets.
+/// The open doors of a site, and the files of those doors that are local sockets.
 #[derive(Drop)]
-pub struct Opened<'a> {
+pub struct BoundDoors<'a> {
     pub doors: Vec<OpenDoor>,
     pub files: Vec<SocketFile<'a>>,
 }
@@ -33,8 +33,8 @@ impl Display for Name {
     }
 }
 
-/// Writes the word `points`, and then the numbers of some points: if bit p of the value `points` is set, point p + 1 is
-/// one of them.
+/// Writes the numbers of some points, in the form `points 1 3`. Point p + 1 is one of them if bit p of the argument
+/// `points` is set.
 fn write_points<W: fmt::Write>(f: &mut fmt::Formatter<W>, points: u32) -> fmt::Result {
     f.write_str("points")?;
     for place in 0..32u32 {
@@ -54,9 +54,8 @@ fn are_ports(doors: &[Door]) -> bool {
     true
 }
 
-/// Writes the address of a door: a port or a socket's path. A port has `127.0.0.1:` before it, unless `are_ports`. The
-/// caller sets `are_ports` if all doors are ports: the printed list of the doors then has `127.0.0.1:` once, at its
-/// start.
+/// Writes the address of a door: a port or a socket's path. `are_ports` says whether all doors in the printed list are
+/// ports. If so, the list has `127.0.0.1:` once, at its start. Otherwise `127.0.0.1:` is written before each port.
 fn write_address<W: fmt::Write>(
     f: &mut fmt::Formatter<W>,
     address: &Address,
@@ -72,12 +71,12 @@ fn write_address<W: fmt::Write>(
 /// The list of the open doors, as it is printed for an operator. The port on which a browser can look at the site comes
 /// last, if there is one.
 #[derive(Clone, Copy)]
-pub struct OpenDoors<'a> {
+pub struct DoorListing<'a> {
     pub doors: &'a [Door],
     pub page_port: Option<u32>,
 }
 
-impl Display for OpenDoors<'_> {
+impl Display for DoorListing<'_> {
     fn fmt<W: fmt::Write>(&self, f: &mut fmt::Formatter<W>) -> fmt::Result {
         let are_ports = are_ports(self.doors);
         f.write_str(if are_ports {
@@ -99,8 +98,8 @@ impl Display for OpenDoors<'_> {
     }
 }
 
-/// Returns the file mode of a socket for this role. Only the program's own user may connect to the owner's socket. To
-/// the other sockets the user's group may connect too.
+/// Returns the file mode of a socket for this role. Only the program's own user may connect to a socket for `Owner` or
+/// `All`. To the other sockets the user's group may connect too.
 fn mode_of(role: Role) -> u32 {
     match role {
         Role::Owner | Role::All => 0o600,
@@ -108,30 +107,35 @@ fn mode_of(role: Role) -> u32 {
     }
 }
 
-/// Prints why a socket can't be opened, after the name of the configuration's file and the key that names the socket.
-/// The result `Said` has the exit status. If memory ran out in this program, and not in the system, prints nothing, and
-/// returns `Failed`. `word` names the configuration's file.
-fn refuse_socket(rt: &HostRuntime, word: &str, door: &Door, error: io::Error) -> Stop {
+/// Prints why the socket of `door` can't be opened, and returns `AlreadyReported` with the exit status. If memory ran
+/// out in this program (not in the system), prints nothing, and returns `Failed`. `config_name` names the
+/// configuration's file.
+fn refuse_socket(rt: &HostRuntime, config_name: &str, door: &Door, error: io::Error) -> JobError {
     if error.kind() == ErrorKind::OutOfMemory && error.raw_os_error().is_none() {
-        return Stop::Failed(error);
+        return JobError::Failed(error);
     }
-    let (place, key) = (Place::of(word), &door.place);
+    let (place, key) = (Place::of(config_name), &door.place);
     let _ = eprintln!(rt; "fc: {place}: {key}: {error}");
-    Stop::Said(FAILED)
+    JobError::AlreadyReported(FAILED)
 }
 
-/// Prints that the folder in which a socket is bound can't be made, since something else has its name. The result has
-/// the exit status. `word` names the configuration's file.
-fn refuse_folder(rt: &HostRuntime, word: &str, door: &Door, folder: Beside<'_>) -> Stop {
-    let (place, key) = (Place::of(word), &door.place);
+/// Prints that `folder`, in which the socket of `door` is to be bound, can't be made, since something else is there.
+/// Returns `AlreadyReported` with the exit status. `config_name` names the configuration's file.
+fn refuse_folder(
+    rt: &HostRuntime,
+    config_name: &str,
+    door: &Door,
+    folder: StagingFolder<'_>,
+) -> JobError {
+    let (place, key) = (Place::of(config_name), &door.place);
     let _ = eprintln!(rt; "fc: {place}: {key}: {folder} is in the way");
-    Stop::Said(FAILED)
+    JobError::AlreadyReported(FAILED)
 }
 
-/// Prints why a port can't be opened. The result has the exit status.
-pub fn refuse_port(rt: &HostRuntime, port: u32, error: io::Error) -> Stop {
+/// Prints why a port can't be opened. Returns `AlreadyReported` with the exit status.
+pub fn refuse_port(rt: &HostRuntime, port: u32, error: io::Error) -> JobError {
     let _ = eprintln!(rt; "fc: port {port}: {error}");
-    Stop::Said(FAILED)
+    JobError::AlreadyReported(FAILED)
 }
 
 /// Opens a port. If it can't be opened, prints why; the error has the exit status.
@@ -139,14 +143,14 @@ fn open_port<H: Net<Listener = TcpListener, Stream = TcpStream>>(
     rt: &HostRuntime,
     host: &H,
     port: u32,
-) -> Result<Listener, Stop> {
+) -> Result<Listener, JobError> {
     match Listener::on_port(host, port) {
         Ok(listener) => Ok(listener),
         Err(error) => Err(refuse_port(rt, port, error)),
     }
 }
 
-impl<'a> Opened<'a> {
+impl<'a> BoundDoors<'a> {
     fn add(&mut self, door: &Door, listener: Listener) -> Result<(), AllocError> {
         self.doors.push(OpenDoor {
             role: door.role,
@@ -162,56 +166,56 @@ impl<'a> Opened<'a> {
         self.add(door, Listener::Socket(listener))
     }
 
-    /// Opens a door, and adds it to `doors`. If it is a socket, adds its file to `files`. If the door can't be opened,
-    /// prints why; the error `Said` has the exit status. The error `Failed` means that memory ran out, which isn't
-    /// printed yet. `word` names the configuration's file.
+    /// Opens `door`, and adds it to `self.doors`. Adds a socket's file to `self.files`. If the door can't be opened,
+    /// prints why, and returns `AlreadyReported` with the exit status. The error `Failed` means that memory ran out,
+    /// which isn't printed yet.
     fn open<H: Files + Net<Listener = TcpListener, Stream = TcpStream>>(
         &mut self,
         rt: &'a HostRuntime,
         host: &H,
-        word: &str,
+        config_name: &str,
         door: &'a Door,
-    ) -> Result<(), Stop> {
+    ) -> Result<(), JobError> {
         match &door.address {
             Address::Port(port) => Ok(self.add(door, open_port(rt, host, *port)?)?),
             Address::Socket(path) => match listen_at(rt, host, path, mode_of(door.role)) {
                 Ok(Some(listening)) => Ok(self.add_socket(door, listening)?),
-                Ok(None) => Err(refuse_folder(rt, word, door, Beside(path))),
-                Err(error) => Err(refuse_socket(rt, word, door, error)),
+                Ok(None) => Err(refuse_folder(rt, config_name, door, StagingFolder(path))),
+                Err(error) => Err(refuse_socket(rt, config_name, door, error)),
             },
         }
     }
 
-    /// Opens doors in their order, up to the first that can't be opened. The error is that of `open` for this door.
+    /// Opens doors in their order, until one can't be opened. The error is that of `open` for this door.
     fn open_all<H: Files + Net<Listener = TcpListener, Stream = TcpStream>>(
         &mut self,
         rt: &'a HostRuntime,
         host: &H,
-        word: &str,
+        config_name: &str,
         doors: &'a [Door],
-    ) -> Result<(), Stop> {
+    ) -> Result<(), JobError> {
         for door in doors {
-            self.open(rt, host, word, door)?;
+            self.open(rt, host, config_name, door)?;
         }
         Ok(())
     }
 }
 
-/// Opens the doors of a configuration in their order. If one can't be opened, prints why; the error `Said` has the exit
-/// status. The error `Failed` means that memory ran out, which isn't printed yet. After either error, the doors that
-/// were opened are closed again. `word` names the configuration's file.
+/// Opens `doors` in their order. If one can't be opened, prints why, and returns `AlreadyReported` with the exit
+/// status. The error `Failed` means that memory ran out, which isn't printed yet. After either error, none of these
+/// doors stays open. `config_name` names the configuration's file.
 pub fn open_doors<'a, H: Files + Net<Listener = TcpListener, Stream = TcpStream>>(
     rt: &'a HostRuntime,
     host: &H,
-    word: &str,
+    config_name: &str,
     doors: &'a [Door],
-) -> Result<Opened<'a>, Stop> {
-    let mut opened = Opened {
+) -> Result<BoundDoors<'a>, JobError> {
+    let mut opened = BoundDoors {
         doors: Vec::new(rt.alloc()),
         files: Vec::new(rt.alloc()),
     };
-    match opened.open_all(rt, host, word, doors) {
+    match opened.open_all(rt, host, config_name, doors) {
         Ok(()) => Ok(opened),
-        Err(stop) => Err(stop),
+        Err(job_error) => Err(job_error),
     }
 }

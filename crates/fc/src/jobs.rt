@@ -1,42 +1,43 @@
-//! The jobs of the program, and the function that does each of them.
-use crate::kept::{After, serve_days, serve_kept};
+//! Does the job that a command line asks for.
+use crate::kept::{AnswerAfter, serve_days, serve_kept};
 use crate::printed::serve_printed;
 use command_line::{Job, ServeJob};
-use file_jobs::Tell;
+use file_jobs::PrintRequest;
 use file_jobs::audits::audit_files;
 use file_jobs::carry::carry_files;
 use file_jobs::chained::audit_folder;
 use file_jobs::export::export_files;
 use file_jobs::plays::{play_files, play_input};
-use file_jobs::programs::tell_file;
+use file_jobs::programs::print_file;
 use file_jobs::report::report_files;
-use site_files::faults::say;
-use site_files::{DONE, Folder, SiteFiles, Stop};
+use site_files::faults::print_output;
+use site_files::{DONE, Folder, JobError, SiteFiles};
 use std::fs::Files;
 use std::net::{Net, TcpListener, TcpStream};
 use std::sync::Wait;
 use std::thread::Threads;
 use std::time::Clock;
 
-/// Does a job, and returns the exit status. Faults of files and devices are printed on standard error. The error is why
-/// the job ended before it was done: the reason of `Said` is printed already, and that of `Failed` isn't yet.
+/// Does a job, and returns the exit status. Faults of files and devices are printed on standard error. An error means
+/// that the job ended before it was done: `AlreadyReported` has the exit status, and the reason is printed already;
+/// `Failed` has the reason, which isn't printed yet.
 ///
-/// `host` is the same runtime as `rt`, but has a type that can start threads and open sockets. Only `main` can borrow
+/// `host` must be the same runtime as `rt`, with a type that can start threads and open sockets. Only `main` can borrow
 /// the runtime with this type.
 pub fn do_job<
     H: Files + Net<Listener = TcpListener, Stream = TcpStream> + Threads + Wait + Clock + Sync,
->(rt: &HostRuntime, host: &H, job: &Job) -> Result<u8, Stop> {
+>(rt: &HostRuntime, host: &H, job: &Job) -> Result<u8, JobError> {
     match job {
         Job::NoWords => play_input(rt),
-        Job::Show(text) => Ok(say(rt, text, DONE)),
-        Job::Asm(file) => tell_file(rt, file, Tell::Asm),
-        Job::Dis(file) => tell_file(rt, file, Tell::Dis),
-        Job::DisUnits(file) => tell_file(rt, file, Tell::DisUnits),
+        Job::Show(text) => Ok(print_output(rt, text, DONE)),
+        Job::Asm(file) => print_file(rt, file, PrintRequest::Asm),
+        Job::Dis(file) => print_file(rt, file, PrintRequest::Dis),
+        Job::DisUnits(file) => print_file(rt, file, PrintRequest::DisUnits),
         Job::Verify {
             counters,
             context,
             file,
-        } => tell_file(rt, file, Tell::Verify(*counters, *context)),
+        } => print_file(rt, file, PrintRequest::Verify(*counters, *context)),
         Job::Play {
             opening,
             config,
@@ -72,7 +73,7 @@ pub fn do_job<
 /// Serves a site, and returns the exit status. The errors mean the same as those of `do_job`.
 fn serve<
     H: Files + Net<Listener = TcpListener, Stream = TcpStream> + Threads + Wait + Clock + Sync,
->(rt: &HostRuntime, host: &H, job: &ServeJob) -> Result<u8, Stop> {
+>(rt: &HostRuntime, host: &H, job: &ServeJob) -> Result<u8, JobError> {
     match job {
         ServeJob::Printed { opening, config } => {
             serve_printed(rt, host, site_files(config, opening))
@@ -81,12 +82,24 @@ fn serve<
             opening,
             config,
             journal,
-        } => serve_kept(rt, host, site_files(config, opening), journal, After::Write),
+        } => serve_kept(
+            rt,
+            host,
+            site_files(config, opening),
+            journal,
+            AnswerAfter::Write,
+        ),
         ServeJob::Synced {
             opening,
             config,
             journal,
-        } => serve_kept(rt, host, site_files(config, opening), journal, After::Sync),
+        } => serve_kept(
+            rt,
+            host,
+            site_files(config, opening),
+            journal,
+            AnswerAfter::Sync,
+        ),
         ServeJob::Days {
             folder,
             config,
@@ -99,8 +112,12 @@ fn serve<
     }
 }
 
-fn after(is_synced: bool) -> After {
-    if is_synced { After::Sync } else { After::Write }
+fn after(is_synced: bool) -> AnswerAfter {
+    if is_synced {
+        AnswerAfter::Sync
+    } else {
+        AnswerAfter::Write
+    }
 }
 
 fn site_files<'a>(config: &'a String, opening: &'a Option<String>) -> SiteFiles<'a> {

@@ -1,17 +1,17 @@
-//! What looks at a petrol station's site while it is served: its page port, if it has one.
-use page_port::{Connections, PagePort};
+//! Shows a site on its page port, if it has one, while the site is served.
+use page_port::{ConnectionCounts, PagePort};
 use site_server::{Forecourt, Journal, SiteLedger, Watcher};
 use std::sync::Wait;
 use std::thread::Threads;
 use std::time::Clock;
 
-/// The watcher of a served site: its page port. Without a port nobody looks at the site.
+/// The watcher of a served site, which shows the site on its page port. Without a port the watcher does nothing.
 #[derive(Drop)]
-pub struct Lookers<'a>(pub Option<PagePort<'a>>);
+pub struct PageWatcher<'a>(pub Option<PagePort<'a>>);
 
-impl Lookers<'_> {
+impl PageWatcher<'_> {
     /// Returns the counts of the site's workers and of their connections, or `None` if there is no page port.
-    pub fn connections(&self) -> Option<&Connections> {
+    pub fn connections(&self) -> Option<&ConnectionCounts> {
         match &self.0 {
             Some(port) => Some(port.connections()),
             None => None,
@@ -19,7 +19,7 @@ impl Lookers<'_> {
     }
 }
 
-impl Watcher for Lookers<'_> {
+impl Watcher for PageWatcher<'_> {
     fn watch<L: SiteLedger + Send + Sync, J: Journal + Send, R: Threads + Wait + Clock + Sync>(
         &self,
         rt: &R,

@@ -15,48 +15,47 @@ mod sockets;
 use command_line::words::command;
 use command_line::{CommandFault, Job};
 use jobs::do_job;
-use site_files::faults::{out_of_memory, tell};
-use site_files::{FAILED, Stop, USAGE};
+use site_files::faults::{print_message, report_out_of_memory};
+use site_files::{FAILED, JobError, USAGE};
 use std::io::{self, ErrorKind};
 use std::process::ExitCode;
 
 /// Returns the arguments of the command line, the program's name first. The error is that an argument isn't UTF-8, or
 /// that memory ran out.
-fn words_of(rt: &HostRuntime) -> io::Result<Vec<String>> {
+fn arguments(rt: &HostRuntime) -> io::Result<Vec<String>> {
     let words = std::env::args(rt)?.collect(rt.alloc())?;
     Ok(words)
 }
 
-/// Parses the arguments of the command line as a job. If they aren't valid, prints why on standard error; the error
-/// `Said` has the exit status. If memory ran out, the error is `Said`, once that is printed, or `Failed`, which isn't
-/// printed yet.
-fn job_of(rt: &HostRuntime) -> Result<Job, Stop> {
-    let words = match words_of(rt) {
+/// Returns the job that the arguments of the command line ask for. If they aren't valid, prints why on standard error;
+/// the error `AlreadyReported` has the exit status. If memory ran out, the error is `AlreadyReported` if that is
+/// printed already, or else `Failed`.
+fn job_of(rt: &HostRuntime) -> Result<Job, JobError> {
+    let words = match arguments(rt) {
         Ok(words) => words,
-        Err(error) if error.kind() == ErrorKind::OutOfMemory => return Err(Stop::Failed(error)),
-        // The only other cause is an argument that isn't UTF-8.
+        Err(error) if error.kind() == ErrorKind::OutOfMemory => return Err(JobError::Failed(error)),
+        // Any other error is that an argument isn't UTF-8.
         Err(_) => {
-            tell(rt, &"the words are not text; see fc --help");
-            return Err(Stop::Said(USAGE));
+            print_message(rt, &"the words are not text; see fc --help");
+            return Err(JobError::AlreadyReported(USAGE));
         }
     };
     match command(rt.alloc(), words) {
         Ok(job) => Ok(job),
         Err(CommandFault::Usage(text)) => {
             let _ = eprint!(rt; "{text}");
-            Err(Stop::Said(USAGE))
+            Err(JobError::AlreadyReported(USAGE))
         }
-        Err(CommandFault::OutOfMemory) => Err(Stop::Said(out_of_memory(rt))),
+        Err(CommandFault::OutOfMemory) => Err(JobError::AlreadyReported(report_out_of_memory(rt))),
     }
 }
 
-/// Returns the exit status of a job that was done, or that stopped. If the job stopped with `Failed`, prints the error,
-/// which wasn't printed yet.
-fn status_of(rt: &HostRuntime, done: Result<u8, Stop>) -> u8 {
+/// Returns the exit status for `done`, the result of a job. If `done` is the error `Failed`, prints its reason.
+fn status_of(rt: &HostRuntime, done: Result<u8, JobError>) -> u8 {
     match done {
-        Ok(status) | Err(Stop::Said(status)) => status,
-        Err(Stop::Failed(error)) => {
-            tell(rt, &error);
+        Ok(status) | Err(JobError::AlreadyReported(status)) => status,
+        Err(JobError::Failed(error)) => {
+            print_message(rt, &error);
             FAILED
         }
     }
@@ -65,7 +64,7 @@ fn status_of(rt: &HostRuntime, done: Result<u8, Stop>) -> u8 {
 fn main(rt: HostRuntime) -> ExitCode {
     let done = match job_of(&rt) {
         Ok(job) => do_job(&rt, &rt, &job),
-        Err(stop) => Err(stop),
+        Err(job_error) => Err(job_error),
     };
     ExitCode::from(status_of(&rt, done))
 }

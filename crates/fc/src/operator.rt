@@ -1,5 +1,5 @@
 //! The lines that are printed for an operator on standard error while a site is served.
-use page_port::Connections;
+use page_port::ConnectionCounts;
 use site_server::{Limiter, Notices, SessionFailure, SessionFault};
 use std::fmt::{self, Display};
 use std::io;
@@ -7,14 +7,14 @@ use std::sync::{Mutex, Wait};
 use std::time::{Clock, SystemTime, UNIX_EPOCH};
 use till_request::{LineFault, Role};
 
-/// Prints reports for an operator on standard error: at most ten a second. If reports were held back, a line before the
-/// next printed report says how many. If nobody reads the reports, the site is served all the same.
+/// Prints reports for an operator on standard error, at most ten a second. Further reports are left out, and a line
+/// before the next printed report says how many. If a report can't be printed, the site is served all the same.
 #[derive(Drop)]
-pub struct Operator<'a, H: Wait + Clock> {
+pub struct OperatorReports<'a, H: Wait + Clock> {
     rt: &'a HostRuntime,
     host: &'a H,
     limiter: Mutex<Limiter>,
-    connections: Option<&'a Connections>,
+    connections: Option<&'a ConnectionCounts>,
 }
 
 /// The name that is printed for the peer of a worker with this role, such as `till 3` or `a dispenser`.
@@ -32,8 +32,8 @@ impl Display for Peer {
     }
 }
 
-/// Returns the number of the fault that ended a session, in brackets and with a blank before it. Returns an empty text
-/// if the fault has no number.
+/// Returns the number of the fault that ended a session, in brackets and with a blank before it, such as ` (L1)`.
+/// Returns an empty text if the fault has no number.
 fn code_of(failure: SessionFailure) -> &'static str {
     match failure {
         SessionFailure::Line(LineFault::TooLong) => " (L1)",
@@ -49,15 +49,15 @@ fn code_of(failure: SessionFailure) -> &'static str {
     }
 }
 
-impl<'a, H: Wait + Clock> Operator<'a, H> {
-    /// Makes the printer of an operator's reports, with none printed yet. If `connections` is given, workers and
-    /// connections are counted in it. `host` is the same runtime as `rt`.
+impl<'a, H: Wait + Clock> OperatorReports<'a, H> {
+    /// Makes a printer that has printed no report yet. It counts in `connections`, if given, the connections that open
+    /// or end, and the workers that have served their last one. `host` must be the same runtime as `rt`.
     pub fn new(
         rt: &'a HostRuntime,
         host: &'a H,
-        connections: Option<&'a Connections>,
-    ) -> Operator<'a, H> {
-        Operator {
+        connections: Option<&'a ConnectionCounts>,
+    ) -> OperatorReports<'a, H> {
+        OperatorReports {
             rt,
             host,
             limiter: Mutex::new(Limiter::new()),
@@ -66,7 +66,7 @@ impl<'a, H: Wait + Clock> Operator<'a, H> {
     }
 
     /// Returns the current time in whole seconds since the start of 1970. If the clock can't be read, or is before
-    /// 1970, returns 0, so that all lines count for one second.
+    /// 1970, returns 0: then all reports count for one second.
     fn second(&self) -> u64 {
         match SystemTime::now(self.host) {
             Ok(time) => match time.duration_since(UNIX_EPOCH) {
@@ -77,8 +77,8 @@ impl<'a, H: Wait + Clock> Operator<'a, H> {
         }
     }
 
-    /// Returns whether one more line is allowed to be printed now. If so, and if lines were held back before it, prints
-    /// how many.
+    /// Returns whether a report is allowed to be printed now. If so, first prints how many reports were left out since
+    /// the last printed one, if any.
     fn is_admitted(&self) -> bool {
         let admitted = self.limiter.lock(self.host).admit(self.second());
         match admitted {
@@ -92,11 +92,11 @@ impl<'a, H: Wait + Clock> Operator<'a, H> {
     }
 }
 
-impl<H: Wait + Clock> Notices for Operator<'_, H> {
+impl<H: Wait + Clock> Notices for OperatorReports<'_, H> {
     // What is printed on standard error has no contract.
-    ghost failure_told = { λ _ _ _. Unit {0} };
+    ghost failure_reported = { λ _ _ _. Unit {0} };
 
-    ghost end_told = { λ _ _. Unit {0} };
+    ghost end_reported = { λ _ _. Unit {0} };
 
     fn accept_failed(&self, role: Role, pass: u32, error: &io::Error) {
         if self.is_admitted() {

@@ -6,16 +6,16 @@ use std::net::Net;
 use std::os::unix::fs::{FileTypeExt, MetadataExt, PermissionsExt};
 use std::os::unix::net::{UnixListener, UnixStream};
 
-/// How many bytes a socket's path can have at most. The system takes at most 107 bytes, and a socket is first bound at
-/// another path, which is three bytes longer.
+/// The most bytes of a socket's path. The system takes at most 107 bytes, and a socket is first bound at another path,
+/// which is three bytes longer.
 const MOST_BYTES: usize = 104;
 
-/// The folder in which the socket of a path is bound, before its file is moved to the path. The folder is beside the
-/// path, and its name is the path's last name with a dot before it.
+/// The folder in which a socket is bound before its file is moved to this path. For the path `run/tills` the folder is
+/// `run/.tills`.
 #[derive(Clone, Copy)]
-pub struct Beside<'a>(pub &'a str);
+pub struct StagingFolder<'a>(pub &'a str);
 
-impl Display for Beside<'_> {
+impl Display for StagingFolder<'_> {
     fn fmt<W: fmt::Write>(&self, f: &mut fmt::Formatter<W>) -> fmt::Result {
         match self.0.rsplit_once('/') {
             Some((folder, name)) => write!(f, "{folder}/.{name}"),
@@ -24,7 +24,7 @@ impl Display for Beside<'_> {
     }
 }
 
-/// The kind of a file that was found at a path, and which file it is: its device, and its inode on that device.
+/// A file that was found at a path: its kind, and which file it is, by its device and its inode on that device.
 #[derive(Clone, Copy)]
 struct Found {
     kind: FileType,
@@ -32,7 +32,8 @@ struct Found {
     inode: u64,
 }
 
-/// Returns which file is at a path. If it is a link, the link itself is meant.
+/// Returns which file is at a path. If it is a link, the link itself is meant. The error is the system's: `NotFound` if
+/// nothing is there.
 fn find(rt: &HostRuntime, path: &str) -> io::Result<Found> {
     match fs::symlink_metadata(rt, path) {
         Ok(there) => Ok(Found {
@@ -44,8 +45,8 @@ fn find(rt: &HostRuntime, path: &str) -> io::Result<Found> {
     }
 }
 
-/// The file of a socket that this process bound. It is removed when this is dropped, unless another file is now at its
-/// path.
+/// The file of a socket that this process bound. When this value is dropped, the file is removed, unless another file
+/// is now at its path.
 pub struct SocketFile<'a> {
     rt: &'a HostRuntime,
     path: &'a str,
@@ -73,8 +74,8 @@ impl Drop for SocketFile<'_> {
 pub type Listening<'a> = (UnixListener, SocketFile<'a>);
 
 /// Returns an error if somebody listens at a socket, or if that can't be found out. To find out, this connects to the
-/// socket, and a site that is served there counts it as a connection.
-fn ask<H: Net>(host: &H, path: &str) -> io::Result<()> {
+/// socket; a site that is served there counts this as a connection.
+fn check_nobody_listens<H: Net>(host: &H, path: &str) -> io::Result<()> {
     match UnixStream::connect(host, path) {
         Ok(_) => Err(io::Error::new(ErrorKind::AddrInUse, "another process listens there")),
         Err(error) => match error.kind() {
@@ -84,17 +85,18 @@ fn ask<H: Net>(host: &H, path: &str) -> io::Result<()> {
     }
 }
 
-/// Checks that a path is free: nothing is there, or a socket at which nobody listens.
-fn find_free<H: Net>(rt: &HostRuntime, host: &H, path: &str) -> io::Result<()> {
+/// Checks that a path is free: nothing is there, or a socket at which nobody listens. If it isn't free, or if that
+/// can't be found out, returns an error.
+fn check_path_free<H: Net>(rt: &HostRuntime, host: &H, path: &str) -> io::Result<()> {
     match find(rt, path) {
-        Ok(there) if there.kind.is_socket() => ask(host, path),
+        Ok(there) if there.kind.is_socket() => check_nobody_listens(host, path),
         Ok(_) => Err(io::Error::other("another kind of file is there")),
         Err(error) if error.kind() == ErrorKind::NotFound => Ok(()),
         Err(error) => Err(error),
     }
 }
 
-/// Returns whether an entry of a folder is a socket with the name `s`.
+/// Returns whether an entry of a folder is a socket with the name `s`. The error is the system's.
 fn is_socket_s(entry: io::Result<DirEntry>) -> io::Result<bool> {
     let entry = entry?;
     if entry.file_name() != "s" {
@@ -106,9 +108,9 @@ fn is_socket_s(entry: io::Result<DirEntry>) -> io::Result<bool> {
     }
 }
 
-/// Returns whether a killed process may have left what is at this path: a folder that is empty, or has only a socket
-/// with the name `s`.
-fn is_left(rt: &HostRuntime, folder: &str) -> io::Result<bool> {
+/// Returns whether a killed process could have left what is at the path `folder`: a folder that is empty, or has only a
+/// socket with the name `s`. The error is the system's.
+fn is_leftover_folder(rt: &HostRuntime, folder: &str) -> io::Result<bool> {
     if !find(rt, folder)?.kind.is_dir() {
         return Ok(false);
     }
@@ -121,7 +123,7 @@ fn is_left(rt: &HostRuntime, folder: &str) -> io::Result<bool> {
     Ok(true)
 }
 
-/// Removes a file, if there is one.
+/// Removes the file at a path. If there is none, does nothing. The error is the system's.
 fn remove(rt: &HostRuntime, path: &str) -> io::Result<()> {
     match fs::remove_file(rt, path) {
         Err(error) if error.kind() != ErrorKind::NotFound => Err(error),
@@ -129,38 +131,44 @@ fn remove(rt: &HostRuntime, path: &str) -> io::Result<()> {
     }
 }
 
-/// Removes `folder`, the folder beside a path, if a killed process may have left it, and makes it again. Returns false,
-/// and removes nothing, if no killed process can have left what is there. `socket` is the path of the socket in the
-/// folder. If somebody listens there, that is an error.
-fn make_again<H: Net>(rt: &HostRuntime, host: &H, folder: &str, socket: &str) -> io::Result<bool> {
-    if !is_left(rt, folder)? {
+/// If a killed process could have left `folder`, perhaps with the socket `socket` in it, removes both, makes the folder
+/// again, and returns true. Otherwise returns false, and removes nothing. The error is the system's, or that somebody
+/// listens at `socket`.
+fn replace_leftover_folder<H: Net>(
+    rt: &HostRuntime,
+    host: &H,
+    folder: &str,
+    socket: &str,
+) -> io::Result<bool> {
+    if !is_leftover_folder(rt, folder)? {
         return Ok(false);
     }
-    find_free(rt, host, socket)?;
+    check_path_free(rt, host, socket)?;
     remove(rt, socket)?;
     fs::remove_dir(rt, folder)?;
     rt.create_dir_with_mode(folder, 0o700)?;
     Ok(true)
 }
 
-/// Makes the folder beside a path, which nobody else may enter. A folder that a killed process may have left there is
-/// replaced. Returns false if anything else has the folder's name. `socket` is the path of the socket in the folder.
+/// Makes `folder`, which nobody else may enter. Replaces a folder that a killed process could have left there, perhaps
+/// with the socket `socket` in it. Returns false if anything else is at `folder`. The error is the system's, or that
+/// somebody listens at `socket`.
 fn make_folder<H: Net>(rt: &HostRuntime, host: &H, folder: &str, socket: &str) -> io::Result<bool> {
     match rt.create_dir_with_mode(folder, 0o700) {
         Ok(()) => Ok(true),
         Err(error) if error.kind() == ErrorKind::AlreadyExists => {
-            make_again(rt, host, folder, socket)
+            replace_leftover_folder(rt, host, folder, socket)
         }
         Err(error) => Err(error),
     }
 }
 
-/// Gives a socket's file, which has the name `socket`, the second name `path`. If `path` already is the name of a
-/// socket at which nobody listens, this socket is removed first. Anything else at `path` is an error.
-fn put_at<H: Net>(rt: &HostRuntime, host: &H, socket: &str, path: &str) -> io::Result<()> {
+/// Gives the socket's file at `socket` a second name, `path`. If a socket at which nobody listens is already at `path`,
+/// removes that one first. Anything else at `path` is an error.
+fn link_to<H: Net>(rt: &HostRuntime, host: &H, socket: &str, path: &str) -> io::Result<()> {
     match fs::hard_link(rt, socket, path) {
         Err(error) if error.kind() == ErrorKind::AlreadyExists => {
-            find_free(rt, host, path)?;
+            check_path_free(rt, host, path)?;
             remove(rt, path)?;
             fs::hard_link(rt, socket, path)
         }
@@ -168,7 +176,8 @@ fn put_at<H: Net>(rt: &HostRuntime, host: &H, socket: &str, path: &str) -> io::R
     }
 }
 
-/// Sets the mode of a bound socket's file, and moves the file from `socket` to `path`.
+/// Gives the file of a bound socket this mode, moves it from `socket` to `path`, and returns it. Replaces a socket at
+/// `path` at which nobody listens. Anything else at `path` is an error; the other errors are the system's.
 fn move_to<'a, H: Net>(
     rt: &'a HostRuntime,
     host: &H,
@@ -178,7 +187,7 @@ fn move_to<'a, H: Net>(
 ) -> io::Result<SocketFile<'a>> {
     fs::set_permissions(rt, socket, Permissions::from_mode(mode))?;
     let there = find(rt, socket)?;
-    put_at(rt, host, socket, path)?;
+    link_to(rt, host, socket, path)?;
     // If the name `socket` can't be removed, `file` is dropped, and so the name `path` is removed too.
     let file = SocketFile {
         rt,
@@ -192,8 +201,8 @@ fn move_to<'a, H: Net>(
     }
 }
 
-/// Binds a socket at `socket`, and moves its file to `path`. If the file can't be moved, it is removed. The result is
-/// never `None`.
+/// Binds a socket at `socket`, gives its file this mode, and moves the file to `path`. If that fails after the socket
+/// is bound, removes the file. The error is why it failed. The result is never `None`.
 fn bind_and_move<'a, H: Files + Net>(
     rt: &'a HostRuntime,
     host: &H,
@@ -201,7 +210,7 @@ fn bind_and_move<'a, H: Files + Net>(
     path: &'a str,
     mode: u32,
 ) -> io::Result<Option<Listening<'a>>> {
-    // If this fails, and a socket has this name, then it belongs to another process, so it isn't removed.
+    // If this fails, and a socket has this name, another process bound it, so it isn't removed.
     let listener = UnixListener::bind(host, socket)?;
     match move_to(rt, host, socket, path, mode) {
         Ok(file) => Ok(Some((listener, file))),
@@ -212,8 +221,9 @@ fn bind_and_move<'a, H: Files + Net>(
     }
 }
 
-/// Makes the folder beside a path, binds a socket in it, moves the socket's file to the path, and removes the folder.
-/// Returns `None` if something else has the folder's name already, which no killed process can have left there.
+/// Makes `folder`, binds a socket in it, gives the socket's file this mode, moves the file to `path`, and removes the
+/// folder. Returns `None` if something that no killed process could have left is already at `folder`. The error is why
+/// no socket was bound, or why its file wasn't moved.
 fn bind_beside<'a, H: Files + Net>(
     rt: &'a HostRuntime,
     host: &H,
@@ -232,13 +242,13 @@ fn bind_beside<'a, H: Files + Net>(
     made
 }
 
-/// Listens at a path. The socket is bound in a folder that nobody else may enter, and its file is then moved to the
-/// path. So the file has the mode `mode` from the moment at which others can see it. If a socket at which nobody
-/// listens is already at the path, it is replaced. Anything else at the path is an error, and stays as it is. A path of
-/// more than 104 bytes is an error too.
+/// Listens at `path`. The socket is bound in a folder beside `path` that nobody else may enter, and its file is then
+/// moved to `path`. So the file has the mode `mode` as soon as others can see it.
 ///
-/// Returns `None` if something that a killed process can't have left already has the name of that folder. What a killed
-/// process can have left there is removed first; if somebody listens at the socket in it, that is an error.
+/// - A socket at `path` at which nobody listens is replaced. Anything else at `path` is an error, and stays as it is.
+/// - A folder that a killed process could have left beside `path` is replaced. It is an error if somebody listens at
+///   the socket in it. If anything else has the folder's name, the result is `None`.
+/// - A path of more than 104 bytes is an error.
 pub fn listen_at<'a, H: Files + Net>(
     rt: &'a HostRuntime,
     host: &H,
@@ -248,7 +258,7 @@ pub fn listen_at<'a, H: Files + Net>(
     if path.len() > MOST_BYTES {
         return Err(io::Error::other("the path has more than 104 bytes"));
     }
-    find_free(rt, host, path)?;
-    let folder = format!(in rt.alloc(); "{}", Beside(path))?;
+    check_path_free(rt, host, path)?;
+    let folder = format!(in rt.alloc(); "{}", StagingFolder(path))?;
     bind_beside(rt, host, path, &folder, mode)
 }

@@ -1,4 +1,5 @@
--- Definitions: what the words of a job name, and what is done for them (this profile).
+-- Definitions: which rows `fc export` prints for its arguments and in which format, and what `fc asm`, `fc dis` and
+-- `fc verify` print (this profile).
 use Rattle.std.specs.Prelude.{ℕ, List}
 use Rattle.command_line.specs.declared.job.Rows.{Rows}
 use Rattle.command_line.specs.declared.job.Rows.TheVariants as asked
@@ -8,11 +9,11 @@ use Rattle.day_export.specs.declared.cells.Rows.{Rows as DayRows}
 use Rattle.day_export.specs.declared.cells.Rows.TheVariants as rows
 use Rattle.day_export.specs.declared.cells.Format.{Format as RowFormat}
 use Rattle.day_export.specs.declared.cells.Format.TheVariants as format
-use Rattle.job_texts.specs.declared.told.Told.{Told}
-use Rattle.job_texts.specs.Told.{VerifyTells}
-use Rattle.job_texts.specs.Assembler.{AsmTells, DisTells, DisUnitsTells}
-use Rattle.file_jobs.specs.declared.programs.Tell.{Tell}
-use Rattle.file_jobs.specs.declared.programs.Tell.TheVariants as tell
+use Rattle.job_texts.specs.declared.output.JobOutput.{JobOutput}
+use Rattle.job_texts.specs.JobOutput.{VerifyPrints}
+use Rattle.job_texts.specs.Assembler.{AsmPrints, DisPrints, DisUnitsPrints}
+use Rattle.file_jobs.specs.declared.programs.PrintRequest.{PrintRequest}
+use Rattle.file_jobs.specs.declared.programs.PrintRequest.TheVariants as request
 
 abbrev pub rows_of : Rows → DayRows
 rows_of asked.Sales = rows.Sales
@@ -23,9 +24,9 @@ abbrev pub format_of : Format → RowFormat
 format_of form.Csv = format.Csv
 format_of form.Json = format.Json
 
--- `told` is what is printed of a program's file with the bytes `text`, and the exit status.
-abbrev pub TellsFile : Tell → List ℕ → Told → Type 0
-TellsFile tell.Asm text told = AsmTells text told
-TellsFile tell.Dis text told = DisTells text told
-TellsFile tell.DisUnits text told = DisUnitsTells text told
-TellsFile (tell.Verify counters layout) text told = VerifyTells text counters layout told
+-- The output (a text and an exit status) is what the request asks for about a file with these bytes.
+abbrev pub PrintsFile : PrintRequest → List ℕ → JobOutput → Type 0
+PrintsFile request.Asm text output = AsmPrints text output
+PrintsFile request.Dis text output = DisPrints text output
+PrintsFile request.DisUnits text output = DisUnitsPrints text output
+PrintsFile (request.Verify counters layout) text output = VerifyPrints text counters layout output

@@ -1,24 +1,24 @@
--- Definitions: the audit of all days: which day comes next, and the first line in which an opening differs from the one
--- that the day before left (this profile).
+-- Definitions: which day comes next in the audit of all days, and the first line in which a day's opening differs from
+-- the opening that the day before left (this profile).
 use Rattle.std.specs.Prelude.{◌≡◌, ◌≢◌, ◌<◌, ◌≤◌, ℕ, ◌+◌, ◌^◌, ◌==◌, List, [], length, take, drop, count_by, slice_index, slice_index_or, Option, Some, None}
 use Rattle.site_files.specs.Days.{day_after}
 use Rattle.site_files.specs.Lines.{parts_of, IsWhole}
 
--- which day comes after the next one, of days up to the newest; None if there is no next one, or none after it
+-- `turn next newest` is the day after `next`. It is None if `next` is None, or if `next` isn't before `newest`.
 abbrev pub turn : Option ℕ → ℕ → Option ℕ
 turn None newest = None
 turn (Some day) newest = day_after day newest
 
--- The first n bytes of two texts are the same, and the next bytes differ, if both texts have one.
+-- The first `n` bytes of both texts are the same. If both texts are longer, their next bytes differ.
 pub record AgreeFor (text left : List ℕ) (n : ℕ) : Type 0 where
   pub within : n ≤ length text
   pub within_left : n ≤ length left
   pub same : (k : ℕ) → k < n → slice_index text k ≡ slice_index left k
   pub ends : n < length text → n < length left → slice_index text n ≢ slice_index left n
 
--- The number of the first line, counted from 1, in which a text differs from the one that was left (its LF counts too),
--- and this line of what was left, without its LF. The line begins after the last LF of the beginning that both texts
--- share, or at the start if that has no LF.
+-- Line `number`, counted from 1, is the first in which `text` differs from `left` (its LF counts too). `line` is this
+-- line of `left` without its LF, or empty if `left` has no such line. The line begins at byte `start` of both texts,
+-- which have their first `same` bytes in common.
 pub record IsOtherLine (text left : List ℕ) (number : ℕ) (line : List ℕ) : Type 0 where
   pub same : ℕ
   pub agree : AgreeFor text left same

@@ -1,5 +1,5 @@
--- Definitions: the number that is printed for a fault of a program or a script, as in `A1`, and the words that are
--- printed with it (this profile). The number is None for the fault that memory ran out, which has no number.
+-- Definitions: the number that is printed for a fault of a program or a script, such as `A1`, and the words that are
+-- printed with it (this profile). The fault that memory ran out has no number.
 use Rattle.std.specs.Prelude.{ℕ, List, codes, Option, Some, None}
 use Rattle.bpf_asm.specs.declared.program_file.ProgramFileFault.{ProgramFileFault}
 use Rattle.bpf_asm.specs.declared.program_file.ProgramFileFault.TheVariants as file
@@ -15,7 +15,7 @@ file_code file.TooLong = Some (codes "L1")
 file_code file.BadDigits = Some (codes "H1")
 file_code file.OutOfMemory = None
 
--- The number of an assembler text's fault, and the line that it names, if it names one.
+-- The line that a fault of an assembler text names, if it names one, and the fault's number. None if memory ran out.
 abbrev pub asm_code : AsmFault → Option (Option ℕ × List ℕ)
 asm_code (asm.BadLine line) = Some (Some line, codes "A1")
 asm_code (asm.BadLabel line) = Some (Some line, codes "A2")
@@ -23,7 +23,8 @@ asm_code (asm.OutOfRange line) = Some (Some line, codes "A3")
 asm_code asm.Length = Some (None, codes "A4")
 asm_code asm.OutOfMemory = None
 
--- The words and the number for the line at which a script stops. None for a fault after which the next line is read.
+-- The words and the number that are printed for a line that stops a script because it is too long or has no LF. None
+-- for the other faults.
 abbrev pub cut_words : LineFault → Option (List ℕ × List ℕ)
 cut_words line.TooLong = Some (codes "over 8,400 bytes", codes "L1")
 cut_words line.CutLine = Some (codes "the last line has no LF", codes "L4")
@@ -31,8 +32,8 @@ cut_words line.BadLine = None
 cut_words line.BadNumber = None
 cut_words line.OutOfMemory = None
 
--- The number of a fault that breaks a play off. None for the other faults: that the answers can't be written or that
--- memory ran out is printed in another way, and no play ends with the fault `Journal`.
+-- The number that is printed for a play that was broken off: N1 for a failed read, N3 if no more reads were allowed.
+-- None for the other faults, which have no number here.
 abbrev pub session_code : SessionFault → Option (List ℕ)
 session_code session.Read = Some (codes "N1")
 session_code session.ReadsSpent = Some (codes "N3")
@@ -40,8 +41,8 @@ session_code session.Write = None
 session_code session.Journal = None
 session_code session.OutOfMemory = None
 
--- the system's error that is printed in place of a play's fault: that of the last failed read, if the fault is that a
--- read failed
+-- `read_error fault failure` is `failure`, the system's error of a failed read, if `fault` is that a read failed. It is
+-- None for the other faults.
 abbrev pub read_error : {T : Type 0} → SessionFault → Option T → Option T
 read_error session.Read failure = failure
 read_error session.ReadsSpent failure = None

@@ -3,12 +3,12 @@ ghost use Rattle.std.specs.Prelude.{◌≡◌, ◌⊎◌, ◌≤◌, Ok, Err, If
 
 use crate::progress::Progress;
 use line_session::{Ended, SessionFault};
-use site_files::faults::tell_write;
+use site_files::faults::print_write_error;
 use site_files::{Outlet, Source};
 use std::cell::RefCell;
 use std::io::{self, BufWriter, Error, ErrorKind, Printer, Read, Write};
 
-/// A buffered standard output. It keeps the error of its first failed write.
+/// Standard output behind a buffer. The `Outlet` in it keeps the error of the first failed write.
 type Waiting<'a> = BufWriter<Outlet<Printer<'a, HostRuntime>>>;
 
 /// The answers of a play that are buffered for standard output. They are written before more of the script is read, so
@@ -35,7 +35,7 @@ impl<'a> Answers<'a> {
                 Ok(()) => Ok(()),
                 Err(error) => Err(waiting.get_mut().keep(error)),
             },
-            // This never happens, since no borrow of the buffer outlasts a call.
+            // This never happens: each method ends its borrow of the buffer before it returns.
             Err(_) => Err(Error::from(ErrorKind::WouldBlock)),
         }
     }
@@ -57,7 +57,8 @@ impl<'a> Answers<'a> {
     /// Writes the answers that are still buffered. Returns `ended`, or the error `Write` if the play ended well but
     /// this write failed.
     pub fn end(&self, ended: Result<Ended, SessionFault>) -> Result<Ended, SessionFault>
-        ensures { MatchResult ended (λ e. (result ≡ Ok e) ⊎ (result ≡ Err SessionFault.Write)) (λ fault. result ≡ Err fault) }
+        ensures { MatchResult ended (λ e. (result ≡ Ok e) ⊎ (result ≡ Err SessionFault.Write)) (λ fault. result
+            ≡ Err fault) }
     {
         let written = self.flush();
         match ended {
@@ -71,10 +72,10 @@ impl<'a> Answers<'a> {
 
     /// Prints on standard error why the answers couldn't be written. Prints nothing if the reader of standard output
     /// closed the pipe.
-    pub fn tell_failure(&self, rt: &HostRuntime) {
+    pub fn print_failure(&self, rt: &HostRuntime) {
         match self.waiting.try_borrow() {
-            Ok(waiting) => tell_write(rt, waiting.get_ref().failure()),
-            Err(_) => tell_write(rt, None),
+            Ok(waiting) => print_write_error(rt, waiting.get_ref().failure()),
+            Err(_) => print_write_error(rt, None),
         }
     }
 }

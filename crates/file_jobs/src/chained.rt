@@ -2,22 +2,22 @@
 ghost use Rattle.std.specs.Prelude.{◌≡◌, ◌-◌, true, [], None, Some, IfSome, IfNone, Ok, Err, IfOk, IfErr};
 ghost use Rattle.std.specs.Str.{IsUtf8};
 ghost use Rattle.site_files.specs.Asked.{is_input};
-ghost use Rattle.site_files.specs.Statuses.{EndsWith, Fails, SaysOrFails};
+ghost use Rattle.site_files.specs.Statuses.{EndsWith, Fails, IsReportedOrFailed};
 ghost use Rattle.file_jobs.specs.Statuses.{RefusesBeginning, RefusesJournal, RefusesDays};
 ghost use Rattle.file_jobs.specs.Chained.{turn, AgreeFor, IsOtherLine};
 
 use crate::progress::{Watched, watch};
 use days::chain::audit_days;
-use days::{Cause, DayIn, DaysFault, DaysIn, NoDay, Unbegun, Unclosed, Unfollowed, Unleft};
+use days::{Cause, DayIn, DaysFault, DaysIn, NoDay, NoNextOpening, Unbegun, Unclosed, Unfollowed};
 use site_core::Config;
-use site_files::faults::{cannot_use, once_printed, out_of_memory};
+use site_files::faults::{once_printed, report_file_error, report_out_of_memory};
 use site_files::files::{lines_in, text_of};
 use site_files::kept::to_last_lf;
 use site_files::newest::{OfDay, UNOPENED, kept_config, refuse_link, refuse_uncarried};
 use site_files::opening::{opening_bytes, refuse_opening, refuse_unfit, refuse_words};
-use site_files::refused_journals::{explain_journal, refused, tell_journal_fault};
+use site_files::refused_journals::{explain_journal, refused, report_journal_fault};
 use site_files::settings::settings_in;
-use site_files::{DONE, FAILED, Folder, Part, Place, Source, Span, Stop, day_after};
+use site_files::{DONE, FAILED, Folder, JobError, Part, Place, Source, Span, day_after};
 use std::alloc::AllocError;
 use std::fmt::{self, Display};
 use std::io::ErrorKind;
@@ -25,7 +25,7 @@ use std::str;
 use till_request::devices::StreamIn;
 use till_request::parts::first_part;
 
-/// The journal of a day, as it is read.
+/// The device from which a day's journal is read. It shows a progress line.
 type Journal<'a> = Watched<'a, StreamIn<Source>>;
 
 /// The days of a folder, read one after another.
@@ -33,22 +33,22 @@ type Journal<'a> = Watched<'a, StreamIn<Source>>;
 struct FolderIn<'a> {
     rt: &'a HostRuntime,
     folder: Folder<'a>,
-    /// The configuration for each day for which the folder has none.
+    /// The configuration for the days that have none in the folder.
     config: Config,
     /// The next day, or `None` after the newest.
     next: Option<u32>,
     newest: u32,
     /// Why a day couldn't be read, or `None` if each day so far could be read.
-    stop: Option<Stop>,
+    job_error: Option<JobError>,
 }
 
 impl<'a> FolderIn<'a> {
-    /// Makes the input that gives the days of a folder, from the oldest to the newest in `span`. `config` is the
-    /// configuration for each day for which the folder has none.
+    /// Makes the reader of a folder's days, from the oldest to the newest in `span`. `config` is the configuration for
+    /// the days that have none in the folder.
     fn new(rt: &'a HostRuntime, folder: Folder<'a>, config: Config, span: Span) -> FolderIn<'a>
         ensures next { result.next ≡ Some span.oldest }
         ensures newest { result.newest ≡ span.newest }
-        ensures stop { result.stop ≡ None }
+        ensures job_error { result.job_error ≡ None }
     {
         FolderIn {
             rt,
@@ -56,12 +56,11 @@ impl<'a> FolderIn<'a> {
             config,
             next: Some(span.oldest),
             newest: span.newest,
-            stop: None,
+            job_error: None,
         }
     }
 
-    /// Returns the number of the next day, or `None` after the newest day. Then goes on: the day after the returned one
-    /// is the next day, or there is none if the returned one is the newest.
+    /// Returns the number of the next day, and goes on by one day. Returns `None` after the newest day.
     fn turn(&mut self) -> Option<u32>
         ensures day { result ≡ self.old.next }
         ensures next { self.new.next ≡ turn self.old.next self.old.newest }
@@ -72,8 +71,8 @@ impl<'a> FolderIn<'a> {
         Some(number)
     }
 
-    fn day(&self, number: u32) -> Result<DayIn<Journal<'a>>, Stop>
-        ensures { IfErr result (SaysOrFails 1) }
+    fn day(&self, number: u32) -> Result<DayIn<Journal<'a>>, JobError>
+        ensures { IfErr result (IsReportedOrFailed 1) }
     {
         let config = match kept_config(self.rt, self.folder, number)? {
             Some(kept) => kept,
@@ -88,8 +87,8 @@ impl<'a> FolderIn<'a> {
         })
     }
 
-    fn opening(&self, number: u32) -> Result<Option<Vec<u8>>, Stop>
-        ensures { IfErr result (SaysOrFails 1) }
+    fn opening(&self, number: u32) -> Result<Option<Vec<u8>>, JobError>
+        ensures { IfErr result (IsReportedOrFailed 1) }
     {
         if !self.folder.has(self.rt, number, Part::Opening)? {
             return Ok(None);
@@ -97,11 +96,11 @@ impl<'a> FolderIn<'a> {
         let path = self.folder.file(self.rt, number, Part::Opening)?;
         match opening_bytes(self.rt, &path) {
             Ok(bytes) => Ok(Some(bytes)),
-            Err(stop) => Err(stop),
+            Err(job_error) => Err(job_error),
         }
     }
 
-    fn journal(&self, number: u32) -> Result<Option<Journal<'a>>, Stop>
+    fn journal(&self, number: u32) -> Result<Option<Journal<'a>>, JobError>
         ensures { IfErr result Fails }
     {
         let path = self.folder.file(self.rt, number, Part::Journal)?;
@@ -111,7 +110,7 @@ impl<'a> FolderIn<'a> {
                 Ok(Some(watch(self.rt, source, size)))
             }
             Err(error) if error.kind() == ErrorKind::NotFound => Ok(None),
-            Err(error) => Err(Stop::Said(cannot_use(self.rt, &path, &error))),
+            Err(error) => Err(JobError::AlreadyReported(report_file_error(self.rt, &path, &error))),
         }
     }
 }
@@ -124,7 +123,7 @@ impl<'a> DaysIn for FolderIn<'a> {
     /// For proofs: the days that remain aren't known, since no contract knows what the files of a folder hold.
     ghost remaining = { λ _. None };
 
-    ghost failed = { λ s. IsSome s.stop };
+    ghost failed = { λ s. IsSome s.job_error };
 
     fn next_day(&mut self) -> Result<Option<DayIn<Journal<'a>>>, NoDay> {
         let Some(number) = self.turn() else {
@@ -132,21 +131,23 @@ impl<'a> DaysIn for FolderIn<'a> {
         };
         match self.day(number) {
             Ok(day) => Ok(Some(day)),
-            Err(stop) => {
-                self.stop = Some(stop);
+            Err(job_error) => {
+                self.job_error = Some(job_error);
                 Err(NoDay)
             }
         }
     }
 }
 
-/// Audits all days of the folder that the argument `path` names, prints the result, and returns the exit status. `word`
-/// names the configuration for each day for which the folder has none. If a file can't be read, or the days are
-/// refused, prints why; the error `Said` has the exit status. The error `Failed` means that memory ran out, which isn't
-/// printed yet.
-pub fn audit_folder(rt: &HostRuntime, path: &str, word: &str) -> Result<u8, Stop>
+/// Audits all days of the folder that `path` names, prints the result, and returns the exit status. `word` names the
+/// configuration for the days that have none in the folder. The errors are:
+///
+/// - `AlreadyReported` with the exit status: a file can't be read, the configuration or the days are refused, or `path`
+///   is standard input. Then prints why.
+/// - `Failed`: memory ran out. This isn't printed here.
+pub fn audit_folder(rt: &HostRuntime, path: &str, word: &str) -> Result<u8, JobError>
     ensures done { IfOk result (EndsWith 0) }
-    ensures input { is_input path.now ≡ true → result ≡ Err (Stop.Said 2) }
+    ensures input { is_input path.now ≡ true → result ≡ Err (JobError.AlreadyReported 2) }
 {
     let folder = Folder::named(rt, path)?;
     let text = text_of(rt, word)?;
@@ -157,10 +158,17 @@ pub fn audit_folder(rt: &HostRuntime, path: &str, word: &str) -> Result<u8, Stop
     }
 }
 
-/// Audits the days of a folder from its oldest to its newest, prints the result, and returns the exit status. If a day
-/// can't be read or is refused, prints why; the error `Said` has the exit status. The error `Failed` means that memory
-/// ran out, which isn't printed yet.
-fn audit_span(rt: &HostRuntime, folder: Folder<'_>, config: Config, span: Span) -> Result<u8, Stop>
+/// Audits the days of a folder from its oldest to its newest, prints the result, and returns the exit status. The
+/// errors are:
+///
+/// - `AlreadyReported` with the exit status: a day can't be read or is refused. Then prints why.
+/// - `Failed`: memory ran out. This isn't printed here.
+fn audit_span(
+    rt: &HostRuntime,
+    folder: Folder<'_>,
+    config: Config,
+    span: Span,
+) -> Result<u8, JobError>
     ensures { IfOk result (EndsWith 0) }
 {
     if span.oldest > 1 {
@@ -176,14 +184,14 @@ fn audit_span(rt: &HostRuntime, folder: Folder<'_>, config: Config, span: Span) 
     }
 }
 
-/// Prints why the days of a folder are refused, and returns why the job stops, as `refuse_cause` does. The error is
-/// that memory ran out before anything was printed.
+/// Prints why the days of a folder are refused, and returns the job's error, as `refuse_cause` does. The error of this
+/// function is that memory ran out before anything was printed.
 fn refuse_days(
     rt: &HostRuntime,
     days: FolderIn<'_>,
     fault: DaysFault<Journal<'_>>,
-) -> Result<Stop, AllocError>
-    ensures { IfOk result (RefusesDays fault.entry.cause days.entry.stop) }
+) -> Result<JobError, AllocError>
+    ensures { IfOk result (RefusesDays fault.entry.cause days.entry.job_error) }
 {
     let DaysFault { day, cause } = fault;
     let opening = days.folder.file(rt, day, Part::Opening)?;
@@ -191,44 +199,46 @@ fn refuse_days(
     Ok(refuse_cause(rt, days, day, (&opening, &journal), cause))
 }
 
-/// Prints why the days of a folder are refused at this day, and returns why the job stops. `paths` names the day's
-/// opening and its journal. If the day couldn't be read, prints nothing, and returns `days.stop`, the error of reading
-/// the day.
+/// Prints why the days of a folder are refused at this day, and returns the job's error. `paths` names the day's
+/// opening and its journal. If the day couldn't be read, prints nothing, and returns `days.job_error`, the error of
+/// reading the day.
 fn refuse_cause(
     rt: &HostRuntime,
     days: FolderIn<'_>,
     day: u32,
     paths: (&str, &str),
     cause: Cause<Journal<'_>>,
-) -> Stop
-    ensures { RefusesDays cause.entry days.entry.stop result }
+) -> JobError
+    ensures { RefusesDays cause.entry days.entry.job_error result }
 {
     let (opening, journal) = paths;
     match cause {
         // This case never happens: the folder had a day when it was read.
         Cause::NoDays => refuse_folder(rt, days.folder),
-        Cause::Unread => days.stop.unwrap_or(Stop::Said(FAILED)),
-        Cause::Unleft(Unleft::NoJournal) => Stop::Said(refuse_link(
+        Cause::Unread => days.job_error.unwrap_or(JobError::AlreadyReported(FAILED)),
+        Cause::NoNextOpening(NoNextOpening::NoJournal) => JobError::AlreadyReported(refuse_link(
             rt,
             Place::of(journal),
             day,
             &"the day has no journal",
         )),
-        Cause::Unleft(Unleft::Uncarried(why)) => refuse_uncarried(rt, journal, why),
-        Cause::Unfollowed(why) => Stop::Said(refuse_unfollowed(rt, opening, day, why)),
+        Cause::NoNextOpening(NoNextOpening::Uncarried(why)) => refuse_uncarried(rt, journal, why),
+        Cause::Unfollowed(why) => JobError::AlreadyReported(refuse_unfollowed(
+            rt, opening, day, why,
+        )),
         Cause::Unbegun(why) => refuse_unbegun(rt, opening, day, why),
         Cause::Unclosed(why) => refuse_unclosed(rt, journal, why),
     }
 }
 
 /// Prints that a folder has no day. The result has the exit status.
-fn refuse_folder(rt: &HostRuntime, folder: Folder<'_>) -> Stop
-    ensures { result ≡ Stop.Said 1 }
+fn refuse_folder(rt: &HostRuntime, folder: Folder<'_>) -> JobError
+    ensures { result ≡ JobError.AlreadyReported 1 }
 {
     refuse_words(rt, folder.path, &"no day is here")
 }
 
-/// Prints why a day doesn't begin with what the day before left, and returns the exit status.
+/// Prints why a day doesn't begin with the opening that the day before left, and returns the exit status.
 fn refuse_unfollowed(rt: &HostRuntime, opening: &str, day: u32, why: Unfollowed) -> u8
     ensures { EndsWith 1 result }
 {
@@ -245,7 +255,7 @@ fn refuse_unfollowed(rt: &HostRuntime, opening: &str, day: u32, why: Unfollowed)
     }
 }
 
-/// Returns the message for a line that the day before `day` left, or `None` if the line is empty or isn't text.
+/// Returns the message that the day before `day` left `line`. Returns `None` if `line` is empty or isn't UTF-8.
 fn left_line(day: u32, line: &[u8]) -> Option<Left<'_>>
     ensures left { IfSome result (λ left. (left.0 ≡ day - 1) × (left.1.now ≡ line.now)) }
     ensures none { IfNone result (IsUtf8 line.now → line.now ≡ []) }
@@ -261,8 +271,8 @@ fn left_line(day: u32, line: &[u8]) -> Option<Left<'_>>
     }
 }
 
-/// The message for a line of an opening that differs from what the day before left: the number of the day before, and
-/// the line that it left.
+/// The message `day 3 left 'LINE' here`, for a line of an opening that differs from what the day before left. The
+/// fields are the number of the day before, and `LINE`.
 #[derive(Drop)]
 struct Left<'a>(u32, &'a str);
 
@@ -270,15 +280,16 @@ impl Display for Left<'_> {
     ghost use Rattle.std.specs.Prelude.{Some, ◌++◌, codes};
     ghost use Rattle.std.specs.Fmt.{decimal};
 
-    ghost output = { λ left. Some (codes "day " ++ (decimal left.0 ++ (codes " left '" ++ (left.1.now ++ codes "' here")))) };
+    ghost output = { λ left. Some (codes "day " ++ (decimal left.0 ++ (codes " left '" ++ (left.1.now ++ codes
+        "' here")))) };
 
     fn fmt<W: fmt::Write>(&self, f: &mut fmt::Formatter<W>) -> fmt::Result {
         write!(f, "day {} left '{}' here", self.0, self.1)
     }
 }
 
-/// Returns the number of the first line, counted from 1, in which the two texts differ (its LF counts too), and this
-/// line of `left` without its LF. The line is empty if `left` has no such line.
+/// Returns the number of the first line, counted from 1, in which `text` differs from `left` (its LF counts too). Also
+/// returns this line of `left` without its LF, or an empty line if `left` has no such line.
 fn other_line<'a>(text: &[u8], left: &'a [u8]) -> (u64, &'a [u8])
     ensures { IsOtherLine text.now left.now result.0 result.1.now }
 {
@@ -303,37 +314,42 @@ fn same_len(text: &[u8], left: &[u8]) -> usize
     left.len()
 }
 
-/// Prints why a day can't begin with its opening. The result `Said` has the exit status. The result `Failed` means that
-/// memory ran out, which isn't printed yet.
-fn refuse_unbegun(rt: &HostRuntime, opening: &str, day: u32, why: Unbegun) -> Stop
+/// Prints why a day can't begin with its opening. Returns `AlreadyReported` with the exit status. Returns `Failed` if
+/// memory ran out, which isn't printed here.
+fn refuse_unbegun(rt: &HostRuntime, opening: &str, day: u32, why: Unbegun) -> JobError
     ensures { RefusesBeginning why result }
 {
     let place = Place::of(opening);
     match why {
-        Unbegun::NoOpening => Stop::Said(refuse_link(rt, place, day, &UNOPENED)),
+        Unbegun::NoOpening => JobError::AlreadyReported(refuse_link(rt, place, day, &UNOPENED)),
         Unbegun::HasOpening => {
-            Stop::Said(refuse_link(rt, place, day, &"the first day has no opening"))
+            JobError::AlreadyReported(refuse_link(rt, place, day, &"the first day has no opening"))
         }
         Unbegun::Flawed(bytes, flaw) => refuse_opening(rt, opening, &bytes, flaw),
-        Unbegun::OtherDay(other) => Stop::Said(refuse_link(rt, place, day, &OfDay(other))),
+        Unbegun::OtherDay(other) => JobError::AlreadyReported(refuse_link(
+            rt,
+            place,
+            day,
+            &OfDay(other),
+        )),
         Unbegun::Unfit(unfit) => refuse_unfit(rt, opening, unfit),
     }
 }
 
-/// Prints why a day's journal is refused, or why it can't be read. The result `Said` has the exit status. The result
-/// `Failed` means that memory ran out, which isn't printed yet.
-fn refuse_unclosed(rt: &HostRuntime, path: &str, why: Unclosed<Journal<'_>>) -> Stop
+/// Prints why a day's journal is refused, or why it can't be read. Returns `AlreadyReported` with the exit status.
+/// Returns `Failed` if memory ran out, which isn't printed here.
+fn refuse_unclosed(rt: &HostRuntime, path: &str, why: Unclosed<Journal<'_>>) -> JobError
     ensures { RefusesJournal why.entry result }
 {
     match why {
         Unclosed::Text(journal, fault) => {
             journal.progress.clear();
-            tell_journal_fault(rt, path, fault, journal.input.reader.failure())
+            report_journal_fault(rt, path, fault, journal.input.reader.failure())
         }
         Unclosed::History(config, fault) => {
             explain_journal(rt, path, config);
             refused(rt, fault)
         }
-        Unclosed::OutOfMemory(_unread) => Stop::Said(out_of_memory(rt)),
+        Unclosed::OutOfMemory(_unread) => JobError::AlreadyReported(report_out_of_memory(rt)),
     }
 }

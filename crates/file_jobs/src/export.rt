@@ -9,24 +9,26 @@ use command_line::{Format, Rows};
 use day_export::RowsFault;
 use day_export::writing::write_rows;
 use site_core::Site;
-use site_files::faults::{once_printed, out_of_memory};
-use site_files::{DONE, SiteFiles, Stop};
+use site_files::faults::{once_printed, report_out_of_memory};
+use site_files::{DONE, JobError, SiteFiles};
 use std::io::{self, BufWriter, Write};
 
-/// Audits the journal in a file as this site's journal, prints the rows that are asked for, and returns the exit
-/// status. The argument `journal` names the file. If a file is refused or can't be read, or if two files are standard
-/// input, prints what `fc audit` prints, and no rows; the error `Said` has the exit status. The error `Failed` means
-/// that memory ran out, which isn't printed yet.
+/// Audits the journal in the file that `journal` names, as a journal of the site that `site` names. Prints the rows
+/// that are asked for, and returns the exit status. The errors are:
+///
+/// - `AlreadyReported` with the exit status: a file is refused or can't be read, or two files are standard input. Then
+///   prints what `fc audit` prints, and no rows.
+/// - `Failed`: memory ran out. This isn't printed here.
 pub fn export_files(
     rt: &HostRuntime,
     rows: Rows,
     format: Format,
     site: SiteFiles<'_>,
     journal: &str,
-) -> Result<u8, Stop>
+) -> Result<u8, JobError>
     ensures done { IfOk result (EndsWith 0) }
     ensures twice { IsTrue (reads_twice site.entry.config.now (option_map (λ w. w.now) site.entry.opening) journal.now)
-        → result ≡ Err (Stop.Said 2) }
+        → result ≡ Err (JobError.AlreadyReported 2) }
 {
     let site = audited_site(rt, site, journal)?;
     print_rows(rt, &site, rows_of(rows), format_of(format))
@@ -56,7 +58,7 @@ fn print_rows(
     site: &Site,
     rows: day_export::Rows,
     format: day_export::Format,
-) -> Result<u8, Stop>
+) -> Result<u8, JobError>
     ensures done { IfOk result (EndsWith 0) }
     ensures failed { IfErr result IsFailed }
 {
@@ -64,7 +66,7 @@ fn print_rows(
     let printed = match write_rows(rt.alloc(), site, rows, format, output) {
         Ok(mut output) => output.flush(),
         Err(RowsFault::Io(error)) => Err(error),
-        Err(RowsFault::OutOfMemory) => return Ok(out_of_memory(rt)),
+        Err(RowsFault::OutOfMemory) => return Ok(report_out_of_memory(rt)),
     };
     Ok(once_printed(rt, printed, DONE))
 }

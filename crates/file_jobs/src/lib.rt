@@ -15,4 +15,4 @@ mod progress;
 mod refused_loads;
 pub mod report;
 
-pub use programs::Tell;
+pub use programs::PrintRequest;

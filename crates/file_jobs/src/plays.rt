@@ -1,7 +1,7 @@
 //! Plays of a script against a new site.
 ghost use Rattle.std.specs.Prelude.{◌≡◌, ◌≤◌, Err, IfOk, IfErr, IsTrue, MatchResult, option_map};
 ghost use Rattle.site_files.specs.Asked.{reads_twice};
-ghost use Rattle.site_files.specs.Statuses.{SaysOrFails, Says};
+ghost use Rattle.site_files.specs.Statuses.{IsReportedOrFailed, IsReported};
 ghost use Rattle.file_jobs.specs.Statuses.{cut_status, IsEnded};
 ghost use Rattle.file_jobs.specs.Codes.{read_error, session_code, cut_words};
 
@@ -13,10 +13,10 @@ use line_session::{Ended, READS, SessionFault};
 use site_config::Settings;
 use site_config::head::{config_part, read_head};
 use site_core::Config;
-use site_files::faults::{complain, out_of_memory, refuse_length, tell};
+use site_files::faults::{print_fault, print_message, refuse_length, report_out_of_memory};
 use site_files::files::{lines_in, name_of, stream};
 use site_files::settings::{day_and, settings_in};
-use site_files::{DONE, FAILED, Place, REFUSED, SiteFiles, Source, Stop};
+use site_files::{DONE, FAILED, JobError, Place, REFUSED, SiteFiles, Source};
 use std::io::{self, IsTerminal};
 use till_request::LineFault;
 use till_request::devices::{Ahead, StreamIn, StreamOut};
@@ -45,13 +45,13 @@ fn status_of(
         Ok(ended) => match ended.cut {
             None => DONE,
             Some(fault) => {
-                tell_cut(rt, word, lines.saturating_add(ended.lines), fault);
+                print_stopping_line(rt, word, lines.saturating_add(ended.lines), fault);
                 REFUSED
             }
         },
-        Err(SessionFault::OutOfMemory) => out_of_memory(rt),
+        Err(SessionFault::OutOfMemory) => report_out_of_memory(rt),
         Err(fault) => {
-            tell_broken(rt, word, fault, read, answers);
+            print_session_fault(rt, word, fault, read, answers);
             FAILED
         }
     }
@@ -59,7 +59,7 @@ fn status_of(
 
 /// Prints on standard error why a play was broken off: a read or a write failed, or no more reads are allowed. `read`
 /// is the error of a failed read, if a read failed.
-fn tell_broken(
+fn print_session_fault(
     rt: &HostRuntime,
     word: &str,
     fault: SessionFault,
@@ -68,10 +68,10 @@ fn tell_broken(
 ) {
     let place = Place::of(word);
     match (session_code(fault), read_error(fault, read)) {
-        (Some(code), Some(error)) => complain(rt, place, error, code),
-        (Some(code), None) => complain(rt, place, &fault, code),
+        (Some(code), Some(error)) => print_fault(rt, place, error, code),
+        (Some(code), None) => print_fault(rt, place, &fault, code),
         // Only `Write` can come here: a play writes no journal, and `status_of` handles `OutOfMemory`.
-        (None, _) => answers.tell_failure(rt),
+        (None, _) => answers.print_failure(rt),
     }
 }
 
@@ -89,15 +89,17 @@ fn read_error(fault: SessionFault, read: Option<&io::Error>) -> Option<&io::Erro
     }
 }
 
-/// Plays the script in standard input against a new site, and returns the exit status. The configuration comes before
-/// the script, in standard input too. If the configuration is refused, prints why; the error `Said` has the exit
-/// status. The error `Failed` means that memory ran out, which isn't printed yet.
-pub fn play_input(rt: &HostRuntime) -> Result<u8, Stop>
+/// Plays a script on a new site, and returns the exit status. Standard input has the configuration, and then the
+/// script. The errors are:
+///
+/// - `AlreadyReported` with the exit status: the configuration is refused. Then prints why.
+/// - `Failed`: memory ran out. This isn't printed here.
+pub fn play_input(rt: &HostRuntime) -> Result<u8, JobError>
     ensures ended { IfOk result IsEnded }
-    ensures refused { IfErr result (SaysOrFails 1) }
+    ensures refused { IfErr result (IsReportedOrFailed 1) }
 {
     if rt.stdin().is_terminal() {
-        tell(rt, &AWAITED);
+        print_message(rt, &AWAITED);
     }
     let answers = Answers::new(rt)?;
     play_both(rt, &mut script_of(Source::input(rt), &answers, None))
@@ -105,9 +107,9 @@ pub fn play_input(rt: &HostRuntime) -> Result<u8, Stop>
 
 /// Plays a script that follows its configuration in the same input, and returns the exit status. If the configuration
 /// is refused, prints why; the error has the exit status.
-fn play_both<'a>(rt: &'a HostRuntime, input: &mut Script<'a, '_, '_>) -> Result<u8, Stop>
+fn play_both<'a>(rt: &'a HostRuntime, input: &mut Script<'a, '_, '_>) -> Result<u8, JobError>
     ensures ended { IfOk result IsEnded }
-    ensures refused { IfErr result (Says 1) }
+    ensures refused { IfErr result (IsReported 1) }
 {
     let mut left = READS;
     match read_head(rt.alloc(), input, &mut left) {
@@ -123,15 +125,14 @@ fn play_both<'a>(rt: &'a HostRuntime, input: &mut Script<'a, '_, '_>) -> Result<
     }
 }
 
-/// Returns the settings in `head`, which is the input up to and with the line that ends the configuration. If the first
-/// 65,541 bytes of the input have no such line, `head` is these bytes, or the whole input if that is shorter. If the
-/// settings are refused, prints why; the error has the exit status.
-fn settings_before(rt: &HostRuntime, head: &[u8]) -> Result<Settings, Stop>
-    ensures { IfErr result (Says 1) }
+/// Returns the settings in `head`, the bytes that `read_head` returned. If the configuration in them has over 65,536
+/// bytes or is refused, prints why; the error has the exit status.
+fn settings_before(rt: &HostRuntime, head: &[u8]) -> Result<Settings, JobError>
+    ensures { IfErr result (IsReported 1) }
 {
     match config_part(head) {
         Some(text) => settings_in(rt, "-", text),
-        None => Err(Stop::Said(refuse_length(rt, "-"))),
+        None => Err(JobError::AlreadyReported(refuse_length(rt, "-"))),
     }
 }
 
@@ -156,18 +157,24 @@ fn outlet<'a, 'b>(answers: &'b Answers<'a>) -> StreamOut<Outgoing<'a, 'b>> {
     }
 }
 
-/// Plays the script in a file against this site, with no entries yet, and returns the exit status. The argument
-/// `script` names the file. If a file can't be opened, if the configuration or the opening can't be read or is refused,
-/// or if two files are standard input, prints why; the error `Said` has the exit status. The error `Failed` means that
-/// memory ran out, which isn't printed yet.
-pub fn play_files<'a>(rt: &'a HostRuntime, site: SiteFiles<'_>, script: &'a str) -> Result<u8, Stop>
+/// Plays the script in the file that `script` names, on the site that `site` names, which has no entries yet. Returns
+/// the exit status. The errors are:
+///
+/// - `AlreadyReported` with the exit status: a file can't be opened, the configuration or the opening can't be read or
+///   is refused, or two files are standard input. Then prints why.
+/// - `Failed`: memory ran out. This isn't printed here.
+pub fn play_files<'a>(
+    rt: &'a HostRuntime,
+    site: SiteFiles<'_>,
+    script: &'a str,
+) -> Result<u8, JobError>
     ensures ended { IfOk result IsEnded }
     ensures twice { IsTrue (reads_twice site.entry.config.now (option_map (λ w. w.now) site.entry.opening) script.now)
-        → result ≡ Err (Stop.Said 2) }
+        → result ≡ Err (JobError.AlreadyReported 2) }
 {
     let (day, source) = day_and(rt, site, script)?;
     let answers = Answers::new(rt)?;
-    // On a terminal the user sees the answers, and they would be mixed with the progress line.
+    // If the answers go to a terminal, no progress line is shown, since the two would be mixed.
     let is_silent = !rt.stdout().is_terminal();
     let progress = Progress::new(rt, is_silent, source.size());
     let mut input = script_of(source, &answers, Some(&progress));
@@ -217,22 +224,23 @@ fn session_code(fault: SessionFault) -> Option<&'static str>
     }
 }
 
-/// Returns the words and the number for the line at which a script stops: the line has over 8,400 bytes (L1), or the
-/// line is the last one and has no LF (L4). Returns `None` for other faults.
+/// Returns the words and the number for the fault of a line at which a script stops: the line has over 8,400 bytes
+/// (L1), or it is the last one and has no LF (L4). Returns `None` for the other faults.
 fn cut_words(fault: LineFault) -> Option<(&'static str, &'static str)>
-    ensures { option_map (λ told. (told.0.now, told.1.now)) result ≡ cut_words fault }
+    ensures { option_map (λ pair. (pair.0.now, pair.1.now)) result ≡ cut_words fault }
 {
     match fault {
         LineFault::TooLong => Some(("over 8,400 bytes", "L1")),
         LineFault::CutLine => Some(("the last line has no LF", "L4")),
-        // These faults don't stop a script: the next line is read.
+        // A play never returns these as the fault of its last line.
         LineFault::BadLine | LineFault::BadNumber | LineFault::OutOfMemory => None,
     }
 }
 
-/// Prints on standard error why a script stopped at a line. Prints nothing for faults that don't stop one.
-fn tell_cut(rt: &HostRuntime, word: &str, line: u64, fault: LineFault) {
+/// Prints on standard error why a script stopped at a line, if the fault is `TooLong` or `CutLine`. Prints nothing for
+/// other faults.
+fn print_stopping_line(rt: &HostRuntime, word: &str, line: u64, fault: LineFault) {
     if let Some((words, code)) = cut_words(fault) {
-        complain(rt, Place::of(word).line(line), &words, code);
+        print_fault(rt, Place::of(word).line(line), &words, code);
     }
 }

@@ -6,7 +6,7 @@ use bpf_asm::{AsmFault, AsmFlaw, ProgramFileFault};
 use job_texts::ProgramFlaw;
 use job_texts::reasons::asm_flaw;
 use site_files::Place;
-use site_files::faults::{complain, tell_out_of_memory};
+use site_files::faults::{print_fault, print_out_of_memory};
 use std::alloc::AllocError;
 
 /// Returns the number of a program file's fault, as it is printed, or `None` if the fault is that memory ran out.
@@ -21,12 +21,12 @@ fn file_code(fault: ProgramFileFault) -> Option<&'static str>
 }
 
 /// Prints on standard error why a program file is refused, or only that memory ran out, if the flaw is that.
-pub(crate) fn tell_program(rt: &HostRuntime, word: &str, flaw: &ProgramFlaw) {
+pub(crate) fn print_program_flaw(rt: &HostRuntime, word: &str, flaw: &ProgramFlaw) {
     let place = Place::of(word);
     match flaw {
         ProgramFlaw::File(fault) => match file_code(*fault) {
-            Some(code) => complain(rt, place, flaw, code),
-            None => tell_out_of_memory(rt),
+            Some(code) => print_fault(rt, place, flaw, code),
+            None => print_out_of_memory(rt),
         },
         ProgramFlaw::Program(refused) => {
             let number = refused.number();
@@ -37,17 +37,21 @@ pub(crate) fn tell_program(rt: &HostRuntime, word: &str, flaw: &ProgramFlaw) {
 
 /// Prints on standard error why an assembler text is refused. Prints nothing if it is accepted. The error is that
 /// memory ran out.
-pub(crate) fn tell_text(rt: &HostRuntime, word: &str, text: &[u8]) -> Result<(), AllocError> {
+pub(crate) fn explain_asm_text(
+    rt: &HostRuntime,
+    word: &str,
+    text: &[u8],
+) -> Result<(), AllocError> {
     match asm_flaw(rt.alloc(), text)? {
-        Some((fault, flaw)) => tell_asm(rt, Place::of(word), fault, &flaw),
+        Some((fault, flaw)) => print_asm_fault(rt, Place::of(word), fault, &flaw),
         None => Ok(()),
     }
 }
 
-/// Returns the number of the line that an assembler text's fault names, if it names one, and the fault's number, A1 to
-/// A4. Lines are counted from 1. Returns `None` if the fault is that memory ran out.
+/// Returns the line that a fault of an assembler text names (counted from 1), if it names one, and the fault's number,
+/// A1 to A4. Returns `None` if the fault is that memory ran out.
 fn asm_code(fault: AsmFault) -> Option<(Option<u64>, &'static str)>
-    ensures code { option_map (λ told. (told.0, told.1.now)) result ≡ asm_code fault }
+    ensures code { option_map (λ pair. (pair.0, pair.1.now)) result ≡ asm_code fault }
     ensures some { IfSome result (λ _. fault ≢ AsmFault.OutOfMemory) }
     ensures none { IfNone result (fault ≡ AsmFault.OutOfMemory) }
 {
@@ -60,9 +64,9 @@ fn asm_code(fault: AsmFault) -> Option<(Option<u64>, &'static str)>
     }
 }
 
-/// Prints on standard error what is wrong with an assembler text, with its fault A1 to A4. If the fault is that memory
-/// ran out, prints nothing, and returns the error.
-fn tell_asm(
+/// Prints on standard error what is wrong with an assembler text, with the fault's number, A1 to A4. If the fault is
+/// that memory ran out, prints nothing, and returns the error.
+fn print_asm_fault(
     rt: &HostRuntime,
     file: Place<'_>,
     fault: AsmFault,
@@ -70,11 +74,11 @@ fn tell_asm(
 ) -> Result<(), AllocError>
     ensures { IsErr result ↔ (fault ≡ AsmFault.OutOfMemory) }
 {
-    let Some(told) = asm_code(fault) else {
+    let Some(pair) = asm_code(fault) else {
         return Err(AllocError);
     };
-    let (line, code) = told;
-    complain(rt, at_line(file, line), flaw, code);
+    let (line, code) = pair;
+    print_fault(rt, at_line(file, line), flaw, code);
     Ok(())
 }
 

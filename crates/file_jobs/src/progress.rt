@@ -14,8 +14,8 @@ const STEP: u64 = 8192;
 /// The terminal's codes that move to the start of the line and erase it.
 const RENEW: &str = "\r\x1b[K";
 
-/// The progress line of a job, and the counts that it shows. It appears after `STEP` lines are read, and is erased when
-/// this is dropped.
+/// The progress line of a job, and the counts that it shows. The line appears after `STEP` lines are read, and is
+/// erased when this value is dropped.
 pub struct Progress<'a> {
     rt: &'a HostRuntime,
     is_shown: bool,
@@ -54,7 +54,7 @@ impl<'a> Progress<'a> {
             return;
         }
         if bytes.is_empty() {
-            self.say_end();
+            self.print_end();
         }
         self.bytes
             .set(self.bytes.get().wrapping_add(bytes.len() as u64));
@@ -67,13 +67,13 @@ impl<'a> Progress<'a> {
         let lines = self.lines.get().wrapping_add(1);
         self.lines.set(lines);
         if lines % STEP == 0 {
-            self.say_how_far(lines);
+            self.print_progress(lines);
         }
     }
 
     /// Renews the progress line: the lines read, and for an input of known size also the percentage and the seconds
     /// left. An error of the terminal is ignored.
-    fn say_how_far(&self, lines: u64) {
+    fn print_progress(&self, lines: u64) {
         self.is_there.set(true);
         let _ = eprint!(self.rt; "{RENEW}fc: {lines} lines read");
         if let (Some(percent), Some(left)) = (self.percent(), self.seconds_left()) {
@@ -82,7 +82,7 @@ impl<'a> Progress<'a> {
     }
 
     /// Shows that all lines are read, if there are enough of them for a progress line.
-    fn say_end(&self) {
+    fn print_end(&self) {
         let lines = self.lines.get();
         if lines >= STEP {
             self.is_there.set(true);
@@ -90,7 +90,7 @@ impl<'a> Progress<'a> {
         }
     }
 
-    /// Erases the progress line, if it is on the terminal. The next lines that are read show it again.
+    /// Erases the progress line, if it is on the terminal. It can appear again when more of the input is read.
     pub fn clear(&self) {
         if self.is_there.replace(false) {
             let _ = eprint!(self.rt; "{RENEW}");

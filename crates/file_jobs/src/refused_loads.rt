@@ -36,7 +36,7 @@ impl<'a, 'b> RefusedLoads<'a, 'b> {
         }
     }
 
-    fn say(&self, load: &Act, refusal: Refusal) -> Result<(), AllocError> {
+    fn print_refusal(&self, load: &Act, refusal: Refusal) -> Result<(), AllocError> {
         let Act::Load { slot, bytes, .. } = load else {
             return Ok(());
         };
@@ -57,6 +57,6 @@ impl PlayNotices for RefusedLoads<'_, '_> {
 
     fn refused_load(&self, load: &Act, refusal: Refusal) {
         // If memory runs out, no message is printed. The answer to the load still has the refusal's number.
-        let _ = self.say(load, refusal);
+        let _ = self.print_refusal(load, refusal);
     }
 }

@@ -10,7 +10,7 @@ use Rattle.bpf_model.specs.declared.instruction.JumpFault.{JumpFault}
 use Rattle.bpf_model.specs.declared.instruction.JumpFault.TheVariants.{Backward, Out, IntoWide}
 use Rattle.bpf_model.specs.Machine.{and_then, shifted}
 use Rattle.bpf_model.specs.Flow.{distance_at, distance_fault, landing_fault, jump_fault, or_first, flow_fault_below, flow_fault, target, IsAhead, GoesForward}
-use Rattle.flow_check.specs.Faults.{IsShown, numbered}
+use Rattle.flow_check.specs.Faults.{IsFirstFlowFault, numbered}
 
 below_suc : (p m : ℕ) → p < suc m → (p ≡ m) ⊎ (p < m)
 below_suc p m h = elim (cases_lt p m) [ inl l ↦ inr l | inr g ↦ inl (omega arith) ]
@@ -29,7 +29,7 @@ fault_stays us pc (suc m) f lt a b =
 pub sound_more : (us : List ProgramUnit) (pc : ℕ) → flow_fault_below us pc ≡ None → jump_fault us pc ≡ None → flow_fault_below us (pc + 1) ≡ None
 sound_more us pc a b = rw (add-one pc) (ap (λ o. or_first o pc (jump_fault us pc)) a ∙ ap (or_first None pc) b)
 
-pub shown : (us : List ProgramUnit) (pc : ℕ) (f : JumpFault) → flow_fault us ≡ Some (pc, f) → IsShown us (numbered f pc)
+pub shown : (us : List ProgramUnit) (pc : ℕ) (f : JumpFault) → flow_fault us ≡ Some (pc, f) → IsFirstFlowFault us (numbered f pc)
 shown us pc Backward h = h
 shown us pc Out h = h
 shown us pc IntoWide h = h
@@ -54,7 +54,7 @@ distance_inside : (us : List ProgramUnit) (pc : ℕ) (o : Option ProgramUnit) (z
 distance_inside us pc None z e d = absurd (cc)
 distance_inside us pc (Some u) z e d = get_inside us pc u e
 
--- a unit that a jump may go to is the first unit of an instruction
+-- if a jump to a unit has no fault there, the unit is the first one of an instruction
 lands : (us : List ProgramUnit) (to : ℕ) (o : Option ProgramUnit) → slice_get us to ≡ o → landing_fault o ≡ None → (i : _) × (slice_get us to ≡ Some (First i))
 lands us to None e h = absurd (cc)
 lands us to (Some (First i)) e h = (i, e)

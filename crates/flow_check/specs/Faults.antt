@@ -1,4 +1,4 @@
--- Promises: what a refusal of the flow check says of the units.
+-- Promises: what is true of units whose jumps the flow check refuses.
 use Rattle.std.specs.Prelude.{◌≡◌, ℕ, List, Some}
 use Rattle.bpf_model.specs.declared.instruction.Unit.{Unit as ProgramUnit}
 use Rattle.bpf_model.specs.declared.instruction.JumpFault.{JumpFault}
@@ -12,9 +12,9 @@ numbered Backward pc = BackwardJump pc
 numbered Out pc = JumpOut pc
 numbered IntoWide pc = JumpIntoWide pc
 
--- the refusal names the first unit whose jump has a fault, and that fault; it is never that memory ran out
-abbrev pub IsShown : List ProgramUnit → FlowFault → Type 0
-IsShown us (BackwardJump pc) = flow_fault us ≡ Some (pc, Backward)
-IsShown us (JumpOut pc) = flow_fault us ≡ Some (pc, Out)
-IsShown us (JumpIntoWide pc) = flow_fault us ≡ Some (pc, IntoWide)
-IsShown us OutOfMemory = ⊥
+-- the fault names the first unit whose jump is wrong, and what is wrong with it; it is never that memory ran out
+abbrev pub IsFirstFlowFault : List ProgramUnit → FlowFault → Type 0
+IsFirstFlowFault us (BackwardJump pc) = flow_fault us ≡ Some (pc, Backward)
+IsFirstFlowFault us (JumpOut pc) = flow_fault us ≡ Some (pc, Out)
+IsFirstFlowFault us (JumpIntoWide pc) = flow_fault us ≡ Some (pc, IntoWide)
+IsFirstFlowFault us OutOfMemory = ⊥

@@ -1,11 +1,11 @@
-// The check that each jump of a program goes forward to an instruction, and the targets of its jumps.
+// The check that each jump of a program goes forward to the first unit of an instruction; and where its jumps go.
 #![tactic(auto)]
 
 ghost use Rattle.std.specs.Prelude.{◌≡◌, ℕ, ◌+◌, ◌≤◌, ◌<◌, length, slice_get, IfOk, IfErr, IfSome, Some, None};
 ghost use Rattle.bpf_model.specs.Reading.{form_of};
 ghost use Rattle.bpf_model.specs.Flow.{distance_by, distance_of, distance_fault, jump_fault, landing_fault, flow_fault};
 ghost use Rattle.bpf_model.specs.Flow.{target, IsAhead, GoesForward};
-ghost use Rattle.flow_check.specs.Faults.{IsShown, numbered};
+ghost use Rattle.flow_check.specs.Faults.{IsFirstFlowFault, numbered};
 ghost use Rattle.bpf_model.specs.declared.limits.TheConstants.{UNITS};
 
 use bpf_decode::{Code, Inst, Unit};
@@ -41,7 +41,7 @@ impl fmt::Display for FlowFault {
     }
 }
 
-/// A program whose jumps all go forward to instructions.
+/// A decoded program. Each of its jumps goes forward to the first unit of an instruction.
 #[derive(Drop)]
 pub struct Flow {
     code: Code,
@@ -91,7 +91,7 @@ fn fault_of_landing(landing: Option<Unit>) -> Option<JumpFault>
 }
 
 // Returns what is wrong with the jump at unit `pc` over this distance; `None` if nothing is wrong. `pc` must be below
-// 512. A `distance` of `None` means that no jump begins there, and the result is `None`.
+// 512. A `distance` of `None` means that no jump begins at `pc`; then the result is `None`.
 fn fault_of_distance(units: &[Unit], pc: usize, distance: Option<i64>) -> Option<JumpFault>
     requires { pc < UNITS }
     ensures { result ≡ distance_fault units.now pc distance }
@@ -146,11 +146,11 @@ fn fault_at(fault: JumpFault, pc: u32) -> FlowFault
 }
 
 /// Checks that each jump of `code`, whether a run can reach it or not, goes forward to the first unit of an
-/// instruction, and returns the same program as a `Flow`. The error says what is wrong with the first wrong jump. It is
-/// never `OutOfMemory`, as nothing is allocated.
+/// instruction, and returns the same program as a `Flow`. The error names the first wrong jump and what is wrong with
+/// it. It is never `OutOfMemory`, since nothing is allocated.
 pub fn check_flow(_alloc: Global, code: Code) -> Result<Flow, FlowFault>
     ensures ok { IfOk result (λ flow. (flow ≡ code) × (flow_fault code ≡ None)) }
-    ensures refused { IfErr result (λ fault. IsShown code fault) }
+    ensures refused { IfErr result (λ fault. IsFirstFlowFault code fault) }
 {
     match first_jump_fault(code.units()) {
         Some((pc, fault)) => Err(fault_at(fault, pc)),
@@ -159,7 +159,8 @@ pub fn check_flow(_alloc: Global, code: Code) -> Result<Flow, FlowFault>
 }
 
 impl Flow {
-    /// Returns the program. The contract says that its jumps all go forward to instructions.
+    /// Returns the program. The contract promises that each of its jumps goes forward to the first unit of an
+    /// instruction.
     pub fn code(&self) -> &Code
         ensures same { result.now ≡ self.now }
         ensures forward { GoesForward self.now }

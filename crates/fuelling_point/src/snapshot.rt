@@ -1,17 +1,17 @@
-//! All that a fuelling point keeps, as plain values that can be written down and read back.
+//! Snapshots: all values of a fuelling point as plain data, which can be written down and read back.
 
 ghost use Rattle.std.specs.Prelude.{◌↔◌, IsTrue};
 ghost use Rattle.fuelling_point.specs.Snapshot.{IsSnapshot, IsUnpaid};
 ghost use Rattle.fuelling_point.specs.States.{is_busy};
-ghost use Rattle.fuelling_point.specs.Views.{Room, Keeps, IsOlder};
+ghost use Rattle.fuelling_point.specs.Views.{AreValidPlaces, IsFreeOrUnpaid, IsOlder};
 
 use crate::kinds::{Order, State, Transaction};
 
 /// The greatest amount of a delivery in cents, and its greatest volume in centilitres.
 pub const GREATEST: u64 = 999_999_999;
 
-/// All that a fuelling point keeps. The fields from `state` to `volume`, and `last`, are what the methods of `Point`
-/// with these names return: amounts in cents, volumes in centilitres.
+/// All values of a fuelling point, as plain data. The fields from `state` to `volume`, and `last`, are what the methods
+/// of `Point` with these names return: amounts in cents, volumes in centilitres.
 #[derive(Clone, Copy)]
 pub struct Snapshot {
     pub state: State,
@@ -42,8 +42,8 @@ impl Snapshot {
             && self.amount <= GREATEST
             && self.volume <= GREATEST
             && are_places(first, second, self.state)
-            && is_kept(first, self.last)
-            && is_kept(second, self.last)
+            && is_free_or_unpaid(first, self.last)
+            && is_free_or_unpaid(second, self.last)
     }
 }
 
@@ -51,7 +51,7 @@ impl Snapshot {
 /// place is free. They also can if the first place has a transaction with a smaller number than the second place's, and
 /// no delivery is authorised or under way in this state.
 fn are_places(first: Option<Transaction>, second: Option<Transaction>, state: State) -> bool
-    ensures { IsTrue result ↔ (Room first second (is_busy state) × IsOlder first second) }
+    ensures { IsTrue result ↔ (AreValidPlaces first second (is_busy state) × IsOlder first second) }
 {
     match (first, second) {
         (_, None) => true,
@@ -62,8 +62,8 @@ fn are_places(first: Option<Transaction>, second: Option<Transaction>, state: St
 
 /// Returns whether the place is free, or its transaction has a number from 1 to `last` and an amount and a volume of at
 /// most 999,999,999. `last` is the number of the point's newest transaction.
-fn is_kept(place: Option<Transaction>, last: u32) -> bool
-    ensures { IsTrue result ↔ Keeps last place }
+fn is_free_or_unpaid(place: Option<Transaction>, last: u32) -> bool
+    ensures { IsTrue result ↔ IsFreeOrUnpaid last place }
 {
     match place {
         None => true,

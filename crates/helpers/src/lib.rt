@@ -5,7 +5,7 @@ pub mod memory;
 
 ghost use Rattle.std.specs.Prelude.{◌≡◌, ◌≤◌, ◌<◌, ◌+◌, IsSome, Some};
 ghost use Rattle.bpf_model.specs.Machine.{helper_of, point, price, is_there, record_bytes, no_point, point_or_zero};
-ghost use Rattle.helpers.specs.Calls.{signature, called, called_by, kinds, stored, CounterInside, PlaceInside};
+ghost use Rattle.helpers.specs.Calls.{signature, call_result, helper_result, kinds, stored, CounterInside, PlaceInside};
 ghost use Rattle.helpers.specs.Meaning.{IsMachineCall};
 ghost use Rattle.bpf_model.specs.declared.limits.TheConstants.{STACK_BYTES};
 
@@ -49,8 +49,8 @@ fn kinds_of(helper: Helper) -> [Kind; 2]
     }
 }
 
-/// Returns the kinds of the arguments in R1 and R2 of helper `id`, or `None` if there is no such helper. Helpers are
-/// numbered 1 to 6.
+/// Returns the kinds of the two arguments that helper `id` takes, first that in R1, then that in R2. Returns `None` if
+/// there is no such helper. Helpers are numbered 1 to 6.
 pub fn arguments(id: i32) -> Option<[Kind; 2]>
     ensures { result ≡ signature id }
 {
@@ -109,8 +109,9 @@ fn put_point(point: Option<PointView>, at: u64, stack: &mut [u8; 512]) -> u64
     u64::from(point.is_some())
 }
 
-// Calls `helper`, with the values of R1 and R2 as `a` and `b`, and returns its answer. Changes the counters and the
-// stack's bytes as the helper does. `a` and `b` must be what `call` demands.
+// Calls `helper` with the arguments `a` (the value of R1) and `b` (the value of R2), and returns its answer. Changes
+// the counters and the stack's bytes as the helper does. An argument that is a counter's number must be 0 to 31. An
+// argument that is a place in the stack must be 0 to 496.
 fn answer(
     helper: Helper,
     a: u64,
@@ -121,9 +122,9 @@ fn answer(
 ) -> u64
     requires counter { CounterInside (Some helper) a }
     requires place { PlaceInside (Some helper) b }
-    ensures answer { result ≡ (called_by helper a b view.now counters.old stack.old).value }
-    ensures counters { counters.new ≡ (called_by helper a b view.now counters.old stack.old).counters }
-    ensures stack { stack.new ≡ (called_by helper a b view.now counters.old stack.old).stack }
+    ensures answer { result ≡ (helper_result helper a b view.now counters.old stack.old).value }
+    ensures counters { counters.new ≡ (helper_result helper a b view.now counters.old stack.old).counters }
+    ensures stack { stack.new ≡ (helper_result helper a b view.now counters.old stack.old).stack }
 {
     match helper {
         Helper::CounterGet => counters.get(a as u32),
@@ -135,9 +136,10 @@ fn answer(
     }
 }
 
-/// Calls helper `id`, which must be 1 to 6, with the values of R1 and R2 as `a` and `b`, and returns its answer.
-/// Changes the counters and the stack's bytes as the helper does. An argument that is a counter's number must be 0 to
-/// 31. An argument that is a place in the stack must be 0 to 496, counted in bytes from the stack's lowest byte.
+/// Calls helper `id`, which must be 1 to 6, with the arguments `a` (the value of R1) and `b` (the value of R2), and
+/// returns its answer. Changes the counters and the stack's bytes as the helper does. An argument that is a counter's
+/// number must be 0 to 31. An argument that is a place in the stack must be 0 to 496, counted in bytes from the stack's
+/// lowest byte.
 pub fn call(
     id: i32,
     a: u64,
@@ -149,9 +151,9 @@ pub fn call(
     requires known { IsSome (helper_of id) }
     requires counter { CounterInside (helper_of id) a }
     requires place { PlaceInside (helper_of id) b }
-    ensures answer { result ≡ (called (helper_of id) a b view.now counters.old stack.old).value }
-    ensures counters { counters.new ≡ (called (helper_of id) a b view.now counters.old stack.old).counters }
-    ensures stack { stack.new ≡ (called (helper_of id) a b view.now counters.old stack.old).stack }
+    ensures answer { result ≡ (call_result (helper_of id) a b view.now counters.old stack.old).value }
+    ensures counters { counters.new ≡ (call_result (helper_of id) a b view.now counters.old stack.old).counters }
+    ensures stack { stack.new ≡ (call_result (helper_of id) a b view.now counters.old stack.old).stack }
     ensures machine { IsMachineCall id a b view.now counters.old stack.old result counters.new stack.new }
 {
     let Some(helper) = helper_by(id) else {

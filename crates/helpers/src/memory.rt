@@ -1,4 +1,4 @@
-// Writing of numbers to the bytes of the stack.
+// Writes numbers into the bytes of the stack.
 
 ghost use Rattle.std.specs.Prelude.{◌≡◌, ◌+◌, ◌≤◌, length};
 ghost use Rattle.byteorder.specs.Endian.{little_bytes};
@@ -33,8 +33,8 @@ fn put_double(memory: &mut [u8; 512], at: usize, n: u64)
     LittleEndian::write_u64(&mut memory[at..], n);
 }
 
-/// Writes the low bytes of a number, as many as `size` says, to place `at` and the places above it, the lowest byte
-/// first. All these places must be inside `memory`.
+/// Writes the lowest bytes of `n`, as many as `size` says, into `memory` from place `at` on, the lowest byte first. All
+/// of them must fit into `memory`.
 #[inline(always)]
 pub fn put(memory: &mut [u8; 512], at: usize, size: Size, n: u64)
     requires { at + bytes_in size ≤ STACK_BYTES }

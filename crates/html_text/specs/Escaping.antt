@@ -1,11 +1,12 @@
--- Definitions: text in a page of HTML. Special characters are written as character references (HTML Standard,
--- "Character references"). So a text is never parsed as a tag, as the end of an attribute or as another reference.
+-- Definitions: how text is escaped for a page of HTML. Special characters are written as character references (HTML
+-- Standard, "Character references"). So nothing in the original text is parsed as a tag, a reference or the end of an
+-- attribute.
 use Rattle.std.specs.Prelude.{ℕ, ◌==◌, if◌then◌else◌, List, codes}
 use Rattle.std.specs.List.{flat_map}
 use Rattle.std.specs.Str.{chars}
 use Rattle.std.specs.Char.{encode_utf8}
 
--- How a character is written: as a reference if it is one of < > & " ' and as itself otherwise.
+-- A character as it is written in HTML: < > & " ' as character references, all others unchanged, in UTF-8.
 abbrev pub escaped_char : ℕ → List ℕ
 escaped_char c =
     if c == 60 then codes "&lt;" else
@@ -14,6 +15,6 @@ escaped_char c =
     if c == 34 then codes "&quot;" else
     if c == 39 then codes "&#39;" else encode_utf8 c
 
--- A text in which each special character is replaced by its reference.
+-- A text with each of its characters < > & " ' replaced by a character reference.
 unfoldable pub escaped : List ℕ → List ℕ
 escaped text = flat_map escaped_char (chars text)

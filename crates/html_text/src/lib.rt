@@ -1,4 +1,4 @@
-//! Writing of text into a page of HTML.
+//! Writes text into a page of HTML, with special characters escaped.
 #![tactic(auto)]
 
 use std::fmt;
@@ -34,7 +34,7 @@ impl fmt::Display for Escaped<'_> {
     }
 }
 
-/// A character that is written escaped if it is special in HTML.
+/// A character that is written escaped if it is one of `<`, `>`, `&`, `"` and `'`, and as it is otherwise.
 #[derive(Clone, Copy)]
 struct Mark(char);
 

@@ -1,16 +1,16 @@
-// What a run changes, and what it is given.
+// The memory of a run, and what the run reads: its context and its view of the site.
 
 use helpers::View;
 
-/// The memory of a run: the stack's bytes, and the 11 registers as words. The stack is the first field, so that an
-/// address in it needs no addition.
+/// The memory of a run: the stack's bytes, and the 11 registers as words. The stack is the first field, so that the
+/// processor finds its bytes without an addition.
 #[derive(Drop)]
 pub struct Frame {
     pub stack: [u8; 512],
     pub words: [u64; 11],
 }
 
-/// What a run can read and doesn't change: the context's bytes, and what the helpers see of the site.
+/// What a run reads but can't change: the context's bytes, and what the helpers see of the site.
 #[derive(Clone, Copy)]
 pub struct Input<'a> {
     pub context: &'a [u8],

@@ -1,4 +1,4 @@
-// The outcome of a run on some counters, computed from a run on others.
+// The counters after a run, computed from those after an earlier run on other counters.
 
 ghost use Rattle.std.specs.Prelude.{◌≡◌, ℕ};
 ghost use Rattle.bpf_model.specs.Machine.{counter};
@@ -13,11 +13,10 @@ use counters::Counters;
 use helpers::View;
 use reg_types::Program;
 
-/// Sets `now` to the counters that a run of `program` on `now` would leave, without that run. `after` must be the
-/// counters that an earlier run of `program` left, which had the same context and view and began with `before`. The
-/// context must have the program's layout, and the counters that the program declares must be the same in `before` and
-/// `now`. A run depends on no other counters, so its answer would be the same. Only the declared counters of `now`
-/// change, to those of `after`.
+/// Sets the counters of `now` that the program declares to those of `after`, and changes no others. If an earlier run
+/// of `program` with this context and view changed the counters from `before` to `after`, then a run on `now` would
+/// leave just these counters and give the same answer. The declared counters must be the same in `before` and `now`,
+/// and the context must have the program's layout.
 pub fn rebase(
     program: &Program,
     context: &Context,
@@ -28,7 +27,8 @@ pub fn rebase(
 )
     requires layout { layout_of context.now ≡ program.now.layout }
     requires agree { Agrees program.now.declared before.now now.old }
-    ensures ran { (answer : ℕ) → outcome program.now (bytes_of context.now) view.now before.now ≡ Ended answer after.now
+    ensures run_result { (answer : ℕ) → outcome program.now (bytes_of context.now) view.now before.now
+        ≡ Ended answer after.now
         → outcome program.now (bytes_of context.now) view.now now.old ≡ Ended answer now.new }
     ensures counters { (c : ℕ) → counter now.new c ≡ adopted program.now.declared after.now now.old c }
 {

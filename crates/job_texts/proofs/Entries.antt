@@ -9,21 +9,21 @@ use Rattle.site_core.specs.declared.auditing.AuditFault.{AuditFault}
 use Rattle.site_core.specs.declared.auditing.AuditFault.TheVariants.{BadNumber, BadProgram, NotLegal, OutOfMemory}
 use Rattle.site_core.specs.Limits.{ConfigValue}
 use Rattle.site_core.specs.Site.{SiteValue, Upholds, entered}
-use Rattle.site_core.specs.Audit.{ShownAfter, ShowsFault}
+use Rattle.site_core.specs.Audit.{RejectsNextEntry, IsFaultOfEntries}
 use Rattle.site_core.proofs.Complete.{own_audit}
 use Rattle.job_texts.specs.declared.journal_reasons.JournalFlaw.{JournalFlaw}
-use Rattle.job_texts.specs.JournalFlaws.{IsRejected, IsPlaceOf, TellsFault, ShowsFlawAt}
+use Rattle.job_texts.specs.JournalFlaws.{IsRejected, IsPlaceOf, ExplainsFault, ShowsFlawAt}
 
 -- the place that an audit's fault names is one more than the number of the entries before the refused one
 module _ (config : ConfigValue) (entries : List Entry) where
-  shown : (fault : AuditFault) (place : ℕ) → ShowsFault config entries fault → IsPlaceOf fault place
-      → (s : ShownAfter config entries fault) × (place ≡ length s.old.history + 1)
+  shown : (fault : AuditFault) (place : ℕ) → IsFaultOfEntries config entries fault → IsPlaceOf fault place
+      → (s : RejectsNextEntry config entries fault) × (place ≡ length s.old.history + 1)
   shown (BadNumber n) place s at = (s, at ∙ s.rejects.0)
   shown (BadProgram n r) place s at = (s, at ∙ s.rejects.0)
   shown (NotLegal n) place s at = (s, at ∙ s.rejects.0)
   shown OutOfMemory place s at = absurd at
 
-  pub inside : (fault : AuditFault) (place : ℕ) → ShowsFault config entries fault → IsPlaceOf fault place → (1 ≤ place) × (place ≤ length entries)
+  pub inside : (fault : AuditFault) (place : ℕ) → IsFaultOfEntries config entries fault → IsPlaceOf fault place → (1 ≤ place) × (place ≤ length entries)
   inside fault place shows at =
       let s = shown fault place shows at in
       let within : length s.0.old.history < length entries = slice_get_within entries (length s.0.old.history) s.0.entry s.0.entry_is in
@@ -31,7 +31,7 @@ module _ (config : ConfigValue) (entries : List Entry) where
       (omega arith, omega arith)
 
   -- `before` is the list of the entries before the place that the fault names, and `entry` is the one at this place
-  module _ (fault : AuditFault) (place : ℕ) (shows : ShowsFault config entries fault) (at : IsPlaceOf fault place) (before : List Entry) (entry : Entry)
+  module _ (fault : AuditFault) (place : ℕ) (shows : IsFaultOfEntries config entries fault) (at : IsPlaceOf fault place) (before : List Entry) (entry : Entry)
       (before_is : before ≡ take (place - 1) entries) (entry_is : slice_get entries (place - 1) ≡ Some entry) where
     count : place - 1 ≡ length (shown fault place shows at).0.old.history
     count = let is : place ≡ length (shown fault place shows at).0.old.history + 1 = (shown fault place shows at).1 in omega arith
@@ -46,15 +46,15 @@ module _ (config : ConfigValue) (entries : List Entry) where
         sym (shown fault place shows at).0.entry_is ∙ ap (slice_get entries) (sym count) ∙ entry_is in
         cc
 
-    pub flaw_shown : (told : JournalFlaw) → TellsFault config before entry fault told → ShowsFlawAt config entries place told
-    flaw_shown told tells =
+    pub flaw_shown : (reported : JournalFlaw) → ExplainsFault config before entry fault reported → ShowsFlawAt config entries place reported
+    flaw_shown reported tells =
         let s = (shown fault place shows at).0 in
         record {
           fault = fault;
           place = at;
           shown = s;
-          tells = subst (λ (e : Entry). TellsFault config s.old.history e fault told) (sym same_entry)
-              (subst (λ (b : List Entry). TellsFault config b entry fault told) (sym same_before) tells);
+          tells = subst (λ (e : Entry). ExplainsFault config s.old.history e fault reported) (sym same_entry)
+              (subst (λ (b : List Entry). ExplainsFault config b entry fault reported) (sym same_before) tells);
         }
 
 -- two sites with the same configuration and the same history are the same site

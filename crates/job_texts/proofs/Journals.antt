@@ -1,4 +1,4 @@
--- What is printed after an audit of a journal is what `JournalTells` and `AuditTells` define.
+-- What is printed after an audit of a journal is what `JournalPrints` and `AuditPrints` define.
 use Rattle.std.proofs.Common.{◌≡◌, ◌≢◌, ◌⊎◌, Bool, ℕ, List, [], ◌++◌, Option, Some, None, Result, Ok, Err, sym, ap, ◌∙◌, subst, inl, inr}
 use Rattle.std.specs.Prelude.{IfErr, IfOk, OnOk}
 use Rattle.std.specs.List.{AllByRecursion}
@@ -7,7 +7,7 @@ use Rattle.std.proofs.lemmas.List.{append-nil}
 use Rattle.decision_journal.specs.declared.entries.Entry.{Entry}
 use Rattle.decision_journal.specs.declared.fault.JournalFault.{JournalFault}
 use Rattle.decision_journal.specs.Text.{journal_text}
-use Rattle.decision_journal.specs.Journal.{FailsOrRunsOut, IsWritten, IsWant, ReadsAll, ReadsFault, is_device, journal_reads}
+use Rattle.decision_journal.specs.Journal.{FailsOrRunsOut, IsWritable, IsDeviceOrOutOfMemory, ReadsAll, ReadsFault, is_device, journal_reads}
 use Rattle.till_request.specs.Count.{RoseBy, one_if}
 use Rattle.decision_journal.specs.Taking.{TakesAll}
 use Rattle.decision_journal.proofs.WholeLines.{one_journal}
@@ -16,25 +16,25 @@ use Rattle.site_core.specs.Limits.{ConfigValue}
 use Rattle.site_core.specs.Histories.{IsHistory, IsJournal}
 use Rattle.site_core.specs.Site.{SiteValue, Upholds, new_site}
 use Rattle.site_core.specs.Auditing.{AuditorValue, Found, TookEntries}
-use Rattle.site_core.specs.Audit.{Audits, ShowsFault}
+use Rattle.site_core.specs.Audit.{Audits, IsFaultOfEntries}
 use Rattle.site_core.proofs.Complete.{upheld}
 use Rattle.site_core.specs.declared.auditing.AuditFault.{AuditFault}
 use Rattle.site_core.specs.declared.auditing.AuditFault.TheVariants.{OutOfMemory}
-use Rattle.job_texts.specs.declared.told.Told.{Told}
-use Rattle.job_texts.specs.Told.{IsSaid}
-use Rattle.job_texts.specs.AuditTold.{AuditTells, JournalTells, audit_text, legal_text, journal_fault_answer}
+use Rattle.job_texts.specs.declared.output.JobOutput.{JobOutput}
+use Rattle.job_texts.specs.JobOutput.{IsOutput}
+use Rattle.job_texts.specs.AuditOutput.{AuditPrints, JournalPrints, line_of_audit_fault, legal_text, line_of_journal_fault}
 
-pub told-legal : {E : Type 0} → (config : ConfigValue) (entries : List Entry) (site : SiteValue) (r : Result Told E) → site.config ≡ config
-    → site.history ≡ entries → Upholds site → IfOk r (λ told. IsSaid told (legal_text entries) 0) → IfOk r (AuditTells config entries)
-told-legal config entries site (Ok told) c h u said = inl (subst (IsHistory config) h (subst (λ x. IsHistory x site.history) c (upheld site u)), said)
-told-legal config entries site (Err e) c h u said = tt
+pub output-legal : {E : Type 0} → (config : ConfigValue) (entries : List Entry) (site : SiteValue) (r : Result JobOutput E) → site.config ≡ config
+    → site.history ≡ entries → Upholds site → IfOk r (λ output. IsOutput output (legal_text entries) 0) → IfOk r (AuditPrints config entries)
+output-legal config entries site (Ok output) c h u printed = inl (subst (IsHistory config) h (subst (λ x. IsHistory x site.history) c (upheld site u)), printed)
+output-legal config entries site (Err e) c h u printed = tt
 
-pub told-fault : {E : Type 0} → (config : ConfigValue) (entries : List Entry) (fault : AuditFault) (r : Result Told E)
-    → (IsHistory config entries → fault ≡ OutOfMemory) → ShowsFault config entries fault → IfOk r (λ told. IsSaid told (audit_text fault) 1)
-    → IfOk r (λ told. fault ≢ OutOfMemory) → IfOk r (AuditTells config entries)
-told-fault config entries fault (Ok told) complete shows said differs =
-    inr (record { none = λ h. differs (complete h); fault = fault; shows = shows; no_want = differs; said = said })
-told-fault config entries fault (Err e) complete shows said differs = tt
+pub output-fault : {E : Type 0} → (config : ConfigValue) (entries : List Entry) (fault : AuditFault) (r : Result JobOutput E)
+    → (IsHistory config entries → fault ≡ OutOfMemory) → IsFaultOfEntries config entries fault → IfOk r (λ output. IsOutput output (line_of_audit_fault fault) 1)
+    → IfOk r (λ output. fault ≢ OutOfMemory) → IfOk r (AuditPrints config entries)
+output-fault config entries fault (Ok output) complete shows printed differs =
+    inr (record { none = λ h. differs (complete h); fault = fault; shows = shows; is_fault_of_input = differs; printed = printed })
+output-fault config entries fault (Err e) complete shows printed differs = tt
 
 -- If a text was read as these entries up to its end, then what is printed of the entries is right for the text too.
 module _ (text : List ℕ) (entries : List Entry) where
@@ -43,36 +43,36 @@ module _ (text : List ℕ) (entries : List Entry) where
   all-is (Some more) taken at_end =
       taken ∙ ap (λ m. (journal_text entries ++ []) ++ m) at_end ∙ append-nil (journal_text entries ++ []) ∙ append-nil (journal_text entries)
 
-  same-history : (config : ConfigValue) → text ≡ journal_text entries → AllByRecursion IsWritten entries → IsJournal config text → IsHistory config entries
+  same-history : (config : ConfigValue) → text ≡ journal_text entries → AllByRecursion IsWritable entries → IsJournal config text → IsHistory config entries
   same-history config is written j =
       subst (IsHistory config) (one_journal j.entries entries (fit j.entries j.written) (fit entries written) (sym j.text_is ∙ is)) j.history
 
-  judged : (config : ConfigValue) (told : Told) → text ≡ journal_text entries → AllByRecursion IsWritten entries → AuditTells config entries told
-      → JournalTells config text told
-  judged config told is written (inl legal) =
-      inl (record { journal = record { entries = entries; text_is = is; written = written; history = legal.0 }; said = legal.1 })
-  judged config told is written (inr fault) =
-      inr (record { none = λ j. fault.none (same-history config is written j); status_is = fault.said.status_is; of = inl (entries, is, fault) })
+  judged : (config : ConfigValue) (output : JobOutput) → text ≡ journal_text entries → AllByRecursion IsWritable entries → AuditPrints config entries output
+      → JournalPrints config text output
+  judged config output is written (inl legal) =
+      inl (record { journal = record { entries = entries; text_is = is; written = written; history = legal.0 }; printed = legal.1 })
+  judged config output is written (inr fault) =
+      inr (record { none = λ j. fault.none (same-history config is written j); status_is = fault.printed.status_is; of = inl (entries, is, fault) })
 
-  pub all-told : (config : ConfigValue) (new : Option (List ℕ)) (told : Told) → ReadsAll (Some text) new entries → AuditTells config entries told
-      → JournalTells config text told
-  all-told config new told r tells = judged config told (all-is new r.reads.taken r.at_end) r.reads.each tells
+  pub all-output : (config : ConfigValue) (new : Option (List ℕ)) (output : JobOutput) → ReadsAll (Some text) new entries → AuditPrints config entries output
+      → JournalPrints config text output
+  all-output config new output r tells = judged config output (all-is new r.reads.taken r.at_end) r.reads.each tells
 
 -- If a text was read up to its end, and each entry was audited as it was read, then what is printed is right for the
 -- text.
 pub all-taken : (text : List ℕ) (config : ConfigValue) (new : Option (List ℕ)) (before after : AuditorValue)
-    (audited : Result SiteValue AuditFault) (told : Told)
+    (audited : Result SiteValue AuditFault) (output : JobOutput)
     → before.site ≡ new_site config → before.fault ≡ None → TakesAll (Some text) new (TookEntries before after)
     → ((entries : List Entry) → Found after entries → Audits after.site.config entries audited)
     → ((entries : List Entry) → Found after entries → IsHistory after.site.config entries → IfErr audited (λ _. ⊥))
     → ((config : ConfigValue) (entries : List Entry) → Audits config entries audited → (IsHistory config entries → IfErr audited (λ fault. fault ≡ OutOfMemory))
-    → AuditTells config entries told)
-    → JournalTells config text told
-all-taken text config new before after audited told site fault taken audits complete tells =
+    → AuditPrints config entries output)
+    → JournalPrints config text output
+all-taken text config new before after audited output site fault taken audits complete tells =
     let took = taken.taken (ap (λ (s : SiteValue). s.history) site, fault) in
     let same : after.site.config ≡ config = took.0 ∙ ap (λ (s : SiteValue). s.config) site in
-    all-told text taken.entries config new told taken.reads
-    (subst (λ (c : ConfigValue). AuditTells c taken.entries told) same
+    all-output text taken.entries config new output taken.reads
+    (subst (λ (c : ConfigValue). AuditPrints c taken.entries output) same
     (tells after.site.config taken.entries (audits taken.entries took.1) (λ h. no-fault audited (complete taken.entries took.1 h))))
   where
     no-fault : (r : Result SiteValue AuditFault) → IfErr r (λ _. ⊥) → IfErr r (λ fault. fault ≡ OutOfMemory)
@@ -80,21 +80,21 @@ all-taken text config new before after audited told site fault taken audits comp
     no-fault (Err f) h = absurd h
 
 -- a text in which reading found a fault, other than of a device or of memory, isn't the journal of any history
-no-journal : (config : ConfigValue) (text : List ℕ) (new : Option (List ℕ)) (fault : JournalFault) → ReadsFault (Some text) new fault → (IsWant fault → ⊥)
+no-journal : (config : ConfigValue) (text : List ℕ) (new : Option (List ℕ)) (fault : JournalFault) → ReadsFault (Some text) new fault → (IsDeviceOrOutOfMemory fault → ⊥)
     → IsJournal config text → ⊥
 no-journal config text new fault r wants j = wants (fault_again j.entries new fault j.written (subst (λ t. ReadsFault (Some t) new fault) j.text_is r))
 
-pub fault-told : {E : Type 0} → (config : ConfigValue) (text : List ℕ) (new : Option (List ℕ)) (fault : JournalFault) (r : Result Told E)
-    → ReadsFault (Some text) new fault → OnOk r (IsWant fault → ⊥) → IfOk r (λ told. IsSaid told (journal_fault_answer fault) 1) → IfOk r (JournalTells config text)
-fault-told config text new fault (Ok told) reads wants said =
+pub fault-output : {E : Type 0} → (config : ConfigValue) (text : List ℕ) (new : Option (List ℕ)) (fault : JournalFault) (r : Result JobOutput E)
+    → ReadsFault (Some text) new fault → OnOk r (IsDeviceOrOutOfMemory fault → ⊥) → IfOk r (λ output. IsOutput output (line_of_journal_fault fault) 1) → IfOk r (JournalPrints config text)
+fault-output config text new fault (Ok output) reads wants printed =
     inr (record {
       none = no-journal config text new fault reads wants;
-      status_is = said.status_is;
-      of = inr (record { new = new; fault = fault; reads = reads; no_want = wants; said = said });
+      status_is = printed.status_is;
+      of = inr (record { new = new; fault = fault; reads = reads; is_fault_of_input = wants; printed = printed });
     })
-fault-told config text new fault (Err e) reads wants said = tt
+fault-output config text new fault (Err e) reads wants printed = tt
 
--- `FailsOrRunsOut` holds for a result if it holds for another one, and both or neither say that the device failed
+-- `FailsOrRunsOut` holds for a result if it holds for another one, and both or neither are the error `Device`
 pub fails-so : {T U : Type 0} (r : Result T JournalFault) (s : Result U JournalFault) (a b c d : ℕ) → is_device s ≡ is_device r
     → FailsOrRunsOut r a b c d → FailsOrRunsOut s a b c d
 fails-so r s a b c d e = subst (λ (f : Bool). RoseBy (one_if f) a b ⊎ (RoseBy 0 a b × RoseBy journal_reads c d)) (sym e)

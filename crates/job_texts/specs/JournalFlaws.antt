@@ -6,10 +6,10 @@ use Rattle.till_request.specs.declared.act.Act.TheVariants as act
 use Rattle.decision_journal.specs.declared.entries.Entry.{Entry}
 use Rattle.decision_journal.specs.declared.fault.JournalFault.{JournalFault}
 use Rattle.decision_journal.specs.declared.fault.JournalFault.TheVariants as journal
-use Rattle.decision_journal.specs.Journal.{IsWant, ReadsAll, ReadsFault}
+use Rattle.decision_journal.specs.Journal.{IsDeviceOrOutOfMemory, ReadsAll, ReadsFault}
 use Rattle.site_core.specs.declared.auditing.AuditFault.{AuditFault}
 use Rattle.site_core.specs.declared.auditing.AuditFault.TheVariants.{BadNumber, BadProgram, NotLegal, OutOfMemory}
-use Rattle.site_core.specs.Audit.{Rejects, ShownAfter}
+use Rattle.site_core.specs.Audit.{Rejects, RejectsNextEntry}
 use Rattle.site_core.specs.Limits.{ConfigValue}
 use Rattle.site_core.specs.Site.{SiteValue, Upholds, entered}
 use Rattle.job_texts.specs.declared.journal_reasons.JournalFlaw.{JournalFlaw}
@@ -17,7 +17,8 @@ use Rattle.job_texts.specs.declared.journal_reasons.JournalFlaw.TheVariants as f
 use Rattle.job_texts.specs.Differing.{Differs}
 use Rattle.job_texts.specs.Reasons.{IsReason}
 
--- A site of this configuration whose history is `before` refuses `entry` as the next one, with this fault.
+-- A site of this configuration can have the history `before`, and refuses `entry` as its next entry, with this fault.
+-- If memory ran out, nothing is claimed about `entry`.
 pub record IsRejected (config : ConfigValue) (before : List Entry) (entry : Entry) (fault : AuditFault) : Type 0 where
   pub old : SiteValue
   pub config_is : old.config ≡ config
@@ -25,8 +26,8 @@ pub record IsRejected (config : ConfigValue) (before : List Entry) (entry : Entr
   pub upholds : Upholds old
   pub rejects : Rejects old entry fault
 
--- A site of this configuration whose history is `before` has room for one more entry. `new` has this history and after
--- it the entry that the site makes of the event of `entry`.
+-- A site of this configuration whose history is `before` has room for one more entry. The history of `new` is `before`
+-- and then the entry that this site makes of the event of `entry`.
 pub record AnsweredAfter (config : ConfigValue) (before : List Entry) (entry : Entry) (new : SiteValue) : Type 0 where
   pub old : SiteValue
   pub config_is : old.config ≡ config
@@ -35,48 +36,49 @@ pub record AnsweredAfter (config : ConfigValue) (before : List Entry) (entry : E
   pub room : length before < 1048576
   pub after : new.history ≡ before ++ entered old entry.pass entry.moment entry.act ∷ []
 
--- the first part in which the entry differs from the one that the site makes, or `NoEntry` if the site's history is
--- full
+-- The flaw is the first part in which `entry` differs from the entry that the site makes, or it is `NoEntry` if the
+-- site's history is full.
 abbrev pub IsEntryFlaw : ConfigValue → List Entry → Entry → JournalFlaw → Type 0
 IsEntryFlaw config before entry (flaw.Entry difference) =
     (length before < 1048576) × (old : SiteValue) × (old.config ≡ config) × (old.history ≡ before) × Upholds old
     × Differs entry (entered old entry.pass entry.moment entry.act) difference
 IsEntryFlaw config before entry flaw.NoEntry = length before ≡ 1048576
-IsEntryFlaw config before entry told = ⊥
+IsEntryFlaw config before entry reported = ⊥
 
--- the history's last entry differs from `entry` in its moment, its reply or its run
+-- The history's last entry differs from `entry` in its moment, its reply or its run.
 pub record HasOtherLast (history : List Entry) (entry : Entry) : Type 0 where
   pub before : List Entry
   pub last : Entry
   pub history_is : history ≡ before ++ last ∷ []
   pub other : entry.moment ≡ last.moment → entry.reply ≡ last.reply → entry.run ≡ last.run → ⊥
 
--- what is wrong with a load: its slot, and why the verifier refuses its program
+-- The flaw is what is wrong with a load: its slot, and why the verifier refuses its program.
 abbrev pub IsLoadFlaw : Act → JournalFlaw → Type 0
 IsLoadFlaw (act.Load number mask layout bytes) (flaw.Program slot refused) = (slot ≡ number) × IsReason (as_loaded bytes mask layout) refused
-IsLoadFlaw act told = ⊥
+IsLoadFlaw act reported = ⊥
 
--- What is wrong with an entry that an audit refuses. For a wrong number it is that number and the entry's place. For a
--- refused program it is why the program is refused. Otherwise it is the part in which the entry differs.
-abbrev pub TellsFault : ConfigValue → List Entry → Entry → AuditFault → JournalFlaw → Type 0
-TellsFault config before entry (BadNumber place) (flaw.Number number at) = (number ≡ entry.number) × (at ≡ place)
-TellsFault config before entry (BadProgram place refusal) told = IsLoadFlaw entry.act told
-TellsFault config before entry (NotLegal place) told = IsEntryFlaw config before entry told
-TellsFault config before entry fault told = ⊥
+-- The flaw is what is wrong with an entry that an audit refuses. For a wrong number it is that number and the entry's
+-- place. For a refused program it is why the program is refused. Otherwise it is the first part in which the entry
+-- differs from the one that the site makes, or that the site's history is full.
+abbrev pub ExplainsFault : ConfigValue → List Entry → Entry → AuditFault → JournalFlaw → Type 0
+ExplainsFault config before entry (BadNumber place) (flaw.Number number at) = (number ≡ entry.number) × (at ≡ place)
+ExplainsFault config before entry (BadProgram place refusal) reported = IsLoadFlaw entry.act reported
+ExplainsFault config before entry (NotLegal place) reported = IsEntryFlaw config before entry reported
+ExplainsFault config before entry fault reported = ⊥
 
--- the place of the entry that an audit's fault names
+-- The audit's fault names the entry at the place `at`. The fault that memory ran out names none.
 abbrev pub IsPlaceOf : AuditFault → ℕ → Type 0
 IsPlaceOf (BadNumber place) at = at ≡ place
 IsPlaceOf (BadProgram place refusal) at = at ≡ place
 IsPlaceOf (NotLegal place) at = at ≡ place
 IsPlaceOf OutOfMemory at = ⊥
 
--- An audit refuses the entry at this place, and `told` is what is wrong with it.
-pub record ShowsFlawAt (config : ConfigValue) (entries : List Entry) (at : ℕ) (told : JournalFlaw) : Type 0 where
+-- An audit refuses the entry at this place, and `reported` is what is wrong with it.
+pub record ShowsFlawAt (config : ConfigValue) (entries : List Entry) (at : ℕ) (reported : JournalFlaw) : Type 0 where
   pub fault : AuditFault
   pub place : IsPlaceOf fault at
-  pub shown : ShownAfter config entries fault
-  pub tells : TellsFault config shown.old.history shown.entry fault told
+  pub shown : RejectsNextEntry config entries fault
+  pub tells : ExplainsFault config shown.old.history shown.entry fault reported
 
 -- the number of the line that a fault of a journal's text names; None if it names none
 abbrev pub line_in : JournalFault → Option ℕ
@@ -85,23 +87,24 @@ line_in journal.Cut = None
 line_in journal.Device = None
 line_in journal.OutOfMemory = None
 
--- The text that was read has this fault, at this line if the fault names one. It isn't that a device failed or that
--- memory ran out.
-pub record IsTextFlaw (old new : Option (List ℕ)) (line : Option ℕ) (told : JournalFlaw) : Type 0 where
+-- The text that was read has this fault, at this line if the fault names one. The fault isn't that a device failed or
+-- that memory ran out.
+pub record IsTextFlaw (old new : Option (List ℕ)) (line : Option ℕ) (reported : JournalFlaw) : Type 0 where
   pub fault : JournalFault
   pub reads : ReadsFault old new fault
-  pub no_want : ¬ IsWant fault
-  pub told_is : told ≡ flaw.Text fault
+  pub is_fault_of_input : ¬ IsDeviceOrOutOfMemory fault
+  pub reported_is : reported ≡ flaw.Text fault
   pub line_is : line ≡ line_in fault
 
--- The text that was read is the journal of some entries. An audit refuses the entry on this line.
-pub record IsEntriesFlaw (config : ConfigValue) (old new : Option (List ℕ)) (line : Option ℕ) (told : JournalFlaw) : Type 0 where
+-- The text that was read is the journal of some entries. An audit refuses the entry on this line, and `reported` is
+-- what is wrong with it.
+pub record IsEntriesFlaw (config : ConfigValue) (old new : Option (List ℕ)) (line : Option ℕ) (reported : JournalFlaw) : Type 0 where
   pub entries : List Entry
   pub reads : ReadsAll old new entries
   pub place : ℕ
   pub line_is : line ≡ Some place
-  pub shows : ShowsFlawAt config entries place told
+  pub shows : ShowsFlawAt config entries place reported
 
--- why the text that was read is refused, and the number of the line at fault if there is one
+-- `reported` is why the text that was read is refused, and `line` is the number of the line at fault, if there is one.
 abbrev pub IsJournalFlaw : ConfigValue → Option (List ℕ) → Option (List ℕ) → Option ℕ → JournalFlaw → Type 0
-IsJournalFlaw config old new line told = IsTextFlaw old new line told ⊎ IsEntriesFlaw config old new line told
+IsJournalFlaw config old new line reported = IsTextFlaw old new line reported ⊎ IsEntriesFlaw config old new line reported

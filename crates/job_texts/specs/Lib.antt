@@ -1,5 +1,5 @@
-pub mod Told
-pub mod AuditTold
+pub mod JobOutput
+pub mod AuditOutput
 pub mod Assembler
 pub mod Reasons
 pub mod Differing

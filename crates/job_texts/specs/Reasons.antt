@@ -5,19 +5,19 @@ use Rattle.bpf_model.specs.declared.instruction.Unit.{Unit as ProgramUnit}
 use Rattle.bpf_model.specs.declared.instruction.Unit.TheVariants.{First}
 use Rattle.bpf_model.specs.Program.{ProgramText}
 use Rattle.bpf_model.specs.Reading.{units}
-use Rattle.bpf_asm.specs.Program.{Spells}
+use Rattle.bpf_asm.specs.Program.{AssemblesTo}
 use Rattle.bpf_asm.specs.Numbered.{line_of_unit}
 use Rattle.helpers.specs.declared.Kind.{Kind}
 use Rattle.helpers.specs.Calls.{signature}
 use Rattle.reg_types.specs.declared.refusal.Refusal.{Refusal}
 use Rattle.reg_types.specs.declared.refusal.Refusal.TheVariants.{«Type» as OfType}
 use Rattle.reg_types.specs.declared.refusal.TypeFault.TheVariants.{BadArgument}
-use Rattle.reg_types.specs.Refusals.{shown_by}
-use Rattle.reg_types.specs.Shown.{IsRefused, refusal_of}
-use Rattle.bpf_asm.specs.ProgramFile.{line_at}
+use Rattle.reg_types.specs.Refusals.{refusal_numbers}
+use Rattle.reg_types.specs.RefusedPrograms.{IsRefused, refusal_of}
+use Rattle.bpf_asm.specs.ProgramFile.{unit_line}
 use Rattle.job_texts.specs.declared.reasons.RefusedProgram.{RefusedProgram}
 
--- the V number among the numbers of a refusal; 0 if it has none
+-- the number of the V fault among the numbers of a refusal; 0 if it has none
 abbrev pub number_in : Option (ℕ × (Option ℕ) × (Option ℕ)) → ℕ
 number_in None = 0
 number_in (Some p) = p.0
@@ -27,7 +27,8 @@ abbrev pub unit_in : Option (ℕ × (Option ℕ) × (Option ℕ)) → Option ℕ
 unit_in None = None
 unit_in (Some p) = p.1
 
--- the kind of value for argument 1 or 2, among the kinds of value that a helper takes
+-- the kind of value that a helper takes as argument 1 or 2, given the kinds of all its arguments; None for another
+-- argument, and if there is no such helper
 abbrev pub kind_among : Option (List Kind) → ℕ → Option Kind
 kind_among None argument = None
 kind_among (Some kinds) argument =
@@ -40,7 +41,8 @@ abbrev pub wanted_by : Option ProgramUnit → ℕ → Option Kind
 wanted_by (Some (First i)) argument = wanted_at i.imm argument
 wanted_by unit argument = None
 
--- the kind of value that the called helper takes as the argument that a refusal names; None if it names no argument
+-- the kind of value that the called helper takes as the argument that a refusal names; None if it names no argument,
+-- if no instruction begins at its unit, or if there is no such helper or argument
 abbrev pub kind_wanted : List ProgramUnit → Refusal → Option Kind
 kind_wanted code (OfType (BadArgument unit argument)) = wanted_by (slice_get code unit) argument
 kind_wanted code refusal = None
@@ -52,9 +54,10 @@ wanted_in (Some code) refusal = kind_wanted code refusal
 
 -- the 16 hexadecimal digits of a unit and an LF; None if the bytes end before the unit does
 abbrev pub digits_line : List ℕ → ℕ → Option (List ℕ)
-digits_line bytes unit = if nat_le (8 * unit + 8) (length bytes) then Some (line_at bytes unit) else None
+digits_line bytes unit = if nat_le (8 * unit + 8) (length bytes) then Some (unit_line bytes unit) else None
 
--- the text line of the instruction at a unit; if the bytes can't be decoded as units, the unit's digits
+-- the line of the instruction at a unit as text, or None if no instruction begins there; if the bytes can't be decoded
+-- as units, the unit's digits
 abbrev pub line_by : Option (List ProgramUnit) → List ℕ → ℕ → Option (List ℕ)
 line_by None bytes unit = digits_line bytes unit
 line_by (Some code) bytes unit = line_of_unit code unit
@@ -64,22 +67,22 @@ abbrev pub line_named : List ℕ → Option ℕ → Option (List ℕ)
 line_named bytes None = None
 line_named bytes (Some unit) = line_by (units bytes) bytes unit
 
--- the line and the kind of argument that are kept with a refusal are the ones that the refusal names in these bytes
-pub record Names (bytes : List ℕ) (told : RefusedProgram) : Type 0 where
-  pub line_is : option_map string_bytes told.line ≡ line_named bytes (unit_in (shown_by told.refusal))
-  pub wanted_is : told.wanted ≡ wanted_in (units bytes) told.refusal
+-- The line and the kind of argument in `reported` are the ones that its refusal names in these bytes.
+pub record Names (bytes : List ℕ) (reported : RefusedProgram) : Type 0 where
+  pub line_is : option_map string_bytes reported.line ≡ line_named bytes (unit_in (refusal_numbers reported.refusal))
+  pub wanted_is : reported.wanted ≡ wanted_in (units bytes) reported.refusal
 
--- the text can be assembled: it is the spelling of a program
+-- The text assembles to some program.
 abbrev pub IsSpelling : List ℕ → Type 0
-IsSpelling text = (code : List ProgramUnit) × Spells text code
+IsSpelling text = (code : List ProgramUnit) × AssemblesTo text code
 
--- the program is refused for this reason, with the line and the kind of argument that the refusal names
-pub record IsReason (p : ProgramText) (told : RefusedProgram) : Type 0 where
-  pub refused : refusal_of p ≡ Some told.refusal
-  pub names : Names p.bytes told
+-- `reported` is why the program is refused, with the line and the kind of argument that the refusal names.
+pub record IsReason (p : ProgramText) (reported : RefusedProgram) : Type 0 where
+  pub refused : refusal_of p ≡ Some reported.refusal
+  pub names : Names p.bytes reported
 
--- the program is refused for this reason, what the reason says of the program is true, and it has a V number
-pub record IsExplained (p : ProgramText) (told : RefusedProgram) : Type 0 where
-  pub reason : IsReason p told
-  pub shows : IsRefused p told.refusal
-  pub numbered : shown_by told.refusal ≢ None
+-- `reported` is why the program is refused. What its refusal claims about the program is true, and it has a V number.
+pub record IsExplained (p : ProgramText) (reported : RefusedProgram) : Type 0 where
+  pub reason : IsReason p reported
+  pub shows : IsRefused p reported.refusal
+  pub numbered : refusal_numbers reported.refusal ≢ None

@@ -1,7 +1,7 @@
 //! The reasons why a program file is refused, in words.
 ghost use Rattle.std.specs.Prelude.{◌≡◌, ◌≢◌, ◌<◌, false, length, IfOk, IsOk, Ok, OnOk, MatchOption};
-ghost use Rattle.bpf_model.specs.Reading.{has_right_length};
-ghost use Rattle.job_texts.specs.FileFlaws.{IsAccepted, IsShown, IsVerifyFlaw, IsDisFlaw, ShownOf, DisFlawOf};
+ghost use Rattle.bpf_model.specs.Reading.{has_valid_length};
+ghost use Rattle.job_texts.specs.FileFlaws.{IsAccepted, IsDecodable, IsVerifyFlaw, IsDisFlaw, DecodesOf, DisFlawOf};
 
 use crate::reasons::{RefusedProgram, explain_refusal, refused_program};
 use bpf_asm::ProgramFileFault;
@@ -32,11 +32,11 @@ impl fmt::Display for ProgramFlaw {
     }
 }
 
-/// Returns a fault of a file as a flaw. Only the fault `OutOfMemory` gives the error.
+/// Returns a fault of a program file as a flaw. The error is that this fault is `OutOfMemory`.
 fn file_flaw(fault: ProgramFileFault) -> Result<ProgramFlaw, AllocError>
     ensures flaw { IfOk result (λ flaw. flaw ≡ ProgramFlaw.File fault) }
     ensures fault { OnOk result (fault ≢ ProgramFileFault.OutOfMemory) }
-    ensures told { fault ≢ ProgramFileFault.OutOfMemory → IsOk result }
+    ensures reported { fault ≢ ProgramFileFault.OutOfMemory → IsOk result }
 {
     match fault {
         ProgramFileFault::TooLong | ProgramFileFault::BadDigits => Ok(ProgramFlaw::File(fault)),
@@ -69,7 +69,7 @@ pub fn verify_flaw(
 /// Returns why `dis_file` refuses a program file, or `None` if it prints the file as text. The error is that memory ran
 /// out. For a file of over 65,536 bytes there is no error.
 pub fn dis_flaw(alloc: Global, file: &[u8]) -> Result<Option<ProgramFlaw>, AllocError>
-    ensures flaw { IfOk result (λ found. MatchOption found (IsShown file.now) (IsDisFlaw file.now)) }
+    ensures flaw { IfOk result (λ found. MatchOption found (IsDecodable file.now) (IsDisFlaw file.now)) }
     ensures length { 65536 < length file.now → IsOk result }
 {
     match read_program(alloc, file) {
@@ -81,8 +81,8 @@ pub fn dis_flaw(alloc: Global, file: &[u8]) -> Result<Option<ProgramFlaw>, Alloc
 /// Returns why bytes don't decode, or `None` if they do. The error is that memory ran out. Bytes that aren't 1 to 512
 /// whole units give no error.
 fn undecoded(alloc: Global, bytes: &[u8]) -> Result<Option<ProgramFlaw>, AllocError>
-    ensures flaw { IfOk result (λ found. MatchOption found (ShownOf (Ok bytes.now)) (DisFlawOf (Ok bytes.now))) }
-    ensures length { has_right_length bytes.now ≡ false → IsOk result }
+    ensures flaw { IfOk result (λ found. MatchOption found (DecodesOf (Ok bytes.now)) (DisFlawOf (Ok bytes.now))) }
+    ensures length { has_valid_length bytes.now ≡ false → IsOk result }
 {
     match decode(alloc, bytes) {
         Ok(_) => Ok(None),

@@ -1,10 +1,10 @@
 //! The reasons why a journal is refused, in words.
 ghost use Rattle.std.specs.Prelude.{◌≡◌, ◌≢◌, ◌↔◌, ℕ, List, length, Some, None, IfErr, IfOk, IfSome, IsNone, IsOk, OnOk};
 ghost use Rattle.std.specs.Prelude.{◌++◌, ◌∷◌, [], Err, MatchOption};
-ghost use Rattle.decision_journal.specs.Journal.{FailsOrRunsOut, IsWant, SpendsBlocks, is_device};
-ghost use Rattle.site_core.specs.Audit.{ShowsFault};
+ghost use Rattle.decision_journal.specs.Journal.{FailsOrRunsOut, IsDeviceOrOutOfMemory, SpendsBlocks, is_device};
+ghost use Rattle.site_core.specs.Audit.{IsFaultOfEntries};
 ghost use Rattle.site_core.specs.Histories.{IsHistory, IsJournal, load_refusal};
-ghost use Rattle.job_texts.specs.JournalFlaws.{AnsweredAfter, IsRejected, IsEntryFlaw, IsLoadFlaw, TellsFault, IsPlaceOf};
+ghost use Rattle.job_texts.specs.JournalFlaws.{AnsweredAfter, IsRejected, IsEntryFlaw, IsLoadFlaw, ExplainsFault, IsPlaceOf};
 ghost use Rattle.job_texts.specs.JournalFlaws.{HasOtherLast, ShowsFlawAt, IsJournalFlaw, line_in};
 ghost use Rattle.job_texts.specs.Differing.{Differs};
 ghost use Rattle.decision_journal.specs.declared.entries.Entry.{Entry};
@@ -27,7 +27,7 @@ pub enum JournalFlaw {
     Text(JournalFault),
     /// F1: the number of an entry isn't its place. The values are the number and the place.
     Number(u32, u32),
-    /// F2: the verifier refuses the program of a load. The number is that of the load's slot.
+    /// F2: the verifier refuses the program of a load. The number is that of the slot.
     Program(u32, RefusedProgram),
     /// F3: the entry differs from the one that the site makes of its event.
     Entry(Difference),
@@ -53,9 +53,9 @@ impl fmt::Display for JournalFlaw {
     }
 }
 
-/// Returns the site after the entries `before` and then the event of `entry`. A site of this configuration must be able
-/// to have the entries `before`, and if the event is a load, the verifier must accept its program. The result is `None`
-/// if the site's history is full before that event. The error is that memory ran out.
+/// Returns a site that has answered the events of the entries `before` and then the event of `entry`. A site of this
+/// configuration must be able to have the history `before`. If the event is a load, the verifier must accept its
+/// program. The result is `None` if the site's history is full before that event. The error is that memory ran out.
 fn answered_after(
     alloc: Global,
     config: Config,
@@ -112,8 +112,8 @@ fn entry_flaw(
     Ok(JournalFlaw::Entry(difference))
 }
 
-/// Returns the first difference between an entry of a journal and the last entry of the site's history. The two must
-/// differ.
+/// Returns the first difference between an entry of a journal and the last entry of the site's history. The history
+/// must have an entry, and the moments, the replies or the runs of the two entries must differ.
 fn last_difference(site: &Site, entry: &Entry) -> Difference
     requires { HasOtherLast site.now.history entry.now }
     ensures { (before : List Entry) (last : Entry) → site.now.history ≡ before ++ last ∷ []
@@ -144,7 +144,7 @@ fn load_flaw(alloc: Global, act: &Act, refusal: Refusal) -> Result<JournalFlaw, 
 }
 
 /// Returns what is wrong with an entry. An audit must refuse the entry after the entries `before`, with this fault. The
-/// error is that memory ran out. The fault `OutOfMemory` gives this error too, and `BadNumber` gives no error.
+/// error is that memory ran out. The fault `OutOfMemory` gives this error too. For `BadNumber` there is no error.
 fn fault_flaw(
     alloc: Global,
     config: Config,
@@ -153,7 +153,7 @@ fn fault_flaw(
     fault: AuditFault,
 ) -> Result<JournalFlaw, AllocError>
     requires { IsRejected config before.now entry.now fault }
-    ensures flaw { IfOk result (TellsFault config before.now entry.now fault) }
+    ensures flaw { IfOk result (ExplainsFault config before.now entry.now fault) }
     ensures number { (place : ℕ) → fault ≡ AuditFault.BadNumber place → IsOk result }
 {
     match fault {
@@ -164,7 +164,7 @@ fn fault_flaw(
     }
 }
 
-/// Returns the place of the entry that an audit's fault names, counted from 1; `None` for `OutOfMemory`.
+/// Returns the place of the entry that an audit's fault names, counted from 1, or `None` for the fault `OutOfMemory`.
 fn place_of(fault: AuditFault) -> Option<u32>
     ensures { MatchOption result (fault ≡ AuditFault.OutOfMemory) (IsPlaceOf fault) }
 {
@@ -185,7 +185,7 @@ fn shown_flaw(
     entries: &[Entry],
     fault: AuditFault,
 ) -> Result<(u32, JournalFlaw), AllocError>
-    requires { ShowsFault config entries.now fault }
+    requires { IsFaultOfEntries config entries.now fault }
     ensures flaw { IfOk result (λ p. ShowsFlawAt config entries.now p.0 p.1) }
     ensures fault { OnOk result (fault ≢ AuditFault.OutOfMemory) }
     ensures number { (place : ℕ) → fault ≡ AuditFault.BadNumber place → IsOk result }
@@ -214,13 +214,13 @@ pub fn entries_flaw(
     }
 }
 
-/// Returns a fault of a journal's text as a flaw, with the number of the line that it names, if it names one. A fault
-/// of the device or of memory is returned as the error.
+/// Returns a fault of a journal's text as a flaw, with the number of the line that it names, or `None` if it names
+/// none. A fault of the device or of memory is returned as the error.
 fn text_flaw(fault: JournalFault) -> Result<(Option<u32>, JournalFlaw), JournalFault>
     ensures line { IfOk result (λ p. p.0 ≡ line_in fault) }
     ensures flaw { IfOk result (λ p. p.1 ≡ JournalFlaw.Text fault) }
-    ensures text { OnOk result (¬ IsWant fault) }
-    ensures want { IfErr result IsWant }
+    ensures text { OnOk result (¬ IsDeviceOrOutOfMemory fault) }
+    ensures want { IfErr result IsDeviceOrOutOfMemory }
     ensures cause { IfErr result (λ e. e ≡ fault) }
     ensures device { is_device result ≡ is_device {T = Unit {0}} (Err fault) }
 {
@@ -245,9 +245,9 @@ pub fn journal_flaw<I: LineIn>(
 ) -> Result<Option<(Option<u32>, JournalFlaw)>, JournalFault>
     ensures none { (text : List ℕ) → I.remaining input.old ≡ Some text
         → IfOk result (λ found. IsNone found ↔ IsJournal config text) }
-    ensures told { IfOk result
+    ensures reported { IfOk result
         (λ found. IfSome found (λ p. IsJournalFlaw config (I.remaining input.old) (I.remaining input.new) p.0 p.1)) }
-    ensures want { IfErr result IsWant }
+    ensures want { IfErr result IsDeviceOrOutOfMemory }
     ensures failed { FailsOrRunsOut result (I.failures input.old) (I.failures input.new) (I.reads input.old)
         (I.reads input.new) }
     ensures reads { SpendsBlocks (I.reads input.old) (I.reads input.new) (I.asked input.old) (I.asked input.new) }

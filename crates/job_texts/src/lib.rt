@@ -6,12 +6,12 @@ pub mod audit;
 pub mod differing;
 pub mod file_flaws;
 pub mod journal_reasons;
+mod output;
 pub mod program;
 pub mod reasons;
-mod told;
 
 pub use differing::Difference;
 pub use file_flaws::ProgramFlaw;
 pub use journal_reasons::JournalFlaw;
+pub use output::{JobOutput, REFUSED};
 pub use reasons::RefusedProgram;
-pub use told::{REFUSED, Told};

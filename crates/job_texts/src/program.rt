@@ -2,13 +2,13 @@
 ghost use Rattle.std.specs.Prelude.{◌≡◌, ◌/◌, ◌++◌, ◌⊎◌, ℕ, List, codes, length, IfOk};
 ghost use Rattle.std.specs.Fmt.{decimal};
 ghost use Rattle.bpf_model.specs.Program.{ProgramText, as_loaded};
-ghost use Rattle.reg_types.specs.Shown.{IsRefused, IsRefusal, refusal_of};
+ghost use Rattle.reg_types.specs.RefusedPrograms.{IsRefused, IsRefusal, refusal_of};
 ghost use Rattle.bpf_decode.specs.declared.DecodeFault.{DecodeFault};
 ghost use Rattle.bpf_decode.specs.Faults.{IsRefusedFor};
-ghost use Rattle.job_texts.specs.Assembler.{ToldDecodeFault};
-ghost use Rattle.job_texts.specs.Told.{IsSaid, Accepted, Refused, VerifyTells};
+ghost use Rattle.job_texts.specs.Assembler.{PrintsDecodeFault};
+ghost use Rattle.job_texts.specs.JobOutput.{IsOutput, PrintsAccepted, PrintsRefusal, VerifyPrints};
 
-use crate::told::{REFUSED, Told, numbered, refused};
+use crate::output::{JobOutput, REFUSED, numbered_output, refusal_output};
 use bpf_asm::ProgramFileFault;
 use bpf_asm::program_file::read_program;
 use reg_types::verifier::verify;
@@ -18,29 +18,33 @@ use till_request::Answer;
 
 /// Returns what `fc verify` prints for an accepted program: the line `accepted UNITS`, and 0 as the exit status. The
 /// error is that memory ran out.
-fn told_accepted(alloc: Global, program: &Program) -> Result<Told, AllocError>
+fn accepted_output(alloc: Global, program: &Program) -> Result<JobOutput, AllocError>
     ensures { IfOk result
-        (λ told. IsSaid told (codes "accepted " ++ decimal (length program.now.bytes / 8) ++ codes "\n") 0) }
+        (λ output. IsOutput output (codes "accepted " ++ decimal (length program.now.bytes / 8) ++ codes "\n") 0) }
 {
-    numbered(alloc, "accepted", program.units() as u64, 0)
+    numbered_output(alloc, "accepted", program.units() as u64, 0)
 }
 
-/// Returns the line of the V fault of a refused program, with status 1: the fault's number, its unit, and its register
-/// or argument, where it has them. The error is that memory ran out. The refusal `OutOfMemory` has no line and gives
-/// this error too.
-pub(crate) fn told_refusal(alloc: Global, refusal: Refusal) -> Result<Told, AllocError>
+/// Returns the line for a refused program, with status 1: the number of its V fault (the verifier's), the fault's unit,
+/// and its register or argument, where it has them. The error is that memory ran out. The refusal `OutOfMemory` has no
+/// line and gives this error too.
+pub(crate) fn program_refusal_output(
+    alloc: Global,
+    refusal: Refusal,
+) -> Result<JobOutput, AllocError>
     ensures program { IfOk result
-        (λ told. (p : ProgramText) → IsRefusal (refusal_of p) refusal → IsRefused p refusal → Refused p told) }
+        (λ output. (p : ProgramText) → IsRefusal (refusal_of p) refusal → IsRefused p refusal
+        → PrintsRefusal p output) }
     ensures bytes { IfOk result
-        (λ told. (bytes : List ℕ) (fault : DecodeFault) → refusal ≡ Refusal.Decode fault → IsRefusedFor bytes fault
-        → ToldDecodeFault bytes told) }
+        (λ output. (bytes : List ℕ) (fault : DecodeFault) → refusal ≡ Refusal.Decode fault → IsRefusedFor bytes fault
+        → PrintsDecodeFault bytes output) }
 {
-    let Some((number, unit, part)) = refusal.shown() else {
+    let Some((number, unit, part)) = refusal.fault_numbers() else {
         return Err(AllocError);
     };
     let answer = Answer::Program(number, unit, part);
     let text = format!(in alloc; "{answer}\n")?;
-    Ok(Told {
+    Ok(JobOutput {
         text,
         status: REFUSED,
     })
@@ -53,14 +57,14 @@ fn verify_bytes(
     bytes: &[u8],
     counters: u32,
     context: Layout,
-) -> Result<Told, AllocError>
+) -> Result<JobOutput, AllocError>
     ensures { IfOk result
-        (λ told. Accepted (as_loaded bytes.now counters context) told
-        ⊎ Refused (as_loaded bytes.now counters context) told) }
+        (λ output. PrintsAccepted (as_loaded bytes.now counters context) output
+        ⊎ PrintsRefusal (as_loaded bytes.now counters context) output) }
 {
     match verify(alloc, bytes, counters, context) {
-        Ok(program) => told_accepted(alloc, &program),
-        Err(refusal) => told_refusal(alloc, refusal),
+        Ok(program) => accepted_output(alloc, &program),
+        Err(refusal) => program_refusal_output(alloc, refusal),
     }
 }
 
@@ -73,13 +77,13 @@ pub fn verify_file(
     file: &[u8],
     counters: u32,
     context: Layout,
-) -> Result<Told, AllocError>
-    ensures { IfOk result (VerifyTells file.now counters context) }
+) -> Result<JobOutput, AllocError>
+    ensures { IfOk result (VerifyPrints file.now counters context) }
 {
     match read_program(alloc, file) {
         Ok(bytes) => verify_bytes(alloc, &bytes, counters, context),
-        Err(ProgramFileFault::TooLong) => refused(alloc, "L1"),
-        Err(ProgramFileFault::BadDigits) => refused(alloc, "H1"),
+        Err(ProgramFileFault::TooLong) => refusal_output(alloc, "L1"),
+        Err(ProgramFileFault::BadDigits) => refusal_output(alloc, "H1"),
         Err(ProgramFileFault::OutOfMemory) => Err(AllocError),
     }
 }

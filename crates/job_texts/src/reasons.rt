@@ -1,11 +1,11 @@
 //! The reasons why a program or an assembler text is refused, in words.
 ghost use Rattle.std.specs.Prelude.{◌≡◌, ◌↔◌, false, IfOk, IsOk, IsTrue, MatchOption, Some, None, option_map, string_bytes};
 ghost use Rattle.bpf_model.specs.Program.{as_loaded};
-ghost use Rattle.bpf_model.specs.Reading.{has_right_length, units};
+ghost use Rattle.bpf_model.specs.Reading.{has_valid_length, units};
 ghost use Rattle.bpf_asm.specs.Flaws.{Explains};
 ghost use Rattle.bpf_asm.specs.Program as asm;
-ghost use Rattle.reg_types.specs.Refusals.{shown_by};
-ghost use Rattle.job_texts.specs.Told.{Passes};
+ghost use Rattle.reg_types.specs.Refusals.{refusal_numbers};
+ghost use Rattle.job_texts.specs.JobOutput.{IsAcceptedAndGood};
 ghost use Rattle.job_texts.specs.Reasons.{IsSpelling, IsExplained, number_in, unit_in, kind_wanted, wanted_at, wanted_in};
 ghost use Rattle.job_texts.specs.Reasons.{digits_line, line_named};
 ghost use Rattle.job_texts.specs.Words.{kind_text};
@@ -20,13 +20,13 @@ use reg_types::{Layout, Refusal, TypeFault};
 use std::alloc::{AllocError, Global};
 use std::fmt;
 
-/// Why a program is refused: the refusal, the line of the unit that it names, and, if the argument of a helper is at
-/// fault, what kind it must be.
+/// Why a program is refused: the refusal, and the line of the unit that it names. If an argument of a helper (a
+/// function that programs can call) is at fault, `wanted` is the kind that this argument must have.
 #[derive(Drop)]
 pub struct RefusedProgram {
     pub refusal: Refusal,
     /// The instruction as `fc dis` prints it, or the unit's 16 hexadecimal digits if the bytes don't decode; with an
-    /// LF. It is `None` if the refusal names no unit.
+    /// LF. It is `None` if the refusal names no unit, or if there is no such instruction or unit.
     pub line: Option<String>,
     pub wanted: Option<Kind>,
 }
@@ -34,11 +34,11 @@ pub struct RefusedProgram {
 impl fmt::Display for RefusedProgram {
     ghost use Rattle.job_texts.specs.Words.{refused_text};
 
-    ghost output = { λ told. Some (refused_text told) };
+    ghost output = { λ reported. Some (refused_text reported) };
 
     /// Writes the number of the unit at fault, its instruction, and what is wrong with it. Writes only what is wrong if
     /// the refusal names no unit. If the bytes don't decode, the unit's hexadecimal digits are written in place of the
-    /// instruction.
+    /// instruction. The error is that the formatter failed.
     fn fmt<W: fmt::Write>(&self, f: &mut fmt::Formatter<W>) -> fmt::Result {
         let unit = UnitAtFault(unit_of(self.refusal));
         let line = LineAtFault(&self.line);
@@ -65,8 +65,8 @@ impl fmt::Display for UnitAtFault {
     }
 }
 
-/// The line of the instruction at fault, if there is one. `Display` writes it without its LF and with `: ` after it, or
-/// writes nothing if there is none.
+/// The line of the unit at fault, if there is one. `Display` writes it without the white space at its end, such as its
+/// LF, and with `: ` after it, or writes nothing if there is none.
 #[derive(Clone, Copy)]
 struct LineAtFault<'a>(&'a Option<String>);
 
@@ -83,8 +83,8 @@ impl fmt::Display for LineAtFault<'_> {
     }
 }
 
-/// What is wrong with an instruction, to be written in words. If the argument of a helper is at fault, the kind is the
-/// one that this argument must have.
+/// A refusal, of which `Display` writes in words what is wrong. If an argument of a helper (a function that programs
+/// can call) is at fault, the kind is the one that this argument must have.
 #[derive(Clone, Copy)]
 struct Wrong(Refusal, Option<Kind>);
 
@@ -118,24 +118,25 @@ fn words_of(kind: Kind) -> &'static str
 impl RefusedProgram {
     /// Returns the number of the V fault, or 0 for `OutOfMemory`, which has no number.
     pub fn number(&self) -> u32
-        ensures { result ≡ number_in (shown_by self.now.refusal) }
+        ensures { result ≡ number_in (refusal_numbers self.now.refusal) }
     {
-        match self.refusal.shown() {
+        match self.refusal.fault_numbers() {
             Some((number, _, _)) => number,
             None => 0,
         }
     }
 }
 
-/// Returns the unit that a refusal names, if it names one.
+/// Returns the number of the unit that a refusal names, or `None` if it names none.
 fn unit_of(refusal: Refusal) -> Option<u32>
-    ensures { result ≡ unit_in (shown_by refusal) }
+    ensures { result ≡ unit_in (refusal_numbers refusal) }
 {
-    let (_, unit, _) = refusal.shown()?;
+    let (_, unit, _) = refusal.fault_numbers()?;
     unit
 }
 
-/// Returns the hexadecimal digits of a unit, with an LF, or `None` if there is no such unit.
+/// Returns the hexadecimal digits of a unit, with an LF, or `None` if there is no such unit. The error is that memory
+/// ran out.
 fn digits_of(alloc: Global, bytes: &[u8], unit: u32) -> Result<Option<String>, AllocError>
     ensures { IfOk result (λ line. option_map string_bytes line ≡ digits_line bytes.now unit) }
 {
@@ -146,8 +147,9 @@ fn digits_of(alloc: Global, bytes: &[u8], unit: u32) -> Result<Option<String>, A
     }
 }
 
-/// If the refusal names an argument of a helper, returns the kind that the helper takes as this argument. Returns
-/// `None` for any other refusal, and if there is no such helper or argument.
+/// Returns the kind that the helper called at the refusal's unit takes as the argument that the refusal names. Returns
+/// `None` if the refusal names no argument, if no instruction begins at its unit, or if there is no such helper or
+/// argument.
 fn wanted_by(code: &Code, refusal: Refusal) -> Option<Kind>
     ensures { result ≡ kind_wanted code.now refusal }
 {
@@ -181,7 +183,7 @@ fn is_memory(fault: DecodeFault) -> bool
     fault == DecodeFault::OutOfMemory
 }
 
-/// Decodes bytes, and returns `None` if they don't decode. The error is that memory ran out.
+/// Decodes bytes, and returns the program, or `None` if they don't decode. The error is that memory ran out.
 fn units_of(alloc: Global, bytes: &[u8]) -> Result<Option<Code>, AllocError>
     ensures { IfOk result (λ found. MatchOption found (units bytes.now ≡ None) (λ code. units bytes.now ≡ Some code)) }
 {
@@ -197,20 +199,20 @@ fn units_of(alloc: Global, bytes: &[u8]) -> Result<Option<Code>, AllocError>
     }
 }
 
-/// Explains a refusal of these bytes. Returns the refusal with the line of the unit that it names, which is the unit's
-/// instruction, or the unit's digits if the bytes don't decode. If the argument of a helper is at fault, also returns
-/// the kind that the helper takes as this argument. If the refusal names no unit, the line is `None`, and there is no
-/// error. Otherwise the error is that memory ran out.
+/// Returns this refusal of the bytes with the line of the unit that it names. The line is the unit's instruction, or
+/// the unit's digits if the bytes don't decode; `None` if they have no such instruction or unit. If the argument of a
+/// helper is at fault, also returns the kind that the helper takes as this argument. The error is that memory ran out.
+/// If the refusal names no unit, the line is `None`, and there is no error.
 pub fn explain_refusal(
     alloc: Global,
     bytes: &[u8],
     refusal: Refusal,
 ) -> Result<RefusedProgram, AllocError>
-    ensures refusal { IfOk result (λ told. told.refusal ≡ refusal) }
+    ensures refusal { IfOk result (λ reported. reported.refusal ≡ refusal) }
     ensures line { IfOk result
-        (λ told. option_map string_bytes told.line ≡ line_named bytes.now (unit_in (shown_by refusal))) }
-    ensures wanted { IfOk result (λ told. told.wanted ≡ wanted_in (units bytes.now) refusal) }
-    ensures unitless { unit_in (shown_by refusal) ≡ None → IsOk result }
+        (λ reported. option_map string_bytes reported.line ≡ line_named bytes.now (unit_in (refusal_numbers refusal))) }
+    ensures wanted { IfOk result (λ reported. reported.wanted ≡ wanted_in (units bytes.now) refusal) }
+    ensures unitless { unit_in (refusal_numbers refusal) ≡ None → IsOk result }
 {
     let Some(unit) = unit_of(refusal) else {
         return Ok(RefusedProgram {
@@ -250,9 +252,9 @@ pub fn refused_program(
     context: Layout,
 ) -> Result<Option<RefusedProgram>, AllocError>
     ensures reason { IfOk result
-        (λ found. MatchOption found (Passes (as_loaded bytes.now counters context))
+        (λ found. MatchOption found (IsAcceptedAndGood (as_loaded bytes.now counters context))
         (IsExplained (as_loaded bytes.now counters context))) }
-    ensures length { has_right_length bytes.now ≡ false → IsOk result }
+    ensures length { has_valid_length bytes.now ≡ false → IsOk result }
 {
     match verify(alloc, bytes, counters, context) {
         Ok(program) => {
@@ -260,7 +262,7 @@ pub fn refused_program(
             Ok(None)
         }
         Err(refusal) => {
-            if refusal.shown().is_none() {
+            if refusal.fault_numbers().is_none() {
                 return Err(AllocError);
             }
             Ok(Some(explain_refusal(alloc, bytes, refusal)?))
@@ -268,8 +270,8 @@ pub fn refused_program(
     }
 }
 
-/// Returns why an assembler text is refused: its fault, and its flaw. The flaw has the line or the label at fault, if
-/// the fault's message shows one. Returns `None` if the text assembles. The error is that memory ran out.
+/// Returns why an assembler text is refused: its fault, and the flaw with the line or the label that the fault's
+/// message shows. Returns `None` if the text assembles. The error is that memory ran out.
 pub fn asm_flaw(alloc: Global, text: &[u8]) -> Result<Option<(AsmFault, AsmFlaw<'_>)>, AllocError>
     ensures { IfOk result
         (λ found. MatchOption found (IsSpelling text.now)

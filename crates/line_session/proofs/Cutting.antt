@@ -11,9 +11,9 @@ use Rattle.till_request.specs.declared.act.Answer.{Answer}
 use Rattle.till_request.specs.declared.act.Answer.TheVariants.{OutOfMemory}
 use Rattle.till_request.specs.Grammar.{line_read}
 use Rattle.till_request.specs.Answer.{answer_line}
-use Rattle.line_session.specs.Session.{AnswersAct, desk_says}
-use Rattle.line_session.specs.Answering.{with_lf, all_lines, all_texts, SaysAll, IsCut, cut_line, cut_count}
-use Rattle.line_session.specs.Cut.{NoWantTold, IsDetermined, CutsAlike, TellsOne, AnswersOne}
+use Rattle.line_session.specs.Session.{AnswersAct, desk_answers}
+use Rattle.line_session.specs.Answering.{with_lf, all_lines, all_texts, AnswersAll, IsCut, cut_line, cut_count}
+use Rattle.line_session.specs.ReadSizes.{NoneIsOutOfMemoryText, IsDetermined, IsIndependentOfReadSizes, IsClockDetermined, IsDeskDetermined}
 
 -- if bytes begin with `r`, which has no LF, then their first LF isn't within `r`
 no_lf_within : (r k rest x : List ℕ) → HasNoLf r → length k < length r → r ++ rest ≡ k ++ 10 ∷ x → ⊥
@@ -111,9 +111,9 @@ lines_alike (l ∷ ls) (k ∷ ks) c d r q rest more h g cr dq e =
     let u = lines_alike ls ks c d r q rest more h.1 g.1 cr dq t.1 in
     (ap₂ (λ x y. x ∷ y) t.0 u.0, u.1)
 
-module _ {S : Type 0} (says : S → List ℕ → List ℕ → S → Type 0) (determined : IsDetermined says) where
-  texts_alike : (ls : List (List ℕ)) (s : S) (texts others : List (List ℕ)) (m n : S) → SaysAll says ls s texts m → SaysAll says ls s others n
-      → NoWantTold texts → NoWantTold others → (texts ≡ others) × (m ≡ n)
+module _ {S : Type 0} (answers_with : S → List ℕ → List ℕ → S → Type 0) (determined : IsDetermined answers_with) where
+  texts_alike : (ls : List (List ℕ)) (s : S) (texts others : List (List ℕ)) (m n : S) → AnswersAll answers_with ls s texts m → AnswersAll answers_with ls s others n
+      → NoneIsOutOfMemoryText texts → NoneIsOutOfMemoryText others → (texts ≡ others) × (m ≡ n)
   texts_alike [] s [] [] m n h k w v = (refl, h ∙ sym k)
   texts_alike [] s (t ∷ texts) others m n h k w v = absurd h
   texts_alike [] s [] (o ∷ others) m n h k w v = absurd k
@@ -121,25 +121,25 @@ module _ {S : Type 0} (says : S → List ℕ → List ℕ → S → Type 0) (det
   texts_alike (l ∷ ls) s (t ∷ texts) [] m n h k w v = absurd k
   texts_alike (l ∷ ls) s (t ∷ texts) (o ∷ others) m n h k w v =
       let e = determined s l t o h.0 k.0 h.1 k.1 w.0 v.0 in
-      let u = texts_alike ls h.0 texts others m n h.2 (subst (λ (z : S). SaysAll says ls z others n) (sym e.1) k.2) w.1 v.1 in
+      let u = texts_alike ls h.0 texts others m n h.2 (subst (λ (z : S). AnswersAll answers_with ls z others n) (sym e.1) k.2) w.1 v.1 in
       (ap₂ (λ x y. x ∷ y) e.0 u.0, u.1)
 
-  pub cuts_alike : CutsAlike says
+  pub cuts_alike : IsIndependentOfReadSizes answers_with
   cuts_alike s t u bytes out out_t out_u None in_u count_t count_u cut_t cut_u one other w v = absurd one.answering.taken
   cuts_alike s t u bytes out out_t out_u (Some rest) None count_t count_u cut_t cut_u one other w v = absurd other.answering.taken
   cuts_alike s t u bytes out out_t out_u (Some rest) (Some more) count_t count_u cut_t cut_u one other w v =
       let lines = lines_alike one.answering.lines other.answering.lines cut_t cut_u one.rest other.rest rest more one.answering.each other.answering.each one.is_cut
       other.is_cut (sym one.answering.taken ∙ other.answering.taken) in
-      let said : SaysAll says one.answering.lines s other.answering.texts u =
-      subst (λ (ls : List (List ℕ)). SaysAll says ls s other.answering.texts u) (sym lines.0) other.answering.said in
-      let texts = texts_alike one.answering.lines s one.answering.texts other.answering.texts t u one.answering.said said w v in record {
+      let all_answered : AnswersAll answers_with one.answering.lines s other.answering.texts u =
+      subst (λ (ls : List (List ℕ)). AnswersAll answers_with ls s other.answering.texts u) (sym lines.0) other.answering.all_answered in
+      let texts = texts_alike one.answering.lines s one.answering.texts other.answering.texts t u one.answering.all_answered all_answered w v in record {
         state = texts.1;
         written = one.answering.written ∙ ap₂ (λ ts c. out ++ (all_texts ts ++ cut_line c)) texts.0 lines.1 ∙ sym other.answering.written;
         count = one.counted ∙ ap₂ (λ a b. a + b) (one.answering.counted ∙ ap length texts.0 ∙ sym other.answering.counted) (ap cut_count lines.1) ∙ sym other.counted;
         cut = lines.1;
       }
 
-module _ {C D : Type 0} (step : D → Act → ℕ → Answer → D → Type 0) (tick : C → ℕ → C → Type 0) (tells : TellsOne tick) (answers : AnswersOne step) where
+module _ {C D : Type 0} (step : D → Act → ℕ → Answer → D → Type 0) (tick : C → ℕ → C → Type 0) (tells : IsClockDetermined tick) (answers : IsDeskDetermined step) where
   act_alike : (r : Result Act LineFault) (c : C) (d : D) (a b : Answer) (c' : C) (d' : D) (c'' : C) (d'' : D) → AnswersAct step tick r c d a c' d'
       → AnswersAct step tick r c d b c'' d''
       → ¬ (a ≡ OutOfMemory) → ¬ (b ≡ OutOfMemory) → (a ≡ b) × (c' ≡ c'') × (d' ≡ d'')
@@ -149,11 +149,11 @@ module _ {C D : Type 0} (step : D → Act → ℕ → Answer → D → Type 0) (
       (f.0, e.1, f.1)
   act_alike (Err why) c d a b c' d' c'' d'' h k n m = (h.0 ∙ sym k.0, h.1 ∙ sym k.1, h.2 ∙ sym k.2)
 
-  desk_determined : (role : Role) → IsDetermined (desk_says step tick role)
+  desk_determined : (role : Role) → IsDetermined (desk_answers step tick role)
   desk_determined role s text t o m n h k w v =
       let e = act_alike (line_read role text) s.0 s.1 h.answer k.answer m.0 m.1 n.0 n.1 h.answers k.answers (λ is. w (h.text_is ∙ ap answer_line is))
       (λ is. v (k.text_is ∙ ap answer_line is)) in
       (h.text_is ∙ ap answer_line e.0 ∙ sym k.text_is, ap₂ (λ x y. (x, y)) e.1 e.2)
 
-  pub desk_cuts_alike : (role : Role) → CutsAlike (desk_says step tick role)
-  desk_cuts_alike role = cuts_alike (desk_says step tick role) (desk_determined role)
+  pub desk_cuts_alike : (role : Role) → IsIndependentOfReadSizes (desk_answers step tick role)
+  desk_cuts_alike role = cuts_alike (desk_answers step tick role) (desk_determined role)

@@ -3,20 +3,20 @@ use Rattle.std.proofs.Common.{◌≡◌, ◌≢◌, ℕ, List, [], Option, false
 use Rattle.std.specs.Io.KnownBytes.{Consumes}
 use Rattle.till_request.specs.declared.line.Found.{Found}
 use Rattle.till_request.specs.declared.line.Found.TheVariants.{Line, TooLong, Cut, End}
-use Rattle.till_request.specs.Line.{Finds}
+use Rattle.till_request.specs.Line.{ReadsFound}
 use Rattle.line_session.specs.declared.answering.SessionFault.{SessionFault}
 use Rattle.line_session.specs.declared.answering.SessionFault.TheVariants as session
 use Rattle.line_session.specs.Answering.{IsCut, is_read}
 use Rattle.line_session.specs.Found.{cut_by}
 
-pub cut_found : (found : Found) (old now : Option (List ℕ)) (line : List ℕ) → (found ≡ Line → ⊥) → Finds old now line found
+pub cut_found : (found : Found) (old now : Option (List ℕ)) (line : List ℕ) → (found ≡ Line → ⊥) → ReadsFound old now line found
     → (more : List ℕ) × Consumes old now more × IsCut (cut_by found) now more
 cut_found Line old now line other h = absurd (other refl)
 cut_found TooLong old now line other h = (h.0, h.1, (h.2, h.3))
 cut_found Cut old now line other h = (h.0, h.1, (h.2, h.3, h.4))
 cut_found End old now line other h = ([], h.0, (refl, h.1))
 
--- if a result's fault is a failed write, then it isn't one of the other faults
+-- if the only possible fault of a result is a failed write, then what is claimed for all other faults holds
 module _ {T : Type 0} where
   pub write_alone : (r : Result T SessionFault) (P : SessionFault → Type 0) → IfErr r (λ e. e ≡ session.Write)
       → IfErr r (λ e. e ≢ session.Write → P e)

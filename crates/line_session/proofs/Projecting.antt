@@ -10,33 +10,33 @@ use Rattle.line_session.specs.declared.line_handler.HandlerError.{HandlerError}
 use Rattle.line_session.specs.declared.line_handler.HandlerError.TheVariants as error
 use Rattle.line_session.specs.declared.answering.SessionFault.{SessionFault}
 use Rattle.line_session.specs.declared.answering.SessionFault.TheVariants as session
-use Rattle.line_session.specs.Session.{AnswersAct, desk_says, desk_drops}
-use Rattle.line_session.specs.Answering.{SaysAll, AnswersLines, Ends, DropsFor, DropsNext, Breaks, ReadsOn, StopsAtDoor, StopsFor, WantsNext}
-use Rattle.line_session.specs.Serving.{Outcome, Sits, Visits, VisitsAll, Serves}
+use Rattle.line_session.specs.Session.{AnswersAct, desk_answers, desk_drops}
+use Rattle.line_session.specs.Answering.{AnswersAll, AnswersLines, Ends, DropsFor, DropsNext, Breaks, ReadsOn, StopsAtDoor, StopsFor, RunsOutAtNextLine}
+use Rattle.line_session.specs.Serving.{Outcome, RunsSession, ServesConnection, ServesConnections, Serves}
 
-module _ {S T : Type 0} (f : S → T) (says : S → List ℕ → List ℕ → S → Type 0) (drops : HandlerError → S → List ℕ → S → Type 0)
-    (seen : T → List ℕ → List ℕ → T → Type 0) (lost : HandlerError → T → List ℕ → T → Type 0) (takes : List ℕ → Type 0)
-    (shows : (s : S) (line text : List ℕ) (s' : S) → says s line text s' → seen (f s) line text (f s'))
+module _ {S T : Type 0} (f : S → T) (answers_with : S → List ℕ → List ℕ → S → Type 0) (drops : HandlerError → S → List ℕ → S → Type 0)
+    (seen : T → List ℕ → List ℕ → T → Type 0) (lost : HandlerError → T → List ℕ → T → Type 0) (needs_memory : List ℕ → Type 0)
+    (shows : (s : S) (line text : List ℕ) (s' : S) → answers_with s line text s' → seen (f s) line text (f s'))
     (loses : (why : HandlerError) (s : S) (line : List ℕ) (s' : S) → drops why s line s' → lost why (f s) line (f s')) where
-  all_seen : (lines : List (List ℕ)) (s : S) (texts : List (List ℕ)) (s' : S) → SaysAll says lines s texts s' → SaysAll seen lines (f s) texts (f s')
+  all_seen : (lines : List (List ℕ)) (s : S) (texts : List (List ℕ)) (s' : S) → AnswersAll answers_with lines s texts s' → AnswersAll seen lines (f s) texts (f s')
   all_seen [] s [] s' h = ap f h
   all_seen (line ∷ lines) s (text ∷ texts) s' h = (f h.0, shows s line text h.0 h.1, all_seen lines h.0 texts s' h.2)
   all_seen [] s (text ∷ texts) s' h = absurd h
   all_seen (line ∷ lines) s [] s' h = absurd h
 
-  talks_seen : (s s' : S) (i j o p : Option (List ℕ)) (count : ℕ) (rest more : List ℕ) → AnswersLines says s s' i j o p count rest more
+  talks_seen : (s s' : S) (i j o p : Option (List ℕ)) (count : ℕ) (rest more : List ℕ) → AnswersLines answers_with s s' i j o p count rest more
       → AnswersLines seen (f s) (f s') i j o p count rest more
   talks_seen s s' i j o p count rest more t = record {
     lines = t.lines;
     texts = t.texts;
     each = t.each;
-    said = all_seen t.lines s t.texts s' t.said;
+    all_answered = all_seen t.lines s t.texts s' t.all_answered;
     taken = t.taken;
     written = t.written;
     counted = t.counted;
   }
 
-  ends_seen : (s s' : S) (i j o p : Option (List ℕ)) (count : ℕ) (cut : Option LineFault) → Ends says s s' i j o p count cut
+  ends_seen : (s s' : S) (i j o p : Option (List ℕ)) (count : ℕ) (cut : Option LineFault) → Ends answers_with s s' i j o p count cut
       → Ends seen (f s) (f s') i j o p count cut
   ends_seen s s' i j o p count cut e = record {
     answered = e.answered;
@@ -53,13 +53,13 @@ module _ {S T : Type 0} (f : S → T) (says : S → List ℕ → List ℕ → S 
   drops_seen s s' rest (inl same) = inl (ap f same)
   drops_seen s s' rest (inr d) = inr (d.0, drop_seen d.0 s s' rest d.1)
 
-  breaks_seen : (s s' : S) (i j o p : Option (List ℕ)) → Breaks says drops s s' i j o p → Breaks seen lost (f s) (f s') i j o p
+  breaks_seen : (s s' : S) (i j o p : Option (List ℕ)) → Breaks answers_with drops s s' i j o p → Breaks seen lost (f s) (f s') i j o p
   breaks_seen s s' i j o p b = record {
     lines = b.lines;
     texts = b.texts;
     each = b.each;
     answered = f b.answered;
-    said = all_seen b.lines s b.texts b.answered b.said;
+    all_answered = all_seen b.lines s b.texts b.answered b.all_answered;
     rest = b.rest;
     dropped = drops_seen b.answered s' b.rest b.dropped;
     taken = b.taken;
@@ -71,38 +71,38 @@ module _ {S T : Type 0} (f : S → T) (says : S → List ℕ → List ℕ → S 
     begins = b.begins;
   }
 
-  wants_more : (s s' : S) (line : List ℕ) → ((s' ≡ s) × takes line) ⊎ drops error.OutOfMemory s line s'
-      → ((f s' ≡ f s) × takes line) ⊎ lost error.OutOfMemory (f s) line (f s')
+  wants_more : (s s' : S) (line : List ℕ) → ((s' ≡ s) × needs_memory line) ⊎ drops error.OutOfMemory s line s'
+      → ((f s' ≡ f s) × needs_memory line) ⊎ lost error.OutOfMemory (f s) line (f s')
   wants_more s s' line (inl same) = inl (ap f same.0, same.1)
   wants_more s s' line (inr dropped) = inr (loses error.OutOfMemory s line s' dropped)
 
-  wants_seen : (s s' : S) (rest : List ℕ) → WantsNext drops takes s s' rest → WantsNext lost takes (f s) (f s') rest
+  wants_seen : (s s' : S) (rest : List ℕ) → RunsOutAtNextLine drops needs_memory s s' rest → RunsOutAtNextLine lost needs_memory (f s) (f s') rest
   wants_seen s s' rest (inl line) = inl (ap f line.0, line.1)
   wants_seen s s' rest (inr next) = inr (next.0, next.1, next.2, wants_more s s' next.0 next.3)
 
   reads_seen : (s s' : S) (rest : List ℕ) → ReadsOn s s' rest → ReadsOn (f s) (f s') rest
   reads_seen s s' rest h = (ap f h.0, h.1)
 
-  cause_seen : (fault : SessionFault) (s s' : S) (rest : List ℕ) → StopsFor drops takes fault s s' rest → StopsFor lost takes fault (f s) (f s') rest
+  cause_seen : (fault : SessionFault) (s s' : S) (rest : List ℕ) → StopsFor drops needs_memory fault s s' rest → StopsFor lost needs_memory fault (f s) (f s') rest
   cause_seen session.Write s s' rest h = h
   cause_seen session.Read s s' rest h = reads_seen s s' rest h
   cause_seen session.ReadsSpent s s' rest h = reads_seen s s' rest h
   cause_seen session.OutOfMemory s s' rest h = wants_seen s s' rest h
   cause_seen session.Journal s s' rest h = drop_seen error.Journal s s' rest h
 
-  door_seen : (fault : SessionFault) (s s' : S) (i j o p : Option (List ℕ)) → StopsAtDoor says drops takes fault s s' i j o p
-      → StopsAtDoor seen lost takes fault (f s) (f s') i j o p
+  door_seen : (fault : SessionFault) (s s' : S) (i j o p : Option (List ℕ)) → StopsAtDoor answers_with drops needs_memory fault s s' i j o p
+      → StopsAtDoor seen lost needs_memory fault (f s) (f s') i j o p
   unfolding breaks_seen
   door_seen fault s s' i j o p h = (breaks_seen s s' i j o p h.0, h.1, h.2, cause_seen fault h.0.answered s' h.0.rest h.3)
 
   module _ {I O : Type 0} (remaining : I → Option (List ℕ)) (reads read_failures : I → ℕ) (written : O → Option (List ℕ)) (write_failures : O → ℕ) where
     sits_seen : (result : Result Ended SessionFault) (i : I) (o : O) (s s' : S)
-        → Sits says drops takes remaining reads read_failures written write_failures result i o s s'
-        → Sits seen lost takes remaining reads read_failures written write_failures result i o (f s) (f s')
+        → RunsSession answers_with drops needs_memory remaining reads read_failures written write_failures result i o s s'
+        → RunsSession seen lost needs_memory remaining reads read_failures written write_failures result i o (f s) (f s')
     sits_seen (Ok ended) i o s s' t = record {
       input = t.input;
       output = t.output;
-      said = ends_seen s s' _ _ _ _ ended.lines ended.cut t.said;
+      all_answered = ends_seen s s' _ _ _ _ ended.lines ended.cut t.all_answered;
       broken = t.broken;
       read_fault = t.read_fault;
       write_fault = t.write_fault;
@@ -115,7 +115,7 @@ module _ {S T : Type 0} (f : S → T) (says : S → List ℕ → List ℕ → S 
     sits_seen (Err fault) i o s s' t = record {
       input = t.input;
       output = t.output;
-      said = t.said;
+      all_answered = t.all_answered;
       broken = breaks_seen s s' _ _ _ _ t.broken;
       read_fault = t.read_fault;
       write_fault = t.write_fault;
@@ -126,22 +126,22 @@ module _ {S T : Type 0} (f : S → T) (says : S → List ℕ → List ℕ → S 
       stopped = λ other. door_seen fault s s' _ _ _ _ (t.stopped other);
     }
 
-    module _ {D : Type 0} (opens : D → I → O → D → Type 0) (stays : D → D → Type 0) (told : D → Result Ended SessionFault → Type 0) where
+    module _ {D : Type 0} (opens : D → I → O → D → Type 0) (stays : D → D → Type 0) (reported : D → Result Ended SessionFault → Type 0) where
       visits_seen : (outcome : Outcome) (d : D) (s : S) (d' : D) (s' : S)
-          → Visits opens stays told (Sits says drops takes remaining reads read_failures written write_failures) outcome d s d' s'
-          → Visits opens stays told (Sits seen lost takes remaining reads read_failures written write_failures) outcome d (f s) d' (f s')
+          → ServesConnection opens stays reported (RunsSession answers_with drops needs_memory remaining reads read_failures written write_failures) outcome d s d' s'
+          → ServesConnection opens stays reported (RunsSession seen lost needs_memory remaining reads read_failures written write_failures) outcome d (f s) d' (f s')
       visits_seen None d s d' s' v = (v.0, ap f v.1)
       visits_seen (Some result) d s d' s' v = (v.0, v.1, v.2, sits_seen result v.0 v.1 s s' v.3, v.4)
 
       all_visits_seen : (outcomes : List Outcome) (d : D) (s : S) (d' : D) (s' : S)
-          → VisitsAll (Visits opens stays told (Sits says drops takes remaining reads read_failures written write_failures)) outcomes d s d' s'
-          → VisitsAll (Visits opens stays told (Sits seen lost takes remaining reads read_failures written write_failures)) outcomes d (f s) d' (f s')
+          → ServesConnections (ServesConnection opens stays reported (RunsSession answers_with drops needs_memory remaining reads read_failures written write_failures)) outcomes d s d' s'
+          → ServesConnections (ServesConnection opens stays reported (RunsSession seen lost needs_memory remaining reads read_failures written write_failures)) outcomes d (f s) d' (f s')
       all_visits_seen [] d s d' s' h = (h.0, ap f h.1)
       all_visits_seen (outcome ∷ outcomes) d s d' s' h = (h.0, f h.1, visits_seen outcome d s h.0 h.1 h.2, all_visits_seen outcomes h.0 h.1 d' s' h.3)
 
       pub serves_seen : (asked clean : ℕ) (d : D) (s : S) (d' : D) (s' : S)
-          → Serves (Visits opens stays told (Sits says drops takes remaining reads read_failures written write_failures)) asked clean d s d' s'
-          → Serves (Visits opens stays told (Sits seen lost takes remaining reads read_failures written write_failures)) asked clean d (f s) d' (f s')
+          → Serves (ServesConnection opens stays reported (RunsSession answers_with drops needs_memory remaining reads read_failures written write_failures)) asked clean d s d' s'
+          → Serves (ServesConnection opens stays reported (RunsSession seen lost needs_memory remaining reads read_failures written write_failures)) asked clean d (f s) d' (f s')
       serves_seen asked clean d s d' s' h = record {
         outcomes = h.outcomes;
         each = all_visits_seen h.outcomes d s d' s' h.each;
@@ -158,8 +158,8 @@ module _ {C C' D D' : Type 0} (f : C → C') (g : D → D') (step : D → Act �
   answers_seen (Ok act) c d a c' d' h = (h.0, ticks c h.0 c' h.1, steps d act h.0 a d' h.2)
   answers_seen (Err fault) c d a c' d' h = (h.0, ap f h.1, ap g h.2)
 
-  pub desk_seen : (role : Role) (s : C × D) (line text : List ℕ) (s' : C × D) → desk_says step tick role s line text s'
-      → desk_says step' tick' role (f s.0, g s.1) line text (f s'.0, g s'.1)
+  pub desk_seen : (role : Role) (s : C × D) (line text : List ℕ) (s' : C × D) → desk_answers step tick role s line text s'
+      → desk_answers step' tick' role (f s.0, g s.1) line text (f s'.0, g s'.1)
   desk_seen role s line text s' h = record {
     answer = h.answer;
     answers = answers_seen (line_read role line) s.0 s.1 h.answer s'.0 s'.1 h.answers;

@@ -18,7 +18,7 @@ use Rattle.till_request.specs.declared.line.InputFault.{InputFault}
 use Rattle.till_request.specs.declared.line.InputFault.TheVariants as input
 use Rattle.line_session.specs.Faults.{fault_of_handler, fault_of_input}
 use Rattle.line_session.specs.Found.{IsEnd}
-use Rattle.line_session.specs.Answering.{FallsShort, Half, Dropped, with_lf, Said, SaysAll, AnswersLines, IsCut, IsUpToLine, Ends, Breaks, Stops, StopsFor, cut_line, cut_count}
+use Rattle.line_session.specs.Answering.{HandlerFails, WritesAnswerFront, Dropped, with_lf, WritesAnswer, AnswersAll, AnswersLines, IsCut, IsUpToLine, Ends, Breaks, Stops, StopsFor, cut_line, cut_count}
 
 pub is_line_empty : IsLine []
 is_line_empty = (tt, omega arith)
@@ -42,25 +42,25 @@ pub flat_more : {A : Type 0} (f : A → List ℕ) (xs : List A) (x : A) → flat
 flat_more f [] x = append-nil (f x)
 flat_more f (y ∷ xs) x = ap (λ t. f y ++ t) (flat_more f xs x) ∙ sym (append_assoc (f y) (flat_map f xs) (f x))
 
-module _ {C D : Type 0} (says : C × D → List ℕ → List ℕ → C × D → Type 0) where
+module _ {C D : Type 0} (answers_with : C × D → List ℕ → List ℕ → C × D → Type 0) where
   says_more : (ls : List (List ℕ)) (l : List ℕ) (s : C × D) (texts : List (List ℕ)) (text : List ℕ) (m s' : C × D)
-      → SaysAll says ls s texts m → says m l text s' → SaysAll says (ls ++ l ∷ []) s (texts ++ text ∷ []) s'
+      → AnswersAll answers_with ls s texts m → answers_with m l text s' → AnswersAll answers_with (ls ++ l ∷ []) s (texts ++ text ∷ []) s'
   says_more [] l s [] text m s' h k = (s', rw (← h) k, refl)
   says_more [] l s (b ∷ texts) text m s' h k = absurd h
   says_more (x ∷ ls) l s [] text m s' h k = absurd h
   says_more (x ∷ ls) l s (b ∷ texts) text m s' h k = (h.0, h.1, says_more ls l h.0 texts text m s' h.2 k)
 
-  pub talks_none : (s : C × D) (i o : Option (List ℕ)) → AnswersLines says s s i i o o 0 [] []
-  talks_none s i o = record { lines = []; texts = []; each = tt; said = refl; taken = consumes_none i; written = appends_none o; counted = refl }
+  pub talks_none : (s : C × D) (i o : Option (List ℕ)) → AnswersLines answers_with s s i i o o 0 [] []
+  talks_none s i o = record { lines = []; texts = []; each = tt; all_answered = refl; taken = consumes_none i; written = appends_none o; counted = refl }
 
   pub talks_more : (s m s' : C × D) (i j k o p q : Option (List ℕ)) (count : ℕ) (l : List ℕ)
-      → AnswersLines says s m i j o p count [] [] → IsLine l → Consumes j k (l ++ 10 ∷ []) → Said says l m s' p q
-      → AnswersLines says s s' i k o q (count + 1) [] []
+      → AnswersLines answers_with s m i j o p count [] [] → IsLine l → Consumes j k (l ++ 10 ∷ []) → WritesAnswer answers_with l m s' p q
+      → AnswersLines answers_with s s' i k o q (count + 1) [] []
   talks_more s m s' i j k o p q count l t whole taken a = record {
     lines = t.lines ++ l ∷ [];
     texts = t.texts ++ a.text ∷ [];
     each = lines_more IsLine t.lines l t.each whole;
-    said = says_more t.lines l s t.texts a.text m s' t.said a.says_it;
+    all_answered = says_more t.lines l s t.texts a.text m s' t.all_answered a.is_answer;
     taken = rw (append-nil, flat_more with_lf t.lines l) (consumes_more i j k (flat_map with_lf t.lines) (with_lf l) (rw append-nil at t.taken) taken);
     written = rw (append-nil, flat_more same t.texts a.text) (appends_more o p q (flat_map same t.texts) a.text (rw append-nil at t.written) a.written);
     counted = omega (arith, length-append t.texts (a.text ∷ []), t.counted);
@@ -69,12 +69,12 @@ module _ {C D : Type 0} (says : C × D → List ℕ → List ℕ → C × D → 
   -- If the lines so far were answered, and the input has ended or the next line is too long or has no LF, then `Ends`
   -- holds for the session's result.
   pub ends_said : (s m : C × D) (i j k o p q : Option (List ℕ)) (count : ℕ) (cut : Option LineFault) (more : List ℕ) (r : Result Ended SessionFault)
-      → AnswersLines says s m i j o p count [] [] → Consumes j k more → IsCut cut k more → IfOk r (λ e. IsEnd count cut e × Appends p q (cut_line cut))
-      → IfOk r (λ e. Ends says s m i k o q e.lines e.cut)
+      → AnswersLines answers_with s m i j o p count [] [] → Consumes j k more → IsCut cut k more → IfOk r (λ e. IsEnd count cut e × Appends p q (cut_line cut))
+      → IfOk r (λ e. Ends answers_with s m i k o q e.lines e.cut)
   ends_said s m i j k o p q count cut more (Err fault) t taken is h = tt
   ends_said s m i j k o p q count cut more (Ok ended) t taken is h =
-      let P : ℕ → Type 0 = λ n. Ends says s m i k o q n ended.cut in
-      let Q : Option LineFault → Type 0 = λ c. Ends says s m i k o q (count + cut_count cut) c in
+      let P : ℕ → Type 0 = λ n. Ends answers_with s m i k o q n ended.cut in
+      let Q : Option LineFault → Type 0 = λ c. Ends answers_with s m i k o q (count + cut_count cut) c in
       subst P (sym h.0.lines_are) (subst Q (sym h.0.cut_is) record {
         answered = count;
         rest = more;
@@ -82,7 +82,7 @@ module _ {C D : Type 0} (says : C × D → List ℕ → List ℕ → C × D → 
           lines = t.lines;
           texts = t.texts;
           each = t.each;
-          said = t.said;
+          all_answered = t.all_answered;
           taken = consumes_more i j k (flat_map with_lf t.lines) more (rw append-nil at t.taken) taken;
           written = appends_more o p q (flat_map same t.texts) (cut_line cut) (rw append-nil at t.written) h.1;
           counted = t.counted;
@@ -93,13 +93,13 @@ module _ {C D : Type 0} (says : C × D → List ℕ → List ℕ → C × D → 
 
   module _ (drops : HandlerError → C × D → List ℕ → C × D → Type 0) where
     pub breaks_here : (s m : C × D) (i j o p : Option (List ℕ)) (count : ℕ) (k : Option (List ℕ)) (more : List ℕ)
-        → AnswersLines says s m i j o p count [] [] → Consumes j k more → IsUpToLine more → Breaks says drops s m i k o p
+        → AnswersLines answers_with s m i j o p count [] [] → Consumes j k more → IsUpToLine more → Breaks answers_with drops s m i k o p
     breaks_here s m i j o p count k more t taken is = record {
       lines = t.lines;
       texts = t.texts;
       each = t.each;
       answered = m;
-      said = t.said;
+      all_answered = t.all_answered;
       rest = more;
       dropped = inl refl;
       taken = consumes_more i j k (flat_map with_lf t.lines) more (rw append-nil at t.taken) taken;
@@ -111,15 +111,15 @@ module _ {C D : Type 0} (says : C × D → List ℕ → List ℕ → C × D → 
       begins = refl;
     }
 
-    -- if the next line was read and dropped, then the session breaks off there
+    -- if the next line was read and dropped (left without an answer), then `Breaks` holds for the session
     dropped_next : (why : HandlerError) (s m s' : C × D) (i j k o p : Option (List ℕ)) (count : ℕ) (l : List ℕ)
-        → AnswersLines says s m i j o p count [] [] → IsLine l → Consumes j k (l ++ 10 ∷ []) → drops why m l s' → Breaks says drops s s' i k o p
+        → AnswersLines answers_with s m i j o p count [] [] → IsLine l → Consumes j k (l ++ 10 ∷ []) → drops why m l s' → Breaks answers_with drops s s' i k o p
     dropped_next why s m s' i j k o p count l t whole taken d = record {
       lines = t.lines;
       texts = t.texts;
       each = t.each;
       answered = m;
-      said = t.said;
+      all_answered = t.all_answered;
       rest = l ++ 10 ∷ [];
       dropped = inr (why, (l, whole, refl, d));
       taken = consumes_more i j k (flat_map with_lf t.lines) (with_lf l) (rw append-nil at t.taken) taken;
@@ -132,20 +132,20 @@ module _ {C D : Type 0} (says : C × D → List ℕ → List ℕ → C × D → 
     }
 
     breaks_dropped : {O : Type 0} (out : O → Option (List ℕ)) (why : HandlerError) (s m s' : C × D) (i j k o : Option (List ℕ)) (p q : O) (count : ℕ)
-        (l : List ℕ) → AnswersLines says s m i j o (out p) count [] [] → IsLine l → Consumes j k (l ++ 10 ∷ []) → Dropped (drops why) l m s' p q
-        → Breaks says drops s s' i k o (out q)
+        (l : List ℕ) → AnswersLines answers_with s m i j o (out p) count [] [] → IsLine l → Consumes j k (l ++ 10 ∷ []) → Dropped (drops why) l m s' p q
+        → Breaks answers_with drops s s' i k o (out q)
     breaks_dropped out why s m s' i j k o p q count l t whole taken a =
         rw a.output (dropped_next why s m s' i j k o (out p) count l t whole taken a.drops_it)
 
     breaks_half : (s m s' : C × D) (i j k o p q : Option (List ℕ)) (count : ℕ) (l : List ℕ)
-        → AnswersLines says s m i j o p count [] [] → IsLine l → Consumes j k (l ++ 10 ∷ []) → Half says l m s' p q
-        → Breaks says drops s s' i k o q
+        → AnswersLines answers_with s m i j o p count [] [] → IsLine l → Consumes j k (l ++ 10 ∷ []) → WritesAnswerFront answers_with l m s' p q
+        → Breaks answers_with drops s s' i k o q
     breaks_half s m s' i j k o p q count l t whole taken a = record {
       lines = t.lines ++ l ∷ [];
       texts = t.texts ++ a.text ∷ [];
       each = lines_more IsLine t.lines l t.each whole;
       answered = s';
-      said = says_more t.lines l s t.texts a.text m s' t.said a.says_it;
+      all_answered = says_more t.lines l s t.texts a.text m s' t.all_answered a.is_answer;
       rest = [];
       dropped = inl refl;
       taken = rw (append-nil, flat_more with_lf t.lines l) (consumes_more i j k (flat_map with_lf t.lines) (with_lf l) (rw append-nil at t.taken) taken);
@@ -159,26 +159,26 @@ module _ {C D : Type 0} (says : C × D → List ℕ → List ℕ → C × D → 
 
     pub breaks_line : {O : Type 0} (out : O → Option (List ℕ)) (s m s' : C × D) (i j k : Option (List ℕ)) (o : Option (List ℕ)) (p q : O)
         (count : ℕ) (l : List ℕ)
-        → AnswersLines says s m i j o (out p) count [] [] → IsLine l → Consumes j k (l ++ 10 ∷ [])
-        → (takes : List ℕ → Type 0) (fault : HandlerError) → FallsShort says drops takes out fault l m s' p q
-        → Breaks says drops s s' i k o (out q)
-    breaks_line out s m s' i j k o p q count l t whole taken takes error.OutOfMemory (inl a) =
+        → AnswersLines answers_with s m i j o (out p) count [] [] → IsLine l → Consumes j k (l ++ 10 ∷ [])
+        → (needs_memory : List ℕ → Type 0) (fault : HandlerError) → HandlerFails answers_with drops needs_memory out fault l m s' p q
+        → Breaks answers_with drops s s' i k o (out q)
+    breaks_line out s m s' i j k o p q count l t whole taken needs_memory error.OutOfMemory (inl a) =
         rw (a.state, a.output) (breaks_here s m i j o (out p) count k (l ++ 10 ∷ []) t taken (inr (l, whole, refl)))
-    breaks_line out s m s' i j k o p q count l t whole taken takes error.OutOfMemory (inr a) =
+    breaks_line out s m s' i j k o p q count l t whole taken needs_memory error.OutOfMemory (inr a) =
         breaks_dropped out error.OutOfMemory s m s' i j k o p q count l t whole taken a
-    breaks_line out s m s' i j k o p q count l t whole taken takes error.Journal a =
+    breaks_line out s m s' i j k o p q count l t whole taken needs_memory error.Journal a =
         breaks_dropped out error.Journal s m s' i j k o p q count l t whole taken a
-    breaks_line out s m s' i j k o p q count l t whole taken takes error.Write a = breaks_half s m s' i j k o (out p) (out q) count l t whole taken a
+    breaks_line out s m s' i j k o p q count l t whole taken needs_memory error.Write a = breaks_half s m s' i j k o (out p) (out q) count l t whole taken a
 
     breaks_cut : (s m : C × D) (i j k o p q : Option (List ℕ)) (count : ℕ) (more : List ℕ) (fault : LineFault) (kept : ℕ)
-        → AnswersLines says s m i j o p count [] [] → Consumes j k more → IsCut (Some fault) k more → Appends p q (take kept (answer_line (Line fault)))
-        → Breaks says drops s m i k o q
+        → AnswersLines answers_with s m i j o p count [] [] → Consumes j k more → IsCut (Some fault) k more → Appends p q (take kept (answer_line (Line fault)))
+        → Breaks answers_with drops s m i k o q
     breaks_cut s m i j k o p q count more fault kept t taken is w = record {
       lines = t.lines;
       texts = t.texts;
       each = t.each;
       answered = m;
-      said = t.said;
+      all_answered = t.all_answered;
       rest = more;
       dropped = inl refl;
       taken = consumes_more i j k (flat_map with_lf t.lines) more (rw append-nil at t.taken) taken;
@@ -191,53 +191,53 @@ module _ {C D : Type 0} (says : C × D → List ℕ → List ℕ → C × D → 
     }
 
     pub breaks_end : (s m : C × D) (i j k o p q : Option (List ℕ)) (count : ℕ) (cut : Option LineFault) (more : List ℕ) (r : Result Ended SessionFault)
-        → AnswersLines says s m i j o p count [] [] → Consumes j k more → IsCut cut k more
+        → AnswersLines answers_with s m i j o p count [] [] → Consumes j k more → IsCut cut k more
         → OnErr r ((fault : LineFault) × (cut ≡ Some fault) × (n : ℕ) × Appends p q (take n (answer_line (Line fault))))
-        → OnErr r (Breaks says drops s m i k o q)
+        → OnErr r (Breaks answers_with drops s m i k o q)
     breaks_end s m i j k o p q count cut more (Ok ended) t taken is h = tt
     breaks_end s m i j k o p q count cut more (Err e) t taken is h =
         let P : Option LineFault → Type 0 = λ c. IsCut c k more in
         breaks_cut s m i j k o p q count more h.0 h.2 t taken (subst P h.1 is) h.3
 
     -- if reading the next line failed with this fault, then `StopsFor` holds for the session's fault
-    stops_reading : (takes : List ℕ → Type 0) (fault : InputFault) (s : C × D) (more : List ℕ) → IsLine more
-        → StopsFor drops takes (fault_of_input fault) s s more
-    stops_reading takes input.Read s more line = (refl, line)
-    stops_reading takes input.ReadsSpent s more line = (refl, line)
-    stops_reading takes input.OutOfMemory s more line = inl (refl, line)
+    stops_reading : (needs_memory : List ℕ → Type 0) (fault : InputFault) (s : C × D) (more : List ℕ) → IsLine more
+        → StopsFor drops needs_memory (fault_of_input fault) s s more
+    stops_reading needs_memory input.Read s more line = (refl, line)
+    stops_reading needs_memory input.ReadsSpent s more line = (refl, line)
+    stops_reading needs_memory input.OutOfMemory s more line = inl (refl, line)
 
     -- if the session failed, but not in a write, then `Stops` holds
-    pub stops_here : (takes : List ℕ → Type 0) (fault : InputFault) (s m : C × D) (i j o p : Option (List ℕ)) (count : ℕ) (k : Option (List ℕ))
-        (more : List ℕ) → AnswersLines says s m i j o p count [] [] → Consumes j k more → IsLine more
-        → Stops says drops takes (fault_of_input fault) s m i k o p
+    pub stops_here : (needs_memory : List ℕ → Type 0) (fault : InputFault) (s m : C × D) (i j o p : Option (List ℕ)) (count : ℕ) (k : Option (List ℕ))
+        (more : List ℕ) → AnswersLines answers_with s m i j o p count [] [] → Consumes j k more → IsLine more
+        → Stops answers_with drops needs_memory (fault_of_input fault) s m i k o p
     unfolding breaks_here
-    stops_here takes fault s m i j o p count k more t taken line =
-        (breaks_here s m i j o p count k more t taken (inl line), refl, refl, stops_reading takes fault m more line)
+    stops_here needs_memory fault s m i j o p count k more t taken line =
+        (breaks_here s m i j o p count k more t taken (inl line), refl, refl, stops_reading needs_memory fault m more line)
 
-    pub stops_silent : (takes : List ℕ → Type 0) (s m : C × D) (i j k o p : Option (List ℕ)) (count : ℕ) (l : List ℕ)
-        → AnswersLines says s m i j o p count [] [] → IsLine l → Consumes j k (l ++ 10 ∷ []) → takes l
-        → Stops says drops takes session.OutOfMemory s m i k o p
+    pub stops_silent : (needs_memory : List ℕ → Type 0) (s m : C × D) (i j k o p : Option (List ℕ)) (count : ℕ) (l : List ℕ)
+        → AnswersLines answers_with s m i j o p count [] [] → IsLine l → Consumes j k (l ++ 10 ∷ []) → needs_memory l
+        → Stops answers_with drops needs_memory session.OutOfMemory s m i k o p
     unfolding breaks_here
-    stops_silent takes s m i j k o p count l t whole taken h =
+    stops_silent needs_memory s m i j k o p count l t whole taken h =
         (breaks_here s m i j o p count k (l ++ 10 ∷ []) t taken (inr (l, whole, refl)), refl, refl, inr (l, whole, refl, inl (refl, h)))
 
-    pub stops_dropped : (takes : List ℕ → Type 0) (fault : SessionFault) (why : HandlerError) (s m s' : C × D) (i j k o p : Option (List ℕ)) (count : ℕ)
-        (l : List ℕ) → AnswersLines says s m i j o p count [] [] → IsLine l → Consumes j k (l ++ 10 ∷ []) → drops why m l s'
-        → StopsFor drops takes fault m s' (l ++ 10 ∷ []) → Stops says drops takes fault s s' i k o p
+    pub stops_dropped : (needs_memory : List ℕ → Type 0) (fault : SessionFault) (why : HandlerError) (s m s' : C × D) (i j k o p : Option (List ℕ)) (count : ℕ)
+        (l : List ℕ) → AnswersLines answers_with s m i j o p count [] [] → IsLine l → Consumes j k (l ++ 10 ∷ []) → drops why m l s'
+        → StopsFor drops needs_memory fault m s' (l ++ 10 ∷ []) → Stops answers_with drops needs_memory fault s s' i k o p
     unfolding dropped_next
-    stops_dropped takes fault why s m s' i j k o p count l t whole taken d is =
+    stops_dropped needs_memory fault why s m s' i j k o p count l t whole taken d is =
         (dropped_next why s m s' i j k o p count l t whole taken d, refl, refl, is)
 
     pub stops_line : {O : Type 0} (out : O → Option (List ℕ)) (s m s' : C × D) (i j k o : Option (List ℕ)) (p q : O) (count : ℕ) (l : List ℕ)
-        → AnswersLines says s m i j o (out p) count [] [] → IsLine l → Consumes j k (l ++ 10 ∷ [])
-        → (takes : List ℕ → Type 0) (fault : HandlerError) → FallsShort says drops takes out fault l m s' p q → ¬ (fault_of_handler fault ≡ session.Write)
-        → Stops says drops takes (fault_of_handler fault) s s' i k o (out q)
-    stops_line out s m s' i j k o p q count l t whole taken takes error.Write a other = absurd (other refl)
-    stops_line out s m s' i j k o p q count l t whole taken takes error.OutOfMemory (inl a) other =
-        rw (a.state, a.output) (stops_silent takes s m i j k o (out p) count l t whole taken a.takes_it)
-    stops_line out s m s' i j k o p q count l t whole taken takes error.OutOfMemory (inr a) other =
-        rw a.output (stops_dropped takes session.OutOfMemory error.OutOfMemory s m s' i j k o (out p) count l t whole taken a.drops_it
+        → AnswersLines answers_with s m i j o (out p) count [] [] → IsLine l → Consumes j k (l ++ 10 ∷ [])
+        → (needs_memory : List ℕ → Type 0) (fault : HandlerError) → HandlerFails answers_with drops needs_memory out fault l m s' p q → ¬ (fault_of_handler fault ≡ session.Write)
+        → Stops answers_with drops needs_memory (fault_of_handler fault) s s' i k o (out q)
+    stops_line out s m s' i j k o p q count l t whole taken needs_memory error.Write a other = absurd (other refl)
+    stops_line out s m s' i j k o p q count l t whole taken needs_memory error.OutOfMemory (inl a) other =
+        rw (a.state, a.output) (stops_silent needs_memory s m i j k o (out p) count l t whole taken a.needs_it)
+    stops_line out s m s' i j k o p q count l t whole taken needs_memory error.OutOfMemory (inr a) other =
+        rw a.output (stops_dropped needs_memory session.OutOfMemory error.OutOfMemory s m s' i j k o (out p) count l t whole taken a.drops_it
         (inr (l, whole, refl, inr a.drops_it)))
-    stops_line out s m s' i j k o p q count l t whole taken takes error.Journal a other =
-        rw a.output (stops_dropped takes session.Journal error.Journal s m s' i j k o (out p) count l t whole taken a.drops_it
+    stops_line out s m s' i j k o p q count l t whole taken needs_memory error.Journal a other =
+        rw a.output (stops_dropped needs_memory session.Journal error.Journal s m s' i j k o (out p) count l t whole taken a.drops_it
         (l, whole, refl, a.drops_it))

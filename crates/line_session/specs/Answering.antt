@@ -16,15 +16,15 @@ use Rattle.line_session.specs.declared.answering.SessionFault.{SessionFault}
 use Rattle.line_session.specs.declared.answering.SessionFault.TheVariants as session
 
 -- the line was answered, and the whole answer was written
-pub record Said {S : Type 0} (says : S → List ℕ → List ℕ → S → Type 0) (line : List ℕ) (s s' : S) (out_old out_new : Option (List ℕ)) : Type 0 where
+pub record WritesAnswer {S : Type 0} (answers_with : S → List ℕ → List ℕ → S → Type 0) (line : List ℕ) (s s' : S) (out_old out_new : Option (List ℕ)) : Type 0 where
   pub text : List ℕ
-  pub says_it : says s line text s'
+  pub is_answer : answers_with s line text s'
   pub written : Appends out_old out_new text
 
 -- the line was answered, and a beginning of the answer was written
-pub record Half {S : Type 0} (says : S → List ℕ → List ℕ → S → Type 0) (line : List ℕ) (s s' : S) (out_old out_new : Option (List ℕ)) : Type 0 where
+pub record WritesAnswerFront {S : Type 0} (answers_with : S → List ℕ → List ℕ → S → Type 0) (line : List ℕ) (s s' : S) (out_old out_new : Option (List ℕ)) : Type 0 where
   pub text : List ℕ
-  pub says_it : says s line text s'
+  pub is_answer : answers_with s line text s'
   pub kept : ℕ
   pub written : Appends out_old out_new (take kept text)
 
@@ -33,24 +33,24 @@ pub record Dropped {S O : Type 0} (drops : S → List ℕ → S → Type 0) (lin
   pub drops_it : drops s line s'
   pub output : o' ≡ o
 
--- a `drops` by which no line is ever dropped, for a handler that answers each line that changes something
+-- the `drops` of a handler that drops no line: a line that it leaves without an answer has changed nothing
 abbrev pub drops_none : {S : Type 0} → HandlerError → S → List ℕ → S → Type 0
 drops_none why s line s' = ⊥
 
 -- the line needs memory, which ran out, and nothing changed
-pub record Silent {S O : Type 0} (takes : List ℕ → Type 0) (line : List ℕ) (s s' : S) (o o' : O) : Type 0 where
-  pub takes_it : takes line
+pub record RunsOutOfMemory {S O : Type 0} (needs_memory : List ℕ → Type 0) (line : List ℕ) (s s' : S) (o o' : O) : Type 0 where
+  pub needs_it : needs_memory line
   pub state : s' ≡ s
   pub output : o' ≡ o
 
 -- Why the whole answer to a line wasn't written. `Write`: the device failed after a beginning of the answer.
--- `OutOfMemory`: the line needed memory and changed nothing, or was dropped since memory ran out. `Journal`: the line
--- was dropped since the journal failed.
-abbrev pub FallsShort : {S O : Type 0} → (S → List ℕ → List ℕ → S → Type 0) → (HandlerError → S → List ℕ → S → Type 0) → (List ℕ → Type 0)
+-- `OutOfMemory`: the line needed memory and changed nothing, or was dropped (left without an answer) because memory ran
+-- out. `Journal`: the line was dropped because the journal failed.
+abbrev pub HandlerFails : {S O : Type 0} → (S → List ℕ → List ℕ → S → Type 0) → (HandlerError → S → List ℕ → S → Type 0) → (List ℕ → Type 0)
     → (O → Option (List ℕ)) → HandlerError → List ℕ → S → S → O → O → Type 0
-FallsShort says drops takes out error.Write line s s' o o' = Half says line s s' (out o) (out o')
-FallsShort says drops takes out error.OutOfMemory line s s' o o' = Silent takes line s s' o o' ⊎ Dropped (drops error.OutOfMemory) line s s' o o'
-FallsShort says drops takes out error.Journal line s s' o o' = Dropped (drops error.Journal) line s s' o o'
+HandlerFails answers_with drops needs_memory out error.Write line s s' o o' = WritesAnswerFront answers_with line s s' (out o) (out o')
+HandlerFails answers_with drops needs_memory out error.OutOfMemory line s s' o o' = RunsOutOfMemory needs_memory line s s' o o' ⊎ Dropped (drops error.OutOfMemory) line s s' o o'
+HandlerFails answers_with drops needs_memory out error.Journal line s s' o o' = Dropped (drops error.Journal) line s s' o o'
 
 -- a line with its LF
 abbrev pub with_lf : List ℕ → List ℕ
@@ -65,25 +65,26 @@ abbrev pub all_texts : List (List ℕ) → List ℕ
 all_texts texts = flat_map (λ text. text) texts
 
 -- these lines, one after another, are answered with these texts, and lead from state s to state s'
-abbrev pub SaysAll : {S : Type 0} → (S → List ℕ → List ℕ → S → Type 0) → List (List ℕ) → S → List (List ℕ) → S → Type 0
-SaysAll says [] s [] s' = s' ≡ s
-SaysAll {S} says (line ∷ lines) s (text ∷ texts) s' = (m : S) × says s line text m × SaysAll says lines m texts s'
-SaysAll says [] s (text ∷ texts) s' = ⊥
-SaysAll says (line ∷ lines) s [] s' = ⊥
+abbrev pub AnswersAll : {S : Type 0} → (S → List ℕ → List ℕ → S → Type 0) → List (List ℕ) → S → List (List ℕ) → S → Type 0
+AnswersAll answers_with [] s [] s' = s' ≡ s
+AnswersAll {S} answers_with (line ∷ lines) s (text ∷ texts) s' = (m : S) × answers_with s line text m × AnswersAll answers_with lines m texts s'
+AnswersAll answers_with [] s (text ∷ texts) s' = ⊥
+AnswersAll answers_with (line ∷ lines) s [] s' = ⊥
 
--- `count` lines were read and answered, and after them `rest` was read and `more` was written
-pub record AnswersLines {S : Type 0} (says : S → List ℕ → List ℕ → S → Type 0) (s s' : S) (in_old in_new out_old out_new : Option (List ℕ)) (count : ℕ)
+-- `count` lines were read and answered, and after them the bytes `rest` were read, and the bytes `more` were written
+pub record AnswersLines {S : Type 0} (answers_with : S → List ℕ → List ℕ → S → Type 0) (s s' : S) (in_old in_new out_old out_new : Option (List ℕ)) (count : ℕ)
     (rest more : List ℕ) : Type 0 where
   pub lines : List (List ℕ)
   pub texts : List (List ℕ)
   pub each : AllByRecursion IsLine lines
-  pub said : SaysAll says lines s texts s'
+  pub all_answered : AnswersAll answers_with lines s texts s'
   pub taken : Consumes in_old in_new (all_lines lines ++ rest)
   pub written : Appends out_old out_new (all_texts texts ++ more)
   pub counted : count ≡ length texts
 
--- What was read after the last whole line. Without a fault it is nothing, and the input has ended. With a fault it is
--- the first 8,401 bytes of a line that is too long, or a last line without LF.
+-- `rest` is what was read after the last whole line. Without a fault of a line it is empty, and the input has ended.
+-- With a fault it is the first 8,401 bytes of a line that is too long, or a last line without LF, at the end of the
+-- input.
 abbrev pub IsCut : Option LineFault → Option (List ℕ) → List ℕ → Type 0
 IsCut None in_new rest = (rest ≡ []) × IsAtEnd in_new
 IsCut (Some line.TooLong) in_new rest = HasNoLf rest × (length rest ≡ 8401)
@@ -103,11 +104,11 @@ cut_count None = 0
 cut_count (Some fault) = 1
 
 -- the session ended without a failure: all lines were answered, and all answers were written
-pub record Ends {S : Type 0} (says : S → List ℕ → List ℕ → S → Type 0) (s s' : S) (in_old in_new out_old out_new : Option (List ℕ)) (count : ℕ)
+pub record Ends {S : Type 0} (answers_with : S → List ℕ → List ℕ → S → Type 0) (s s' : S) (in_old in_new out_old out_new : Option (List ℕ)) (count : ℕ)
     (cut : Option LineFault) : Type 0 where
   pub answered : ℕ
   pub rest : List ℕ
-  pub answering : AnswersLines says s s' in_old in_new out_old out_new answered rest (cut_line cut)
+  pub answering : AnswersLines answers_with s s' in_old in_new out_old out_new answered rest (cut_line cut)
   pub is_cut : IsCut cut in_new rest
   pub counted : count ≡ answered + cut_count cut
 
@@ -115,28 +116,28 @@ pub record Ends {S : Type 0} (says : S → List ℕ → List ℕ → S → Type 
 abbrev pub IsUpToLine : List ℕ → Type 0
 IsUpToLine rest = IsLine rest ⊎ ((line : List ℕ) × IsLine line × (rest ≡ with_lf line))
 
--- What was read after the last line that was answered. Without a fault it is at most the next line. With a fault it is
--- the line that has the fault.
+-- `rest` is what was read after the last line that was answered. Without a fault of a line it is at most the next line.
+-- With a fault it is what was read of the line that has the fault.
 abbrev pub AnswersCut : Option LineFault → Option (List ℕ) → List ℕ → Type 0
 AnswersCut None in_new rest = IsUpToLine rest
 AnswersCut (Some fault) in_new rest = IsCut (Some fault) in_new rest
 
--- the next line was read whole, and dropped for this reason
+-- the next line was read whole, and dropped (left without an answer) for this reason
 abbrev pub DropsFor : {S : Type 0} → (HandlerError → S → List ℕ → S → Type 0) → HandlerError → S → S → List ℕ → Type 0
 DropsFor drops why s s' rest = (line : List ℕ) × IsLine line × (rest ≡ with_lf line) × drops why s line s'
 
--- no further line was handled, or the next one was dropped
+-- no further line was handled, or the next one was dropped (left without an answer)
 abbrev pub DropsNext : {S : Type 0} → (HandlerError → S → List ℕ → S → Type 0) → S → S → List ℕ → Type 0
 DropsNext drops s s' rest = (s' ≡ s) ⊎ ((why : HandlerError) × DropsFor drops why s s' rest)
 
 -- the session failed, and a beginning of the answers was written
-pub record Breaks {S : Type 0} (says : S → List ℕ → List ℕ → S → Type 0) (drops : HandlerError → S → List ℕ → S → Type 0) (s s' : S)
+pub record Breaks {S : Type 0} (answers_with : S → List ℕ → List ℕ → S → Type 0) (drops : HandlerError → S → List ℕ → S → Type 0) (s s' : S)
     (in_old in_new out_old out_new : Option (List ℕ)) : Type 0 where
   pub lines : List (List ℕ)
   pub texts : List (List ℕ)
   pub each : AllByRecursion IsLine lines
   pub answered : S
-  pub said : SaysAll says lines s texts answered
+  pub all_answered : AnswersAll answers_with lines s texts answered
   pub rest : List ℕ
   pub dropped : DropsNext drops answered s' rest
   pub taken : Consumes in_old in_new (all_lines lines ++ rest)
@@ -152,34 +153,35 @@ abbrev pub ReadsOn : {S : Type 0} → S → S → List ℕ → Type 0
 ReadsOn s s' rest = (s' ≡ s) × IsLine rest
 
 -- Memory ran out while the next line was read. Or that line was read whole, needs memory, and changed nothing. Or it
--- was read whole, and dropped since memory ran out.
-abbrev pub WantsNext : {S : Type 0} → (HandlerError → S → List ℕ → S → Type 0) → (List ℕ → Type 0) → S → S → List ℕ → Type 0
-WantsNext drops takes s s' rest =
-    ReadsOn s s' rest ⊎ ((line : List ℕ) × IsLine line × (rest ≡ with_lf line) × (((s' ≡ s) × takes line) ⊎ drops error.OutOfMemory s line s'))
+-- was read whole, and dropped (left without an answer) because memory ran out.
+abbrev pub RunsOutAtNextLine : {S : Type 0} → (HandlerError → S → List ℕ → S → Type 0) → (List ℕ → Type 0) → S → S → List ℕ → Type 0
+RunsOutAtNextLine drops needs_memory s s' rest =
+    ReadsOn s s' rest ⊎ ((line : List ℕ) × IsLine line × (rest ≡ with_lf line) × (((s' ≡ s) × needs_memory line) ⊎ drops error.OutOfMemory s line s'))
 
 -- Why a session failed although no write did. `Read`, `ReadsSpent`: while the next line was read. `OutOfMemory`: memory
--- ran out at the next line, as `WantsNext` says. `Journal`: the next line was dropped since the journal failed.
+-- ran out at the next line, as `RunsOutAtNextLine` says. `Journal`: the next line was dropped because the journal
+-- failed.
 abbrev pub StopsFor : {S : Type 0} → (HandlerError → S → List ℕ → S → Type 0) → (List ℕ → Type 0) → SessionFault → S → S → List ℕ → Type 0
-StopsFor drops takes session.Write s s' rest = ⊥
-StopsFor drops takes session.Read s s' rest = ReadsOn s s' rest
-StopsFor drops takes session.ReadsSpent s s' rest = ReadsOn s s' rest
-StopsFor drops takes session.OutOfMemory s s' rest = WantsNext drops takes s s' rest
-StopsFor drops takes session.Journal s s' rest = DropsFor drops error.Journal s s' rest
+StopsFor drops needs_memory session.Write s s' rest = ⊥
+StopsFor drops needs_memory session.Read s s' rest = ReadsOn s s' rest
+StopsFor drops needs_memory session.ReadsSpent s s' rest = ReadsOn s s' rest
+StopsFor drops needs_memory session.OutOfMemory s s' rest = RunsOutAtNextLine drops needs_memory s s' rest
+StopsFor drops needs_memory session.Journal s s' rest = DropsFor drops error.Journal s s' rest
 
 -- The session failed although no write did. The whole answers to all answered lines were written, and no answer to a
 -- fault of a line. The failure has its cause at the next line, as `StopsFor` says.
 abbrev pub Stops : {S : Type 0} → (S → List ℕ → List ℕ → S → Type 0) → (HandlerError → S → List ℕ → S → Type 0) → (List ℕ → Type 0) → SessionFault → S
     → S → Option (List ℕ) → Option (List ℕ) → Option (List ℕ) → Option (List ℕ) → Type 0
-Stops says drops takes fault s s' in_old in_new out_old out_new =
-    (b : Breaks says drops s s' in_old in_new out_old out_new) × (b.cut ≡ None) × (b.after ≡ []) × StopsFor drops takes fault b.answered s' b.rest
+Stops answers_with drops needs_memory fault s s' in_old in_new out_old out_new =
+    (b : Breaks answers_with drops s s' in_old in_new out_old out_new) × (b.cut ≡ None) × (b.after ≡ []) × StopsFor drops needs_memory fault b.answered s' b.rest
 
 -- A session that buffers answers failed although no write did. Then `Stops` holds, except that after a failed read the
 -- buffered answers are not written.
 abbrev pub StopsAtDoor : {S : Type 0} → (S → List ℕ → List ℕ → S → Type 0) → (HandlerError → S → List ℕ → S → Type 0) → (List ℕ → Type 0)
     → SessionFault → S → S → Option (List ℕ) → Option (List ℕ) → Option (List ℕ) → Option (List ℕ) → Type 0
-StopsAtDoor says drops takes fault s s' in_old in_new out_old out_new =
-    (b : Breaks says drops s s' in_old in_new out_old out_new) × (b.cut ≡ None) × (fault ≢ session.Read → b.after ≡ [])
-    × StopsFor drops takes fault b.answered s' b.rest
+StopsAtDoor answers_with drops needs_memory fault s s' in_old in_new out_old out_new =
+    (b : Breaks answers_with drops s s' in_old in_new out_old out_new) × (b.cut ≡ None) × (fault ≢ session.Read → b.after ≡ [])
+    × StopsFor drops needs_memory fault b.answered s' b.rest
 
 -- whether the result is that a read failed
 abbrev pub is_read : {T : Type 0} → Result T SessionFault → Bool

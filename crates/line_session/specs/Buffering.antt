@@ -12,41 +12,43 @@ pub record Sends (bytes rest : List ℕ) (out_old out_new : Option (List ℕ)) :
   pub out : Appends out_old out_new sent
   pub in_order : sent ++ rest ≡ bytes
 
--- The promise `said` holds for all bytes that were written or are buffered, as if they had been written to an empty
+-- The promise `promise` holds for all bytes that were written or are buffered, as if they had been written to an empty
 -- output.
-pub record Waits (said : Option (List ℕ) → Option (List ℕ) → Type 0) (out_old out_new : Option (List ℕ)) (waiting : List ℕ) : Type 0 where
+pub record HoldsWithBuffered (promise : Option (List ℕ) → Option (List ℕ) → Type 0) (out_old out_new : Option (List ℕ)) (pending : List ℕ) : Type 0 where
   pub sent : List ℕ
-  pub as_if_out : said (Some []) (Some (sent ++ waiting))
+  pub as_if_out : promise (Some []) (Some (sent ++ pending))
   pub out : Appends out_old out_new sent
 
--- the line was answered, and the answer comes after the bytes that were buffered
-pub record SaysOn {S : Type 0} (says : S → List ℕ → List ℕ → S → Type 0) (line : List ℕ) (s s' : S) (waiting after : List ℕ)
+-- The line was answered. Of the bytes that were buffered and the answer after them, a beginning was written, and the
+-- rest is in the buffer now.
+pub record BuffersAnswer {S : Type 0} (answers_with : S → List ℕ → List ℕ → S → Type 0) (line : List ℕ) (s s' : S) (pending after : List ℕ)
     (out_old out_new : Option (List ℕ)) : Type 0 where
   pub text : List ℕ
-  pub says_it : says s line text s'
-  pub goes_on : Sends (waiting ++ text) after out_old out_new
+  pub is_answer : answers_with s line text s'
+  pub goes_on : Sends (pending ++ text) after out_old out_new
 
--- the line was answered, and of the buffered bytes and the answer only a beginning was written
-pub record LosesSome {S : Type 0} (says : S → List ℕ → List ℕ → S → Type 0) (line : List ℕ) (s s' : S) (waiting : List ℕ)
+-- The line was answered. Of the bytes that were buffered and the answer after them, a beginning was written, and the
+-- rest is lost.
+pub record LosesSome {S : Type 0} (answers_with : S → List ℕ → List ℕ → S → Type 0) (line : List ℕ) (s s' : S) (pending : List ℕ)
     (out_old out_new : Option (List ℕ)) : Type 0 where
   pub text : List ℕ
-  pub says_it : says s line text s'
+  pub is_answer : answers_with s line text s'
   pub lost : List ℕ
-  pub goes_on : Sends (waiting ++ text) lost out_old out_new
+  pub goes_on : Sends (pending ++ text) lost out_old out_new
 
 -- the buffer is unchanged, and nothing was written
-pub record Keeps (waiting after : List ℕ) (out_old out_new : Option (List ℕ)) : Type 0 where
-  pub waits : after ≡ waiting
+pub record Keeps (pending after : List ℕ) (out_old out_new : Option (List ℕ)) : Type 0 where
+  pub waits : after ≡ pending
   pub out : out_new ≡ out_old
 
--- Why the answer to a line is neither written nor buffered. `Write`: a write failed, and the rest of the buffered bytes
--- and the answer is lost. `OutOfMemory`: the line needed memory and changed nothing, or was dropped since memory ran
--- out. `Journal`: the line was dropped since the journal failed.
-abbrev pub StaysOff : {S : Type 0} → (S → List ℕ → List ℕ → S → Type 0) → (HandlerError → S → List ℕ → S → Type 0) → (List ℕ → Type 0) → SessionFault
+-- Why the answer to a line is neither written whole nor buffered. `Write`: a write failed, and the rest of the buffered
+-- bytes and the answer is lost. `OutOfMemory`: the line needed memory and changed nothing, or was dropped because
+-- memory ran out. `Journal`: the line was dropped because the journal failed.
+abbrev pub FailsToBuffer : {S : Type 0} → (S → List ℕ → List ℕ → S → Type 0) → (HandlerError → S → List ℕ → S → Type 0) → (List ℕ → Type 0) → SessionFault
     → List ℕ → S → S → List ℕ → List ℕ → Option (List ℕ) → Option (List ℕ) → Type 0
-StaysOff says drops takes session.Write line s s' waiting after out_old out_new = LosesSome says line s s' waiting out_old out_new
-StaysOff says drops takes session.OutOfMemory line s s' waiting after out_old out_new =
-    Keeps waiting after out_old out_new × ((takes line × (s' ≡ s)) ⊎ drops error.OutOfMemory s line s')
-StaysOff says drops takes session.Journal line s s' waiting after out_old out_new = Keeps waiting after out_old out_new × drops error.Journal s line s'
-StaysOff says drops takes session.Read line s s' waiting after out_old out_new = ⊥
-StaysOff says drops takes session.ReadsSpent line s s' waiting after out_old out_new = ⊥
+FailsToBuffer answers_with drops needs_memory session.Write line s s' pending after out_old out_new = LosesSome answers_with line s s' pending out_old out_new
+FailsToBuffer answers_with drops needs_memory session.OutOfMemory line s s' pending after out_old out_new =
+    Keeps pending after out_old out_new × ((needs_memory line × (s' ≡ s)) ⊎ drops error.OutOfMemory s line s')
+FailsToBuffer answers_with drops needs_memory session.Journal line s s' pending after out_old out_new = Keeps pending after out_old out_new × drops error.Journal s line s'
+FailsToBuffer answers_with drops needs_memory session.Read line s s' pending after out_old out_new = ⊥
+FailsToBuffer answers_with drops needs_memory session.ReadsSpent line s s' pending after out_old out_new = ⊥

@@ -9,17 +9,18 @@ use Rattle.till_request.specs.declared.act.Answer.{Answer}
 use Rattle.till_request.specs.declared.act.Answer.TheVariants.{Line}
 use Rattle.till_request.specs.Gives.{Fails}
 use Rattle.till_request.specs.Grammar.{line_read}
-use Rattle.line_session.specs.Session.{desk_takes}
+use Rattle.line_session.specs.Session.{desk_needs_memory}
 
 -- the line is an act, and the desk answered it
 abbrev pub DecidesAct : {C D : Type 0} → (D → Act → ℕ → Answer → D → Type 0) → (C → ℕ → C → Type 0) → Role → List ℕ → C → D → Answer → C → D → Type 0
 DecidesAct step tick role line c d answer c' d' =
     (act : Act) × (moment : ℕ) × (line_read role line ≡ Ok act) × tick c moment c' × step d act moment answer d'
 
--- the line has a fault, and neither clock nor desk was asked; memory can run out only for a load
+-- The line has a fault, and neither the clock nor the desk was asked. The fault is `OutOfMemory` only if the line is a
+-- load.
 abbrev pub DecidesFault : {C D : Type 0} → Role → List ℕ → C → D → Answer → C → D → Type 0
 DecidesFault role line c d answer c' d' =
-    (fault : LineFault) × (answer ≡ Line fault) × Fails fault (line_read role line) × (fault ≡ OutOfMemory → desk_takes role line) × (c' ≡ c) × (d' ≡ d)
+    (fault : LineFault) × (answer ≡ Line fault) × Fails fault (line_read role line) × (fault ≡ OutOfMemory → desk_needs_memory role line) × (c' ≡ c) × (d' ≡ d)
 
 abbrev pub Decides : {C D : Type 0} → (D → Act → ℕ → Answer → D → Type 0) → (C → ℕ → C → Type 0) → Role → List ℕ → C → D → Answer → C → D → Type 0
 Decides step tick role line c d answer c' d' = DecidesAct step tick role line c d answer c' d' ⊎ DecidesFault role line c d answer c' d'

@@ -15,7 +15,8 @@ cut_by found.TooLong = Some TooLong
 cut_by found.Cut = Some CutLine
 cut_by found.End = None
 
--- The result of a session that ended after `lines` answers. If a fault ended it, the answer to the fault counts too.
+-- `ended` is the result of a session that gave `lines` answers and then ended, with the fault `cut` of its last line,
+-- if any. In `ended.lines` the answer to that fault is counted too.
 pub record IsEnd (lines : ℕ) (cut : Option LineFault) (ended : Ended) : Type 0 where
   pub lines_are : ended.lines ≡ lines + cut_count cut
   pub cut_is : ended.cut ≡ cut

@@ -1,4 +1,4 @@
-pub mod Cut
+pub mod ReadSizes
 pub mod Faults
 pub mod Found
 pub mod Buffering

@@ -10,7 +10,7 @@ use Rattle.line_session.specs.declared.answering.SessionFault.{SessionFault}
 use Rattle.line_session.specs.declared.answering.SessionFault.TheVariants.{ReadsSpent, Write}
 use Rattle.line_session.specs.declared.line_handler.HandlerError.{HandlerError}
 use Rattle.line_session.specs.Answering.{Ends, Breaks, StopsAtDoor, is_read, is_write, session_reads}
-use Rattle.line_session.specs.Session.{desk_says, desk_drops, desk_takes}
+use Rattle.line_session.specs.Session.{desk_answers, desk_drops, desk_needs_memory}
 
 -- how a connection went: None if it couldn't be opened, or else how its session ended
 abbrev pub Outcome : Type 0
@@ -30,13 +30,13 @@ good (outcome ∷ outcomes) = one_good outcome + good outcomes
 -- A session over this input and output had this result. Either all lines were answered, or the session failed and a
 -- beginning of the answers was written. Each fault has its cause: a device failed, all reads were made, the journal
 -- failed at a line, or memory ran out at one.
-pub record Sits {S I O : Type 0} (says : S → List ℕ → List ℕ → S → Type 0) (drops : HandlerError → S → List ℕ → S → Type 0) (takes : List ℕ → Type 0)
+pub record RunsSession {S I O : Type 0} (answers_with : S → List ℕ → List ℕ → S → Type 0) (drops : HandlerError → S → List ℕ → S → Type 0) (needs_memory : List ℕ → Type 0)
     (remaining : I → Option (List ℕ)) (reads read_failures : I → ℕ) (written : O → Option (List ℕ)) (write_failures : O → ℕ)
     (result : Result Ended SessionFault) (i : I) (o : O) (s s' : S) : Type 0 where
   pub input : I
   pub output : O
-  pub said : IfOk result (λ ended. Ends says s s' (remaining i) (remaining input) (written o) (written output) ended.lines ended.cut)
-  pub broken : OnErr result (Breaks says drops s s' (remaining i) (remaining input) (written o) (written output))
+  pub all_answered : IfOk result (λ ended. Ends answers_with s s' (remaining i) (remaining input) (written o) (written output) ended.lines ended.cut)
+  pub broken : OnErr result (Breaks answers_with drops s s' (remaining i) (remaining input) (written o) (written output))
   pub read_fault : RoseBy (one_if (is_read result)) (read_failures i) (read_failures input)
   pub write_fault : RoseBy (one_if (is_write result)) (write_failures o) (write_failures output)
   pub count : ℕ
@@ -44,28 +44,28 @@ pub record Sits {S I O : Type 0} (says : S → List ℕ → List ℕ → S → T
   pub counted : RoseBy count (reads i) (reads input)
   pub spent : result ≡ Err ReadsSpent → count ≡ session_reads
   pub stopped : IfErr result
-      (λ fault. fault ≢ Write → StopsAtDoor says drops takes fault s s' (remaining i) (remaining input) (written o) (written output))
+      (λ fault. fault ≢ Write → StopsAtDoor answers_with drops needs_memory fault s s' (remaining i) (remaining input) (written o) (written output))
 
--- `Sits` holds for a session of this role with a desk and a clock
-abbrev pub SitsAtDesk : {C D I O : Type 0} → (D → Act → ℕ → Answer → D → Type 0) → (C → ℕ → C → Type 0) → Role → (I → Option (List ℕ)) → (I → ℕ) → (I → ℕ)
+-- `RunsSession` holds for a session of this role with a desk and a clock
+abbrev pub RunsDeskSession : {C D I O : Type 0} → (D → Act → ℕ → Answer → D → Type 0) → (C → ℕ → C → Type 0) → Role → (I → Option (List ℕ)) → (I → ℕ) → (I → ℕ)
     → (O → Option (List ℕ)) → (O → ℕ) → Result Ended SessionFault → I → O → C × D → C × D → Type 0
-SitsAtDesk step tick role = Sits (desk_says step tick role) (desk_drops step tick role) (desk_takes role)
+RunsDeskSession step tick role = RunsSession (desk_answers step tick role) (desk_drops step tick role) (desk_needs_memory role)
 
--- One connection: it couldn't be opened, and clock and desk weren't asked. Or it was opened, a session ran over it, and
--- how the session ended was reported to the doors.
-abbrev pub Visits : {D S I O : Type 0} → (D → I → O → D → Type 0) → (D → D → Type 0) → (D → Result Ended SessionFault → Type 0)
+-- How one connection went. Either it couldn't be opened, and the clock and the desk weren't asked. Or it was opened, a
+-- session ran over it, and how the session ended was reported to the doors.
+abbrev pub ServesConnection : {D S I O : Type 0} → (D → I → O → D → Type 0) → (D → D → Type 0) → (D → Result Ended SessionFault → Type 0)
     → (Result Ended SessionFault → I → O → S → S → Type 0) → Outcome → D → S → D → S → Type 0
-Visits opens fails told sits None d s d' s' = fails d d' × (s' ≡ s)
-Visits {D} {S} {I} {O} opens fails told sits (Some result) d s d' s' = (i : I) × (o : O) × opens d i o d' × sits result i o s s' × told d' result
+ServesConnection opens fails reported runs_session None d s d' s' = fails d d' × (s' ≡ s)
+ServesConnection {D} {S} {I} {O} opens fails reported runs_session (Some result) d s d' s' = (i : I) × (o : O) × opens d i o d' × runs_session result i o s s' × reported d' result
 
--- these connections came one after another, and `Visits` holds for each
-abbrev pub VisitsAll : {D S : Type 0} → (Outcome → D → S → D → S → Type 0) → List Outcome → D → S → D → S → Type 0
-VisitsAll visits [] d s d' s' = (d' ≡ d) × (s' ≡ s)
-VisitsAll {D} {S} visits (outcome ∷ outcomes) d s d' s' = (m : D) × (t : S) × visits outcome d s m t × VisitsAll visits outcomes m t d' s'
+-- these connections came one after another, and `ServesConnection` holds for each
+abbrev pub ServesConnections : {D S : Type 0} → (Outcome → D → S → D → S → Type 0) → List Outcome → D → S → D → S → Type 0
+ServesConnections serves_connection [] d s d' s' = (d' ≡ d) × (s' ≡ s)
+ServesConnections {D} {S} serves_connection (outcome ∷ outcomes) d s d' s' = (m : D) × (t : S) × serves_connection outcome d s m t × ServesConnections serves_connection outcomes m t d' s'
 
 -- a worker served `asked` connections, of which `clean` ended without a SessionFault
-pub record Serves {D S : Type 0} (visits : Outcome → D → S → D → S → Type 0) (asked clean : ℕ) (d : D) (s : S) (d' : D) (s' : S) : Type 0 where
+pub record Serves {D S : Type 0} (serves_connection : Outcome → D → S → D → S → Type 0) (asked clean : ℕ) (d : D) (s : S) (d' : D) (s' : S) : Type 0 where
   pub outcomes : List Outcome
-  pub each : VisitsAll visits outcomes d s d' s'
+  pub each : ServesConnections serves_connection outcomes d s d' s'
   pub all_asked : length outcomes ≡ asked
   pub counted : clean ≡ good outcomes

@@ -15,60 +15,61 @@ use Rattle.till_request.specs.Answer.{answer_line}
 use Rattle.line_session.specs.declared.line_handler.HandlerError.{HandlerError}
 use Rattle.line_session.specs.declared.line_handler.HandlerError.TheVariants as error
 
--- The answer to an act is one that the desk may give at a moment that the clock may give. A fault is its own answer.
+-- The answer to an act is one that the desk can give, at a moment that the clock can give. The answer to a fault is
+-- this fault, and neither the clock nor the desk is asked.
 abbrev pub AnswersAct : {C D : Type 0} → (D → Act → ℕ → Answer → D → Type 0) → (C → ℕ → C → Type 0) → Result Act LineFault → C → D → Answer → C → D → Type 0
 AnswersAct step tick (Ok act) c d a c' d' = (moment : ℕ) × tick c moment c' × step d act moment a d'
 AnswersAct step tick (Err why) c d a c' d' = (a ≡ Line why) × (c' ≡ c) × (d' ≡ d)
 
 -- whether an answer is one that isn't written and ends the session
-abbrev pub ends_unsaid : Answer → Bool
-ends_unsaid (Line fault.OutOfMemory) = true
-ends_unsaid JournalFailed = true
-ends_unsaid answer = false
+abbrev pub ends_unwritten : Answer → Bool
+ends_unwritten (Line fault.OutOfMemory) = true
+ends_unwritten JournalFailed = true
+ends_unwritten answer = false
 
 -- the answer has a line, and this line was written
 pub record Writes {O : Type 0} (took : O → Option (List ℕ)) (answer : Answer) (o o' : O) : Type 0 where
-  pub has_line : ends_unsaid answer ≡ false
+  pub has_line : ends_unwritten answer ≡ false
   pub written : Appends (took o) (took o') (answer_line answer)
 
 -- the answer has a line, and a beginning of this line was written
 pub record WritesFront {O : Type 0} (took : O → Option (List ℕ)) (answer : Answer) (o o' : O) : Type 0 where
-  pub has_line : ends_unsaid answer ≡ false
+  pub has_line : ends_unwritten answer ≡ false
   pub kept : ℕ
   pub written : Appends (took o) (took o') (take kept (answer_line answer))
 
--- the error of an answer that isn't written: memory ran out, or the journal failed
-abbrev pub IsUnsaid : HandlerError → Answer → Type 0
-IsUnsaid error.Write answer = ⊥
-IsUnsaid error.OutOfMemory answer = answer ≡ Line fault.OutOfMemory
-IsUnsaid error.Journal answer = answer ≡ JournalFailed
+-- the answer isn't written, for the reason that this error says: memory ran out, or the journal failed
+abbrev pub IsUnwritten : HandlerError → Answer → Type 0
+IsUnwritten error.Write answer = ⊥
+IsUnwritten error.OutOfMemory answer = answer ≡ Line fault.OutOfMemory
+IsUnwritten error.Journal answer = answer ≡ JournalFailed
 
 -- Why an answer isn't written in full. The device failed, and a beginning of the answer's line was written. Or the
 -- answer has no line, and nothing was written.
-abbrev pub StaysUnsaid : {O : Type 0} → (O → Option (List ℕ)) → HandlerError → Answer → O → O → Type 0
-StaysUnsaid took error.Write answer o o' = WritesFront took answer o o'
-StaysUnsaid took error.OutOfMemory answer o o' = IsUnsaid error.OutOfMemory answer × (o' ≡ o)
-StaysUnsaid took error.Journal answer o o' = IsUnsaid error.Journal answer × (o' ≡ o)
+abbrev pub StaysUnwritten : {O : Type 0} → (O → Option (List ℕ)) → HandlerError → Answer → O → O → Type 0
+StaysUnwritten took error.Write answer o o' = WritesFront took answer o o'
+StaysUnwritten took error.OutOfMemory answer o o' = IsUnwritten error.OutOfMemory answer × (o' ≡ o)
+StaysUnwritten took error.Journal answer o o' = IsUnwritten error.Journal answer × (o' ≡ o)
 
--- the text is the line of an answer to this line
-pub record SpeaksAt {C D : Type 0} (step : D → Act → ℕ → Answer → D → Type 0) (tick : C → ℕ → C → Type 0) (role : Role) (line text : List ℕ) (c : C) (d : D)
+-- the text is the line of an answer that this clock and this desk can give to the line `line` from this role
+pub record IsAnswerLine {C D : Type 0} (step : D → Act → ℕ → Answer → D → Type 0) (tick : C → ℕ → C → Type 0) (role : Role) (line text : List ℕ) (c : C) (d : D)
     (c' : C) (d' : D) : Type 0 where
   pub answer : Answer
   pub answers : AnswersAct step tick (line_read role line) c d answer c' d'
-  pub has_line : ends_unsaid answer ≡ false
+  pub has_line : ends_unwritten answer ≡ false
   pub text_is : text ≡ answer_line answer
 
--- the text is an answer of this clock and this desk to a line from this role
-abbrev pub desk_says : {C D : Type 0} → (D → Act → ℕ → Answer → D → Type 0) → (C → ℕ → C → Type 0) → Role → C × D → List ℕ → List ℕ → C × D → Type 0
-desk_says step tick role s line text s' = SpeaksAt step tick role line text s.0 s.1 s'.0 s'.1
+-- the text is an answer that this clock and this desk can give to a line from this role
+abbrev pub desk_answers : {C D : Type 0} → (D → Act → ℕ → Answer → D → Type 0) → (C → ℕ → C → Type 0) → Role → C × D → List ℕ → List ℕ → C × D → Type 0
+desk_answers step tick role s line text s' = IsAnswerLine step tick role line text s.0 s.1 s'.0 s'.1
 
 -- the desk's answer to the line isn't written, and the reason is this error: memory ran out, or the journal failed
 abbrev pub desk_drops : {C D : Type 0} → (D → Act → ℕ → Answer → D → Type 0) → (C → ℕ → C → Type 0) → Role → HandlerError → C × D → List ℕ → C × D
     → Type 0
 desk_drops step tick role why s line s' =
-    (act : Act) × (moment : ℕ) × (answer : Answer) × IsUnsaid why answer × (line_read role line ≡ Ok act) × tick s.0 moment s'.0
+    (act : Act) × (moment : ℕ) × (answer : Answer) × IsUnwritten why answer × (line_read role line ≡ Ok act) × tick s.0 moment s'.0
     × step s.1 act moment answer s'.1
 
 -- the line is a load that the role may send: only such a line needs memory before the desk is asked
-abbrev pub desk_takes : Role → List ℕ → Type 0
-desk_takes role line = IsLoad role (words line)
+abbrev pub desk_needs_memory : Role → List ℕ → Type 0
+desk_needs_memory role line = IsLoad role (words line)

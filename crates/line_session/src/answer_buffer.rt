@@ -11,7 +11,8 @@ use till_request::devices::MemoryOut;
 use till_request::write::{write_all, write_answer};
 use till_request::{Answer, DeviceFault, LineOut, WriteFault};
 
-/// If at least this many bytes are buffered, the buffer is written before the next line is read.
+/// The size of a full buffer, in bytes. If at least this many bytes are buffered, they are written before the next line
+/// is read.
 const MOST_WAITING: usize = 16_384;
 
 /// Answers that are buffered in memory, to be written to a device together. If memory runs out for an answer, that
@@ -37,8 +38,8 @@ impl AnswerBuffer {
         self.held.bytes.len() >= MOST_WAITING
     }
 
-    /// Writes the buffered answers, and empties the buffer. The error is that a write failed: then a beginning of the
-    /// answers may have been written, and the buffer is empty too.
+    /// Writes the buffered answers, and empties the buffer. The error is that a write failed. Then the first bytes of
+    /// these answers were perhaps written, the rest is lost, and the buffer is empty too.
     pub fn flush<O: LineOut>(&mut self, output: &mut O) -> Result<(), SessionFault>
         ensures ok { OnOk result
             (Sends self.old.held.bytes.items [] (O.written output.old) (O.written output.new)) }
@@ -74,8 +75,8 @@ impl AnswerBuffer {
     }
 
     /// Appends an answer with its LF to the buffer. If there is no memory for that, writes the buffered answers and
-    /// then this answer, and empties the buffer. The error is that a write failed: then a beginning of these answers
-    /// may have been written, and the buffer is empty too.
+    /// then this answer, and empties the buffer. The error is that a write failed. Then the first bytes of these
+    /// answers were perhaps written, the rest is lost, and the buffer is empty too.
     pub fn put<O: LineOut>(
         &mut self,
         alloc: Global,

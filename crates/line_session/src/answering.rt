@@ -11,15 +11,15 @@ ghost use Rattle.line_session.specs.Found.{IsEnd, cut_by};
 use crate::line_handler::{HandlerError, LineHandler};
 use std::alloc::Global;
 use std::fmt;
-use till_request::line::find_line;
+use till_request::line::read_line_into;
 use till_request::write::write_answer;
 use till_request::{Answer, Found, InputFault, LineFault, LineIn, LineOut, WriteFault};
 
-/// One session makes at most this many reads. Each read is of one byte.
+/// The most reads that one session makes. Each read asks for one byte.
 pub const READS: u32 = 67_108_864;
 
-/// How a session ended: the number of its answers, and the fault of the last line if that was too long (L1) or had no
-/// LF (L4), else `None`. The answer to such a line is counted too.
+/// How a session ended without a `SessionFault`: the number of its answers, and the fault of its last line if that was
+/// too long (L1) or had no LF (L4), else `None`. The answer to such a line is counted too.
 #[derive(Clone, Copy, PartialEq)]
 pub struct Ended {
     pub lines: u64,
@@ -98,9 +98,9 @@ pub(crate) fn cut_of(found: Found) -> Option<LineFault>
     }
 }
 
-/// Ends a session that has given `lines` answers so far, which must be at most `READS`. If `cut` isn't `None`, it is
-/// the fault of the last line, and is written as one more answer. Returns the number of all answers, and `cut`. The
-/// error is that the write failed.
+/// Ends a session after `lines` answers. `lines` must be at most `READS`. If `cut` isn't `None`, it is the fault of the
+/// last line, and is written as one more answer. Returns the number of all answers, and `cut`. The error is that the
+/// write failed.
 fn end<O: LineOut>(
     alloc: Global,
     output: &mut O,
@@ -145,11 +145,14 @@ pub fn answer_lines_within<I: LineIn, O: LineOut, C, D, S: LineHandler<C, D>>(
     left: &mut u32,
 ) -> Result<Ended, SessionFault>
     requires { left.old ≤ READS }
-    ensures said { IfOk result (λ ended. Ends (S.says handler.now) (clock.old, desk.old) (clock.new, desk.new)
+    ensures all_answered { IfOk result (λ ended. Ends (S.answers_with handler.now) (clock.old, desk.old) (
+      clock.new,
+      desk.new,
+    )
         (I.remaining input.old) (I.remaining input.new) (O.written output.old) (O.written output.new)
         ended.lines ended.cut) }
     ensures broken { OnErr result
-        (Breaks (S.says handler.now) (S.drops handler.now) (clock.old, desk.old) (clock.new, desk.new)
+        (Breaks (S.answers_with handler.now) (S.drops handler.now) (clock.old, desk.old) (clock.new, desk.new)
         (I.remaining input.old) (I.remaining input.new) (O.written output.old) (O.written output.new)) }
     ensures read_fault { RoseBy (one_if (is_read result)) (I.failures input.old) (I.failures input.new) }
     ensures write_fault { RoseBy (one_if (is_write result)) (O.failures output.old) (O.failures output.new) }
@@ -158,14 +161,17 @@ pub fn answer_lines_within<I: LineIn, O: LineOut, C, D, S: LineHandler<C, D>>(
     ensures counted { RoseBy (left.old - left.new) (I.reads input.old) (I.reads input.new) }
     ensures asked { RoseBy (left.old - left.new) (I.asked input.old) (I.asked input.new) }
     ensures stopped { IfErr result (λ fault. fault ≢ SessionFault.Write
-        → Stops (S.says handler.now) (S.drops handler.now) (S.takes handler.now) fault (clock.old, desk.old)
+        → Stops (S.answers_with handler.now) (S.drops handler.now) (S.needs_memory handler.now) fault (
+          clock.old,
+          desk.old,
+        )
         (clock.new, desk.new) (I.remaining input.old) (I.remaining input.new) (O.written output.old)
         (O.written output.new)) }
 {
     let mut line = Vec::new(alloc);
     let mut count = 0u64;
     'turns: loop {
-        match find_line(input, &mut line, left)? {
+        match read_line_into(input, &mut line, left)? {
             Found::Line => handler.handle_line(alloc, &line, clock, desk, output)?,
             found => return end(alloc, output, count, cut_of(found)),
         }
@@ -173,7 +179,9 @@ pub fn answer_lines_within<I: LineIn, O: LineOut, C, D, S: LineHandler<C, D>>(
     }
 }
 
-/// Answers the lines of an input in order, like `answer_lines_within`, with at most 67,108,864 reads.
+/// Answers the lines of an input in order with at most 67,108,864 reads, and returns how the session ended. The error
+/// is that a read or a write failed, that more reads are needed, that memory ran out, or that the journal failed.
+/// `answer_lines_within` says more.
 pub fn answer_lines<I: LineIn, O: LineOut, C, D, S: LineHandler<C, D>>(
     alloc: Global,
     input: &mut I,
@@ -182,18 +190,24 @@ pub fn answer_lines<I: LineIn, O: LineOut, C, D, S: LineHandler<C, D>>(
     clock: &mut C,
     desk: &mut D,
 ) -> Result<Ended, SessionFault>
-    ensures said { IfOk result (λ ended. Ends (S.says handler.now) (clock.old, desk.old) (clock.new, desk.new)
+    ensures all_answered { IfOk result (λ ended. Ends (S.answers_with handler.now) (clock.old, desk.old) (
+      clock.new,
+      desk.new,
+    )
         (I.remaining input.old) (I.remaining input.new) (O.written output.old) (O.written output.new)
         ended.lines ended.cut) }
     ensures broken { OnErr result
-        (Breaks (S.says handler.now) (S.drops handler.now) (clock.old, desk.old) (clock.new, desk.new)
+        (Breaks (S.answers_with handler.now) (S.drops handler.now) (clock.old, desk.old) (clock.new, desk.new)
         (I.remaining input.old) (I.remaining input.new) (O.written output.old) (O.written output.new)) }
     ensures read_fault { RoseBy (one_if (is_read result)) (I.failures input.old) (I.failures input.new) }
     ensures write_fault { RoseBy (one_if (is_write result)) (O.failures output.old) (O.failures output.new) }
     ensures reads { SpendsReads session_reads result (I.reads input.old) (I.reads input.new) (I.asked input.old)
         (I.asked input.new) }
     ensures stopped { IfErr result (λ fault. fault ≢ SessionFault.Write
-        → Stops (S.says handler.now) (S.drops handler.now) (S.takes handler.now) fault (clock.old, desk.old)
+        → Stops (S.answers_with handler.now) (S.drops handler.now) (S.needs_memory handler.now) fault (
+          clock.old,
+          desk.old,
+        )
         (clock.new, desk.new) (I.remaining input.old) (I.remaining input.new) (O.written output.old)
         (O.written output.new)) }
 {

@@ -1,7 +1,8 @@
-//! The desk, which answers acts, and the clock, which gives the moments.
+//! The desk, which answers acts (parsed lines), and the clock, which gives the moment at which each act is asked.
 use till_request::{Act, Answer};
 
-/// A desk: it answers acts, one after another.
+/// A desk: it answers acts, one after another. An act is a parsed line: a till's request, a dispenser's event, or a
+/// load of a program.
 pub trait Desk {
     ghost use Rattle.std.specs.Prelude.{ℕ};
     ghost use Rattle.till_request.specs.declared.act.Act.{Act};
@@ -11,7 +12,7 @@ pub trait Desk {
     /// state afterwards.
     ghost step: { Self → Act → ℕ → Answer → Self → Type 0 };
 
-    /// Returns the desk's answer to an act that is asked at this moment.
+    /// Returns the desk's answer to `act`, which is asked at the time `moment`. The call can change the desk.
     fn answer(&mut self, act: Act, moment: u64) -> Answer
         ensures { step self.old act moment result self.new };
 }

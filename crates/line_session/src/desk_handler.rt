@@ -3,7 +3,7 @@ ghost use Rattle.std.specs.Prelude.{◌≡◌, OnOk, IfErr, IfSome, IfNone, fals
 ghost use Rattle.till_request.specs.Count.{RoseBy, one_if};
 ghost use Rattle.line_session.specs.Answering.{is_write_fault};
 ghost use Rattle.line_session.specs.Deciding.{Decides};
-ghost use Rattle.line_session.specs.Session.{IsUnsaid, StaysUnsaid, Writes, ends_unsaid};
+ghost use Rattle.line_session.specs.Session.{IsUnwritten, StaysUnwritten, Writes, ends_unwritten};
 
 use crate::desk::{Clock, Desk};
 use crate::line_handler::{HandlerError, LineHandler};
@@ -13,8 +13,8 @@ use till_request::write::write_answer;
 use till_request::{Answer, LineFault, LineOut, Role, WriteFault};
 
 /// Returns the answer to a line from a role. The line is given without its LF. The answer is the desk's answer to the
-/// line's act at the clock's moment. If the line can't be read as an act of the role, the answer is the line's fault,
-/// and the clock and the desk stay as they are.
+/// line's act at the clock's moment. If the line can't be read as an act of the role, or memory runs out for a load,
+/// the answer is that fault, and the clock and the desk stay as they are.
 pub fn answer_to<C: Clock, D: Desk>(
     alloc: Global,
     role: Role,
@@ -36,9 +36,9 @@ pub fn answer_to<C: Clock, D: Desk>(
 /// Returns the error of an answer that isn't written and ends the session: `OutOfMemory` for the answer
 /// `Line(OutOfMemory)`, and `Journal` for `JournalFailed`. Returns `None` for all other answers, `Answer::OutOfMemory`
 /// among them.
-pub fn unsaid(answer: &Answer) -> Option<HandlerError>
-    ensures some { IfSome result (λ fault. IsUnsaid fault answer.now) }
-    ensures none { IfNone result (ends_unsaid answer.now ≡ false) }
+pub fn unwritten_error(answer: &Answer) -> Option<HandlerError>
+    ensures some { IfSome result (λ fault. IsUnwritten fault answer.now) }
+    ensures none { IfNone result (ends_unwritten answer.now ≡ false) }
 {
     match answer {
         Answer::Entered { .. } => None,
@@ -55,13 +55,17 @@ pub fn unsaid(answer: &Answer) -> Option<HandlerError>
 }
 
 // Writes the line of an answer. The error is that the write failed. An answer that ends the session has no line: then
-// nothing is written, and the error is the one that `unsaid` returns.
-fn say<O: LineOut>(alloc: Global, output: &mut O, answer: &Answer) -> Result<(), HandlerError>
+// nothing is written, and the error is the one that `unwritten_error` returns.
+fn write_line_of<O: LineOut>(
+    alloc: Global,
+    output: &mut O,
+    answer: &Answer,
+) -> Result<(), HandlerError>
     ensures ok { OnOk result (Writes O.written answer.now output.old output.new) }
-    ensures err { IfErr result (λ fault. StaysUnsaid O.written fault answer.now output.old output.new) }
+    ensures err { IfErr result (λ fault. StaysUnwritten O.written fault answer.now output.old output.new) }
     ensures failed { RoseBy (one_if (is_write_fault result)) (O.failures output.old) (O.failures output.new) }
 {
-    if let Some(fault) = unsaid(answer) {
+    if let Some(fault) = unwritten_error(answer) {
         return Err(fault);
     }
     match write_answer(alloc, output, answer) {
@@ -71,21 +75,22 @@ fn say<O: LineOut>(alloc: Global, output: &mut O, answer: &Answer) -> Result<(),
     }
 }
 
-/// A line handler for the lines of a role. It answers a line with a desk's answer to the line's act, at the moment that
-/// a clock gives, or, if the line can't be read as an act of the role, with the line's fault.
+/// A line handler for the lines of a role. It parses a line to an act, and answers with the desk's answer to this act,
+/// at the moment that the clock gives. If the line can't be read as an act of the role, it answers with the line's
+/// fault.
 #[derive(Clone, Copy)]
 pub struct DeskHandler {
     pub role: Role,
 }
 
 impl<C: Clock, D: Desk> LineHandler<C, D> for DeskHandler {
-    ghost use Rattle.line_session.specs.Session.{desk_says, desk_drops, desk_takes};
+    ghost use Rattle.line_session.specs.Session.{desk_answers, desk_drops, desk_needs_memory};
 
-    ghost says = { λ a. desk_says D.step C.tick a.role };
+    ghost answers_with = { λ a. desk_answers D.step C.tick a.role };
 
     ghost drops = { λ a. desk_drops D.step C.tick a.role };
 
-    ghost takes = { λ a. desk_takes a.role };
+    ghost needs_memory = { λ a. desk_needs_memory a.role };
 
     fn handle_line<O: LineOut>(
         &self,
@@ -96,6 +101,6 @@ impl<C: Clock, D: Desk> LineHandler<C, D> for DeskHandler {
         output: &mut O,
     ) -> Result<(), HandlerError> {
         let answer = answer_to(alloc, self.role, line, clock, desk);
-        say(alloc, output, &answer)
+        write_line_of(alloc, output, &answer)
     }
 }

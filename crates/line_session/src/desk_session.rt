@@ -2,7 +2,7 @@
 ghost use Rattle.std.specs.Prelude.{◌≢◌, IfOk, IfErr, OnErr};
 ghost use Rattle.till_request.specs.Count.{RoseBy, one_if};
 ghost use Rattle.line_session.specs.Answering.{Ends, Breaks, SpendsReads, Stops, is_read, is_write, session_reads};
-ghost use Rattle.line_session.specs.Session.{desk_says, desk_drops, desk_takes};
+ghost use Rattle.line_session.specs.Session.{desk_answers, desk_drops, desk_needs_memory};
 
 use crate::answering::{Ended, READS, SessionFault, answer_lines};
 use crate::desk::{Clock, Desk};
@@ -10,12 +10,13 @@ use crate::desk_handler::DeskHandler;
 use std::alloc::Global;
 use till_request::{LineIn, LineOut, Role};
 
-/// Answers the lines of an input in order, like `answer_lines`. Each line is read as an act of the role, and answered
-/// with the desk's answer at the moment that the clock gives. A line that can't be read as such an act is answered with
-/// its fault. But if this fault is `OutOfMemory`, the line has no answer, and the session ends with this error.
+/// Answers the lines of an input in order, like `answer_lines`, with the same errors. Each line is read as an act of
+/// the role, and answered with the desk's answer at the moment that the clock gives. A line that can't be read as such
+/// an act is answered with its fault. But if this fault is `OutOfMemory`, the line has no answer, and the session ends
+/// with this error.
 ///
-/// After an error, all earlier answers have been written. If the error is `Write`, a beginning of the next answer may
-/// have been written too.
+/// After an error, all earlier answers have been written. If the error is `Write`, the first bytes of one more answer
+/// were perhaps written too.
 pub fn session<I: LineIn, O: LineOut, C: Clock, D: Desk>(
     alloc: Global,
     role: Role,
@@ -24,11 +25,12 @@ pub fn session<I: LineIn, O: LineOut, C: Clock, D: Desk>(
     clock: &mut C,
     desk: &mut D,
 ) -> Result<Ended, SessionFault>
-    ensures said { IfOk result (λ ended. Ends (desk_says D.step C.tick role) (clock.old, desk.old) (clock.new, desk.new)
+    ensures all_answered { IfOk result (λ ended. Ends (desk_answers D.step C.tick role) (clock.old, desk.old)
+        (clock.new, desk.new)
         (I.remaining input.old) (I.remaining input.new) (O.written output.old) (O.written output.new)
         ended.lines ended.cut) }
     ensures broken { OnErr result
-        (Breaks (desk_says D.step C.tick role) (desk_drops D.step C.tick role) (clock.old, desk.old)
+        (Breaks (desk_answers D.step C.tick role) (desk_drops D.step C.tick role) (clock.old, desk.old)
         (clock.new, desk.new) (I.remaining input.old) (I.remaining input.new) (O.written output.old)
         (O.written output.new)) }
     ensures read_fault { RoseBy (one_if (is_read result)) (I.failures input.old) (I.failures input.new) }
@@ -36,7 +38,7 @@ pub fn session<I: LineIn, O: LineOut, C: Clock, D: Desk>(
     ensures reads { SpendsReads session_reads result (I.reads input.old) (I.reads input.new) (I.asked input.old)
         (I.asked input.new) }
     ensures stopped { IfErr result (λ fault. fault ≢ SessionFault.Write
-        → Stops (desk_says D.step C.tick role) (desk_drops D.step C.tick role) (desk_takes role) fault
+        → Stops (desk_answers D.step C.tick role) (desk_drops D.step C.tick role) (desk_needs_memory role) fault
         (clock.old, desk.old) (clock.new, desk.new) (I.remaining input.old) (I.remaining input.new)
         (O.written output.old) (O.written output.new)) }
 {

@@ -22,7 +22,7 @@ pub trait Doors {
     ghost fails: { Self → Self → Type 0 };
 
     /// For proofs: `ended` was called on these doors with this outcome of a session.
-    ghost told: { Self → Result Ended SessionFault → Type 0 };
+    ghost reported: { Self → Result Ended SessionFault → Type 0 };
 
     /// Waits for the next connection, and returns its input and its output. The error is that it couldn't be opened.
     fn next(&mut self) -> Result<(Self::In, Self::Out), DeviceFault>
@@ -37,5 +37,5 @@ pub trait Doors {
 
     /// Reports to these doors how a session over one of their connections ended.
     fn ended(&self, outcome: &Result<Ended, SessionFault>)
-        ensures { told self.now outcome.now };
+        ensures { reported self.now outcome.now };
 }

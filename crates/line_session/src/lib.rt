@@ -4,7 +4,6 @@
 mod answer_buffer;
 pub mod answering;
 mod connection;
-pub mod cut;
 mod desk;
 mod desk_handler;
 pub mod desk_session;
@@ -12,6 +11,7 @@ mod doors;
 mod line_handler;
 mod machine_clock;
 pub mod pipelined;
+pub mod read_sizes;
 pub mod serving;
 
 pub use answering::{Ended, READS, SessionFault};

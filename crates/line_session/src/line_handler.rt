@@ -17,21 +17,22 @@ pub enum HandlerError {
 pub trait LineHandler<C, D> {
     ghost use Rattle.std.specs.Prelude.{List, ℕ, OnOk, IfErr};
     ghost use Rattle.till_request.specs.Count.{RoseBy, one_if};
-    ghost use Rattle.line_session.specs.Answering.{FallsShort, Said, is_write_fault};
+    ghost use Rattle.line_session.specs.Answering.{HandlerFails, WritesAnswer, is_write_fault};
     ghost use Rattle.line_session.specs.declared.line_handler.HandlerError.{HandlerError};
 
     /// For proofs: with the clock and the desk in the first state, the handler can answer this line (the first list of
     /// bytes) with this text (the second), and leave the clock and the desk in the second state.
-    ghost says: { Self → (C × D) → List ℕ → List ℕ → (C × D) → Type 0 };
+    ghost answers_with: { Self → (C × D) → List ℕ → List ℕ → (C × D) → Type 0 };
 
     /// For proofs: the handler can leave this line without an answer, with this error (memory ran out, or the journal
     /// failed). The clock and the desk are in the first state before the line, and in the second state after it.
     ghost drops: { Self → HandlerError → (C × D) → List ℕ → (C × D) → Type 0 };
 
     /// For proofs: at this line, the handler can run out of memory before anything has changed.
-    ghost takes: { Self → List ℕ → Type 0 };
+    ghost needs_memory: { Self → List ℕ → Type 0 };
 
-    /// Writes the answer to a line, which is given without its LF. An error ends the session.
+    /// Writes the answer to a line. `line` doesn't include its LF. The error is that a write failed, that memory ran
+    /// out, or that the journal failed. It ends the session.
     fn handle_line<O: LineOut>(
         &self,
         alloc: Global,
@@ -41,10 +42,12 @@ pub trait LineHandler<C, D> {
         output: &mut O,
     ) -> Result<(), HandlerError>
         ensures ok { OnOk result
-            (Said (says self.now) line.now (clock.old, desk.old) (clock.new, desk.new) (O.written output.old)
+            (WritesAnswer (answers_with self.now) line.now (clock.old, desk.old) (clock.new, desk.new) (O.written
+            output.old)
             (O.written output.new)) }
         ensures err { IfErr result
-            (λ fault. FallsShort (says self.now) (drops self.now) (takes self.now) O.written fault line.now (clock.old, desk.old)
+            (λ fault. HandlerFails (answers_with self.now) (drops self.now) (needs_memory self.now) O.written fault
+            line.now (clock.old, desk.old)
             (clock.new, desk.new) output.old output.new) }
         ensures failed { RoseBy (one_if (is_write_fault result)) (O.failures output.old) (O.failures output.new) };
 }

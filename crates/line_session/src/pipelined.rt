@@ -4,8 +4,8 @@ ghost use Rattle.std.specs.Prelude.{◌≡◌, ◌≢◌, ◌⊎◌, ◌++◌, �
 ghost use Rattle.till_request.specs.Answer.{answer_line};
 ghost use Rattle.till_request.specs.Count.{RoseBy, one_if};
 ghost use Rattle.till_request.specs.declared.act.LineFault.{LineFault};
-ghost use Rattle.line_session.specs.Buffering.{SaysOn, Sends, StaysOff, Waits};
-ghost use Rattle.line_session.specs.Session.{desk_says, desk_drops, desk_takes};
+ghost use Rattle.line_session.specs.Buffering.{BuffersAnswer, Sends, FailsToBuffer, HoldsWithBuffered};
+ghost use Rattle.line_session.specs.Session.{desk_answers, desk_drops, desk_needs_memory};
 ghost use Rattle.line_session.specs.Answering.{Ends, Breaks, SpendsReads, Stops, StopsAtDoor};
 ghost use Rattle.line_session.specs.Answering.{cut_line, is_read, is_write, session_reads};
 ghost use Rattle.line_session.specs.Found.{IsEnd};
@@ -14,33 +14,33 @@ use crate::answer_buffer::AnswerBuffer;
 use crate::answering::{Ended, READS, SessionFault, cut_of};
 use crate::connection::Connection;
 use crate::desk::{Clock, Desk};
-use crate::desk_handler::{answer_to, unsaid};
+use crate::desk_handler::{answer_to, unwritten_error};
 use crate::doors::Doors;
 use std::alloc::Global;
-use till_request::line::find_line;
+use till_request::line::read_line_into;
 use till_request::{Answer, Found, LineFault, LineOut, Role};
 
-/// The state of a session in progress: the reads that it can still make, the last line that was read, and the buffered
+/// The state of a session in progress: how many reads it can still make, the last line that was read, and the buffered
 /// answers.
 #[derive(Drop)]
 struct Progress {
     alloc: Global,
     left: u32,
     line: Vec<u8>,
-    waiting: AnswerBuffer,
+    pending: AnswerBuffer,
 }
 
 impl Progress {
     /// Makes the state of a new session: all its reads remain, and no answer is buffered.
     fn new(alloc: Global) -> Progress
         ensures left { result.left ≡ session_reads }
-        ensures none { result.waiting.held.bytes.items ≡ [] }
+        ensures none { result.pending.held.bytes.items ≡ [] }
     {
         Progress {
             alloc,
             left: READS,
             line: Vec::new(alloc),
-            waiting: AnswerBuffer::new(alloc),
+            pending: AnswerBuffer::new(alloc),
         }
     }
 
@@ -51,9 +51,9 @@ impl Progress {
         doors: &S,
         connection: &mut Connection<S::In, S::Out>,
     ) -> Result<(), SessionFault>
-        ensures ok { OnOk result (Sends self.old.waiting.held.bytes.items self.new.waiting.held.bytes.items
+        ensures ok { OnOk result (Sends self.old.pending.held.bytes.items self.new.pending.held.bytes.items
             (S.Out.written connection.old.output) (S.Out.written connection.new.output)) }
-        ensures err { OnErr result ((lost : List ℕ) × Sends self.old.waiting.held.bytes.items lost
+        ensures err { OnErr result ((lost : List ℕ) × Sends self.old.pending.held.bytes.items lost
             (S.Out.written connection.old.output) (S.Out.written connection.new.output)) }
         ensures failed { RoseBy (one_if (is_write result)) (S.Out.failures connection.old.output)
             (S.Out.failures connection.new.output) }
@@ -61,10 +61,10 @@ impl Progress {
         ensures input { connection.new.input ≡ connection.old.input }
         ensures left { self.new.left ≡ self.old.left }
     {
-        if !self.waiting.is_full() && doors.has_buffered_line(&connection.input) {
+        if !self.pending.is_full() && doors.has_buffered_line(&connection.input) {
             return Ok(());
         }
-        self.waiting.flush(&mut connection.output)
+        self.pending.flush(&mut connection.output)
     }
 
     /// Answers the line that was read last. The answer is buffered, or written at once if there is no memory to buffer
@@ -76,27 +76,31 @@ impl Progress {
         clock: &mut C,
         desk: &mut D,
     ) -> Result<(), SessionFault>
-        ensures ok { OnOk result (SaysOn (desk_says D.step C.tick role) self.old.line.items (clock.old, desk.old)
-            (clock.new, desk.new) self.old.waiting.held.bytes.items self.new.waiting.held.bytes.items
+        ensures ok { OnOk result (BuffersAnswer (desk_answers D.step C.tick role) self.old.line.items (
+          clock.old,
+          desk.old,
+        )
+            (clock.new, desk.new) self.old.pending.held.bytes.items self.new.pending.held.bytes.items
             (O.written output.old) (O.written output.new)) }
-        ensures err { IfErr result (λ fault. StaysOff (desk_says D.step C.tick role) (desk_drops D.step C.tick role)
-            (desk_takes role) fault self.old.line.items (clock.old, desk.old) (clock.new, desk.new)
-            self.old.waiting.held.bytes.items self.new.waiting.held.bytes.items (O.written output.old)
+        ensures err { IfErr result (λ fault. FailsToBuffer (desk_answers D.step C.tick role) (desk_drops D.step C.tick
+            role)
+            (desk_needs_memory role) fault self.old.line.items (clock.old, desk.old) (clock.new, desk.new)
+            self.old.pending.held.bytes.items self.new.pending.held.bytes.items (O.written output.old)
             (O.written output.new)) }
         ensures failed { RoseBy (one_if (is_write result)) (O.failures output.old) (O.failures output.new) }
         ensures left { self.new.left ≡ self.old.left }
     {
         let alloc = self.alloc;
         let answer = answer_to(alloc, role, &self.line, clock, desk);
-        if let Some(fault) = unsaid(&answer) {
+        if let Some(fault) = unwritten_error(&answer) {
             return Err(SessionFault::from(fault));
         }
-        self.waiting.put(alloc, output, &answer)
+        self.pending.put(alloc, output, &answer)
     }
 
-    /// Ends a session that has given `lines` answers so far, which must be at most `READS`. If `cut` isn't `None`, it
-    /// is the fault of the last line, and the line is answered with it. This answer is buffered, or written at once if
-    /// there is no memory to buffer it. Returns the number of all answers, and `cut`. The error is that a write failed.
+    /// Ends a session after `lines` answers. `lines` must be at most `READS`. If `cut` isn't `None`, it is the fault of
+    /// the last line, and the line is answered with it. This answer is buffered, or written at once if there is no
+    /// memory to buffer it. Returns the number of all answers, and `cut`. The error is that a write failed.
     fn end<O: LineOut>(
         &mut self,
         output: &mut O,
@@ -105,10 +109,10 @@ impl Progress {
     ) -> Result<Ended, SessionFault>
         requires { lines ≤ READS }
         ensures ok { IfOk result (λ ended. IsEnd lines cut ended
-            × Sends (self.old.waiting.held.bytes.items ++ cut_line cut) self.new.waiting.held.bytes.items
+            × Sends (self.old.pending.held.bytes.items ++ cut_line cut) self.new.pending.held.bytes.items
             (O.written output.old) (O.written output.new)) }
         ensures err { OnErr result ((fault : LineFault) × (cut ≡ Some fault) × (lost : List ℕ)
-            × Sends (self.old.waiting.held.bytes.items ++ answer_line (Answer.Line fault)) lost (O.written output.old)
+            × Sends (self.old.pending.held.bytes.items ++ answer_line (Answer.Line fault)) lost (O.written output.old)
             (O.written output.new)) }
         ensures failed { RoseBy (one_if (is_write result)) (O.failures output.old) (O.failures output.new) }
         ensures cause { IfErr result (λ e. e ≡ SessionFault.Write) }
@@ -117,7 +121,7 @@ impl Progress {
         let Some(fault) = cut else {
             return Ok(Ended { lines, cut: None });
         };
-        match self.waiting.put(self.alloc, output, &Answer::Line(fault)) {
+        match self.pending.put(self.alloc, output, &Answer::Line(fault)) {
             Ok(()) => Ok(Ended {
                 lines: lines + 1,
                 cut: Some(fault),
@@ -126,8 +130,10 @@ impl Progress {
         }
     }
 
-    /// Answers the lines of a connection in order. Before, the buffer must be empty, and at most `READS` reads may
-    /// remain. At the end some answers may still be in the buffer.
+    /// Answers the lines of a connection in order, and returns how the session ended. At first the buffer must be
+    /// empty, and at most `READS` reads must be left. At the end some answers are perhaps still in the buffer. The
+    /// error is that a read or a write failed, that more reads are needed, that memory ran out, or that the journal
+    /// failed.
     fn answer_lines<S: Doors, C: Clock, D: Desk>(
         &mut self,
         role: Role,
@@ -136,23 +142,23 @@ impl Progress {
         clock: &mut C,
         desk: &mut D,
     ) -> Result<Ended, SessionFault>
-        requires { (self.old.left ≤ READS) × (self.old.waiting.held.bytes.items ≡ []) }
-        ensures said { IfOk result (λ ended. Waits
-            (λ out_old out_new. Ends (desk_says D.step C.tick role) (clock.old, desk.old) (clock.new, desk.new)
+        requires { (self.old.left ≤ READS) × (self.old.pending.held.bytes.items ≡ []) }
+        ensures all_answered { IfOk result (λ ended. HoldsWithBuffered
+            (λ out_old out_new. Ends (desk_answers D.step C.tick role) (clock.old, desk.old) (clock.new, desk.new)
             (S.In.remaining connection.old.input) (S.In.remaining connection.new.input) out_old out_new ended.lines
             ended.cut)
             (S.Out.written connection.old.output) (S.Out.written connection.new.output)
-            self.new.waiting.held.bytes.items) }
+            self.new.pending.held.bytes.items) }
         ensures broken { IfErr result (λ fault. fault ≡ SessionFault.Write
-            → Breaks (desk_says D.step C.tick role) (desk_drops D.step C.tick role) (clock.old, desk.old)
+            → Breaks (desk_answers D.step C.tick role) (desk_drops D.step C.tick role) (clock.old, desk.old)
             (clock.new, desk.new) (S.In.remaining connection.old.input) (S.In.remaining connection.new.input)
             (S.Out.written connection.old.output) (S.Out.written connection.new.output)) }
-        ensures stopped { IfErr result (λ fault. fault ≢ SessionFault.Write → Waits
-            (Stops (desk_says D.step C.tick role) (desk_drops D.step C.tick role) (desk_takes role) fault
+        ensures stopped { IfErr result (λ fault. fault ≢ SessionFault.Write → HoldsWithBuffered
+            (Stops (desk_answers D.step C.tick role) (desk_drops D.step C.tick role) (desk_needs_memory role) fault
             (clock.old, desk.old) (clock.new, desk.new) (S.In.remaining connection.old.input)
             (S.In.remaining connection.new.input))
             (S.Out.written connection.old.output) (S.Out.written connection.new.output)
-            self.new.waiting.held.bytes.items) }
+            self.new.pending.held.bytes.items) }
         ensures read_fault { RoseBy (one_if (is_read result)) (S.In.failures connection.old.input)
             (S.In.failures connection.new.input) }
         ensures write_fault { RoseBy (one_if (is_write result)) (S.Out.failures connection.old.output)
@@ -167,7 +173,7 @@ impl Progress {
         let mut count = 0u64;
         'turns: loop {
             self.flush_unless_more(doors, connection)?;
-            match find_line(&mut connection.input, &mut self.line, &mut self.left)? {
+            match read_line_into(&mut connection.input, &mut self.line, &mut self.left)? {
                 Found::Line => self.answer_line(role, &mut connection.output, clock, desk)?,
                 found => return self.end(&mut connection.output, count, cut_of(found)),
             }
@@ -187,8 +193,9 @@ fn device_failed(fault: SessionFault) -> bool
     }
 }
 
-/// Answers the lines of a connection in order, as acts of a role, like `session`. But several answers are written
-/// together if the input has the next line in its buffer, as `doors` reports by `has_buffered_line`.
+/// Answers the lines of a connection in order, as acts of a role, like `session`, with the same errors. But answers are
+/// buffered while the input has the whole next line in its buffer, as `doors.has_buffered_line` reports, and then
+/// written together.
 ///
 /// After a failed read or write, answers that are still buffered are not written. After any other error they are.
 pub fn pipelined_session<S: Doors, C: Clock, D: Desk>(
@@ -199,11 +206,12 @@ pub fn pipelined_session<S: Doors, C: Clock, D: Desk>(
     clock: &mut C,
     desk: &mut D,
 ) -> Result<Ended, SessionFault>
-    ensures said { IfOk result (λ ended. Ends (desk_says D.step C.tick role) (clock.old, desk.old) (clock.new, desk.new)
+    ensures all_answered { IfOk result (λ ended. Ends (desk_answers D.step C.tick role) (clock.old, desk.old)
+        (clock.new, desk.new)
         (S.In.remaining connection.old.input) (S.In.remaining connection.new.input)
         (S.Out.written connection.old.output) (S.Out.written connection.new.output) ended.lines ended.cut) }
     ensures broken { OnErr result
-        (Breaks (desk_says D.step C.tick role) (desk_drops D.step C.tick role) (clock.old, desk.old)
+        (Breaks (desk_answers D.step C.tick role) (desk_drops D.step C.tick role) (clock.old, desk.old)
         (clock.new, desk.new) (S.In.remaining connection.old.input) (S.In.remaining connection.new.input)
         (S.Out.written connection.old.output) (S.Out.written connection.new.output)) }
     ensures read_fault { RoseBy (one_if (is_read result)) (S.In.failures connection.old.input)
@@ -213,7 +221,7 @@ pub fn pipelined_session<S: Doors, C: Clock, D: Desk>(
     ensures reads { SpendsReads session_reads result (S.In.reads connection.old.input)
         (S.In.reads connection.new.input) (S.In.asked connection.old.input) (S.In.asked connection.new.input) }
     ensures stopped { IfErr result (λ fault. fault ≢ SessionFault.Write
-        → StopsAtDoor (desk_says D.step C.tick role) (desk_drops D.step C.tick role) (desk_takes role) fault
+        → StopsAtDoor (desk_answers D.step C.tick role) (desk_drops D.step C.tick role) (desk_needs_memory role) fault
         (clock.old, desk.old) (clock.new, desk.new) (S.In.remaining connection.old.input)
         (S.In.remaining connection.new.input) (S.Out.written connection.old.output)
         (S.Out.written connection.new.output)) }
@@ -221,14 +229,14 @@ pub fn pipelined_session<S: Doors, C: Clock, D: Desk>(
     let mut progress = Progress::new(alloc);
     match progress.answer_lines(role, doors, connection, clock, desk) {
         Ok(ended) => {
-            progress.waiting.flush(&mut connection.output)?;
+            progress.pending.flush(&mut connection.output)?;
             Ok(ended)
         }
         Err(fault) => {
             if device_failed(fault) {
                 return Err(fault);
             }
-            progress.waiting.flush(&mut connection.output)?;
+            progress.pending.flush(&mut connection.output)?;
             Err(fault)
         }
     }

@@ -1,6 +1,6 @@
 //! Workers, which run a session at each connection.
 ghost use Rattle.std.specs.Prelude.{◌≡◌, ◌≤◌};
-ghost use Rattle.line_session.specs.Serving.{Serves, SitsAtDesk, Visits, one_good};
+ghost use Rattle.line_session.specs.Serving.{Serves, RunsDeskSession, ServesConnection, one_good};
 
 use crate::answering::{Ended, SessionFault};
 use crate::connection::Connection;
@@ -10,8 +10,8 @@ use crate::pipelined::pipelined_session;
 use std::alloc::Global;
 use till_request::{DeviceFault, Role};
 
-/// Opens a connection, runs a session over it, reports to `doors` how the session ended, and returns this. Returns
-/// `None` if the connection couldn't be opened.
+/// Opens the next connection of `doors`, runs a session over it, and reports to `doors` how the session ended. Returns
+/// what was reported, or `None` if the connection couldn't be opened.
 fn serve_connection<S: Doors, C: Clock, D: Desk>(
     alloc: Global,
     role: Role,
@@ -19,8 +19,8 @@ fn serve_connection<S: Doors, C: Clock, D: Desk>(
     clock: &mut C,
     desk: &mut D,
 ) -> Option<Result<Ended, SessionFault>>
-    ensures { Visits S.opens S.fails S.told
-        (SitsAtDesk D.step C.tick role S.In.remaining S.In.reads S.In.failures S.Out.written S.Out.failures)
+    ensures { ServesConnection S.opens S.fails S.reported
+        (RunsDeskSession D.step C.tick role S.In.remaining S.In.reads S.In.failures S.Out.written S.Out.failures)
         result doors.old (clock.old, desk.old) doors.new (clock.new, desk.new) }
 {
     match doors.next() {
@@ -58,8 +58,8 @@ pub fn worker<S: Doors, C: Clock, D: Desk>(
     connections: u32,
 ) -> u64
     ensures { Serves
-        (Visits S.opens S.fails S.told
-        (SitsAtDesk D.step C.tick role S.In.remaining S.In.reads S.In.failures S.Out.written S.Out.failures))
+        (ServesConnection S.opens S.fails S.reported
+        (RunsDeskSession D.step C.tick role S.In.remaining S.In.reads S.In.failures S.Out.written S.Out.failures))
         connections result doors.old (clock.old, desk.old) doors.new (clock.new, desk.new) }
 {
     let mut clean = 0;

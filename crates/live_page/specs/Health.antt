@@ -1,30 +1,33 @@
--- Definitions: whether all is well with a station.
+-- Definitions: the health of a station, which says whether all is well, or what isn't.
 use Rattle.std.specs.Prelude.{ℕ, ◌==◌, nat_le, codes, if◌then◌else◌, List, [], ◌∷◌, Option, Some, None, Bool}
 use Rattle.till_request.specs.declared.act.Role.{Role}
 use Rattle.till_request.specs.declared.act.Role.TheVariants.{Till, Dispenser, Owner, All, OneTill, SomePoints}
 use Rattle.live_page.specs.declared.station.Health.{Health}
-use Rattle.live_page.specs.declared.station.Health.TheVariants.{Well, JournalFailed, NearlyFull, NoWorker}
-use Rattle.live_page.specs.declared.station.Peers.{Peers}
+use Rattle.live_page.specs.declared.station.Health.TheVariants.{Healthy, JournalFailed, NearlyFull, NoWorker}
+use Rattle.live_page.specs.declared.station.RoleCounts.{RoleCounts}
 
--- the first role that no worker serves; None if each has a worker
-abbrev pub without_worker : List Peers → Option Role
+-- the first role in the list that no worker serves; None if each has a worker
+abbrev pub without_worker : List RoleCounts → Option Role
 without_worker [] = None
-without_worker (peers ∷ more) = if peers.workers == 0 then Some peers.role else without_worker more
+without_worker (role_counts ∷ more) = if role_counts.workers == 0 then Some role_counts.role else without_worker more
 
--- the health of a station whose journal is in order, by the first role that no worker serves
-abbrev pub served : Option Role → Health
-served None = Well
-served (Some role) = NoWorker role
+-- the health of a station whose journal hasn't failed and isn't nearly full; the argument is the first role that no
+-- worker serves, or None
+abbrev pub worker_health : Option Role → Health
+worker_health None = Healthy
+worker_health (Some role) = NoWorker role
 
--- The first of these that is true: the journal failed; it has 1,000,000 entries or more, of the 1,048,576 that it can
--- have; some role has no worker. If none of them is true, all is well.
-abbrev pub health_of : Bool → ℕ → List Peers → Health
-health_of has_failed entries peers =
-    if has_failed then JournalFailed else (if nat_le 1000000 entries then NearlyFull else served (without_worker peers))
+-- The health of a station: the first of these problems that it has. If it has none, all is well.
+-- - The journal failed.
+-- - The journal is nearly full: it has 1,000,000 entries or more.
+-- - A role in the list has no worker.
+abbrev pub health_of : Bool → ℕ → List RoleCounts → Health
+health_of has_failed entries role_counts =
+    if has_failed then JournalFailed else (if nat_le 1000000 entries then NearlyFull else worker_health (without_worker role_counts))
 
 -- a station's health in a few words
 abbrev pub health_text : Health → List ℕ
-health_text Well = codes "ok"
+health_text Healthy = codes "ok"
 health_text JournalFailed = codes "the journal failed"
 health_text NearlyFull = codes "the journal is nearly full"
 health_text (NoWorker Till) = codes "no worker is left for tills"

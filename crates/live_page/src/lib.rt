@@ -8,4 +8,4 @@ pub mod sections;
 mod station;
 mod words;
 
-pub use station::{Health, JournalFile, Peers, Station, Times};
+pub use station::{DurationSummary, Health, JournalFileStats, RoleCounts, StationSnapshot};

@@ -1,32 +1,33 @@
 //! Metrics of a station, in the text format of Prometheus, version 0.0.4.
 use crate::parts::{ENTRIES, digits};
-use crate::station::{JournalFile, Peers, Station, Times};
+use crate::station::{DurationSummary, JournalFileStats, RoleCounts, StationSnapshot};
 use crate::words::role_name;
 use day_page::names::state_name;
 use day_page::texts::{number, numbered};
-use day_page::{STATES, Sheet, Text};
-use decision_journal::{Decided, FIRST_REFUSAL, NOTHING, REFUSALS, Tally};
+use day_page::{HtmlBuilder, STATES, Text};
+use decision_journal::{FIRST_REFUSAL, NO_DECISIONS, REFUSALS, Tally, VersionTally};
 use fuelling_point::{Point, State};
 use program_slots::Version;
 use site_core::Opening;
 use std::alloc::{AllocError, Global};
 
-/// Makes the two lines that tell what a metric is: its name, its type and its meaning.
+/// Makes the two lines that describe a metric: `# HELP`, which says what it means, and `# TYPE`, which says its type.
 macro_rules! head {
     ($name:literal is a $kind:literal: $help:literal) => {
         concat!("# HELP ", $name, " ", $help, "\n# TYPE ", $name, " ", $kind, "\n")
     };
 }
 
-/// Makes the lines of metrics with one value each and no labels. The values go into the places marked by `{}`.
+/// Makes the lines of metrics that have one value each and no labels. The values replace the `{}` in these lines, in
+/// order.
 macro_rules! singles {
     ($($name:literal is a $kind:literal: $help:literal);+) => {
         concat!($("# HELP ", $name, " ", $help, "\n# TYPE ", $name, " ", $kind, "\n", $name, " {}\n"),+)
     };
 }
 
-/// Makes the lines of a metric that tells how often something was done, and how long it took in all. The first `{}` in
-/// them is the place of the time, in seconds, and the second that of the number of times.
+/// Makes the lines of a metric that shows how often something was done, and how long it took in all. The time in
+/// seconds replaces the first `{}` in these lines, and the number of times the second.
 macro_rules! summary {
     ($name:literal: $help:literal) => {
         concat!(
@@ -38,29 +39,30 @@ macro_rules! summary {
 
 /// Returns the metrics of a station at one moment, in the text format of Prometheus, version 0.0.4. The error is that
 /// memory ran out.
-pub fn metrics(alloc: Global, station: &Station<'_>) -> Result<String, AllocError> {
+pub fn metrics(alloc: Global, station: &StationSnapshot<'_>) -> Result<String, AllocError> {
     let left = station.left;
-    let mut sheet = Sheet::new(alloc);
-    add_journal(&mut sheet, station);
-    add_refusals(&mut sheet, station.tally);
-    add_decisions(&mut sheet, station.tally, &left.rules);
-    add_points(&mut sheet, &left.points);
-    add_money(&mut sheet, left);
-    add_counters(&mut sheet, left);
-    add_peers(&mut sheet, station.peers);
-    add_times(&mut sheet, LOCK_WAITS, station.waits);
+    let mut html = HtmlBuilder::new(alloc);
+    add_journal(&mut html, station);
+    add_refusals(&mut html, station.tally);
+    add_decisions(&mut html, station.tally, &left.rules);
+    add_points(&mut html, &left.points);
+    add_money(&mut html, left);
+    add_counters(&mut html, left);
+    add_peers(&mut html, station.role_counts);
+    add_times(&mut html, LOCK_WAITS, station.waits);
     if let Some(journal) = station.journal {
-        add_file(&mut sheet, journal);
+        add_file(&mut html, journal);
     }
     if let Some(bytes) = station.memory {
-        sheet.fill(MEMORY, &[Text::Number(bytes)]);
+        html.fill(MEMORY, &[Text::Number(bytes)]);
     }
-    sheet.finish()
+    html.finish()
 }
 
-/// Adds a sample: the line `form`, given with its LF, in which `label` replaces the first `{}`, and `value` the second.
-fn add_sample(sheet: &mut Sheet, form: &str, label: Text, value: u64) {
-    sheet.fill(form, &[label, Text::Number(value)]);
+/// Adds `form`, a line that shows a metric's value and ends with LF. `label` replaces the first `{}` in `form`, and
+/// `value` the second.
+fn add_sample(html: &mut HtmlBuilder, form: &str, label: Text, value: u64) {
+    html.fill(form, &[label, Text::Number(value)]);
 }
 
 const JOURNAL: &str = singles!(
@@ -83,7 +85,7 @@ const BYTES: &str =
 
 const SYNCS: &str = summary!("fc_journal_sync_seconds": "Syncs of the journal's file, in seconds.");
 
-/// Returns how many versions were loaded in this journal.
+/// Returns how many versions of rules were loaded by the entries that `tally` counts.
 fn loads(tally: &Tally) -> usize {
     tally
         .versions()
@@ -92,23 +94,23 @@ fn loads(tally: &Tally) -> usize {
         .count()
 }
 
-fn add_journal(sheet: &mut Sheet, station: &Station<'_>) {
+fn add_journal(html: &mut HtmlBuilder, station: &StationSnapshot<'_>) {
     let values = [
         digits(station.entries),
         Text::Number(ENTRIES),
         Text::Number(u64::from(station.has_failed)),
         number(loads(station.tally)),
     ];
-    sheet.fill(JOURNAL, &values);
+    html.fill(JOURNAL, &values);
 }
 
-fn add_refusals(sheet: &mut Sheet, tally: &Tally) {
-    sheet.add(
+fn add_refusals(html: &mut HtmlBuilder, tally: &Tally) {
+    html.add(
         head!("fc_refusals_total" is a "counter": "Refusals in this journal, by their number."),
     );
     for number in FIRST_REFUSAL..FIRST_REFUSAL + REFUSALS {
         add_sample(
-            sheet,
+            html,
             "fc_refusals_total{number=\"S{}\"} {}\n",
             digits(number),
             tally.refusals(number),
@@ -116,41 +118,46 @@ fn add_refusals(sheet: &mut Sheet, tally: &Tally) {
     }
 }
 
-/// The samples of a version: its slot, its number and a count, for grants and then for denials.
+/// Two lines of metrics for a version of a rule: how many requests it granted, and how many it denied. Each line also
+/// has the version's slot and number.
 const DECISIONS: &str = "fc_decisions_total{slot=\"{}\",version=\"{}\",answer=\"granted\"} {}\n\
     fc_decisions_total{slot=\"{}\",version=\"{}\",answer=\"denied\"} {}\n";
 
-fn add_version(sheet: &mut Sheet, slot: Text, version: u32, decided: &Decided) {
+fn add_version(html: &mut HtmlBuilder, slot: Text, version: u32, decided: &VersionTally) {
     let version = digits(version);
     let (granted, denied) = (Text::Number(decided.granted), Text::Number(decided.denied));
-    sheet.fill(DECISIONS, &[slot, version, granted, slot, version, denied]);
+    html.fill(DECISIONS, &[slot, version, granted, slot, version, denied]);
 }
 
-/// Adds the samples of each version that an entry loaded, that decided in an entry, or that is in force. `rules` has
-/// the versions in force, that of slot 0 first.
-fn add_decisions(sheet: &mut Sheet, tally: &Tally, rules: &[Option<Version>]) {
-    sheet.add(
+/// Adds how many requests each version of a rule granted and denied. These versions are shown:
+///
+/// - those in `tally`: an entry loaded them, or they decided the request of an entry;
+/// - those in force: they are in `rules`, the version in slot 0 first.
+fn add_decisions(html: &mut HtmlBuilder, tally: &Tally, rules: &[Option<Version>]) {
+    html.add(
         head!("fc_decisions_total" is a "counter": "Decisions of rules in this journal, by version."),
     );
     for (version, decided) in tally.versions().iter() {
-        add_version(sheet, digits(decided.slot), *version, decided);
+        add_version(html, digits(decided.slot), *version, decided);
     }
     for (slot, rule) in rules.iter().enumerate() {
         if let Some(version) = rule {
-            add_idle(sheet, number(slot), version.number, tally);
+            add_idle(html, number(slot), version.number, tally);
         }
     }
 }
 
-/// Adds the samples of a version that is in force, with both counts 0, if `tally` doesn't have the version.
-fn add_idle(sheet: &mut Sheet, slot: Text, version: u32, tally: &Tally) {
+/// Adds the lines of a version that is in force, with 0 grants and 0 denials. If `tally` has counts of the version,
+/// nothing is added.
+fn add_idle(html: &mut HtmlBuilder, slot: Text, version: u32, tally: &Tally) {
     if tally.versions().get(&version).is_none() {
-        add_version(sheet, slot, version, &NOTHING);
+        add_version(html, slot, version, &NO_DECISIONS);
     }
 }
 
-/// Adds the samples of the point at `place`, counted from 0: 1 for the state `now`, and 0 for each other state.
-fn add_states(sheet: &mut Sheet, place: usize, now: State) {
+/// Adds a line for each state that a point can have. The line of the state `now`, which the point has, shows 1, and the
+/// other lines show 0. `place` is the point's position in the list of points, counted from 0.
+fn add_states(html: &mut HtmlBuilder, place: usize, now: State) {
     for state in &STATES {
         let is_now = u64::from(*state == now);
         let texts = [
@@ -158,11 +165,11 @@ fn add_states(sheet: &mut Sheet, place: usize, now: State) {
             Text::Words(state_name(*state)),
             Text::Number(is_now),
         ];
-        sheet.fill("fc_point_state{point=\"{}\",state=\"{}\"} {}\n", &texts);
+        html.fill("fc_point_state{point=\"{}\",state=\"{}\"} {}\n", &texts);
     }
 }
 
-/// Returns the money of a point's unpaid transactions, in cents.
+/// Returns the total of a point's unpaid transactions, in cents.
 fn unpaid_cents(point: &Point) -> u64 {
     let [first, second] = point.transactions();
     let first = first.map_or(0, |transaction| transaction.amount);
@@ -170,26 +177,26 @@ fn unpaid_cents(point: &Point) -> u64 {
     first.saturating_add(second)
 }
 
-fn add_points(sheet: &mut Sheet, points: &[Point]) {
-    sheet.add(head!("fc_point_state" is a "gauge": "1 for the state that a point is in, else 0."));
+fn add_points(html: &mut HtmlBuilder, points: &[Point]) {
+    html.add(head!("fc_point_state" is a "gauge": "1 for the state that a point is in, else 0."));
     for (place, point) in points.iter().enumerate() {
-        add_states(sheet, place, point.state());
+        add_states(html, place, point.state());
     }
-    sheet.add(head!("fc_unpaid" is a "gauge": "Unpaid transactions of a point."));
+    html.add(head!("fc_unpaid" is a "gauge": "Unpaid transactions of a point."));
     for (place, point) in points.iter().enumerate() {
         let unpaid = u64::from(point.unpaid());
         add_sample(
-            sheet,
+            html,
             "fc_unpaid{point=\"{}\"} {}\n",
             numbered(place, 1),
             unpaid,
         );
     }
-    sheet.add(head!("fc_unpaid_cents" is a "gauge": "Unpaid money of a point, in cents."));
+    html.add(head!("fc_unpaid_cents" is a "gauge": "Unpaid money of a point, in cents."));
     for (place, point) in points.iter().enumerate() {
         let cents = unpaid_cents(point);
         add_sample(
-            sheet,
+            html,
             "fc_unpaid_cents{point=\"{}\"} {}\n",
             numbered(place, 1),
             cents,
@@ -202,18 +209,18 @@ const CLEARED: &str = singles!(
     "fc_cleared_total" is a "counter": "Transactions that were ever cleared."
 );
 
-/// Adds what was cleared, and the prices.
-fn add_money(sheet: &mut Sheet, left: &Opening) {
-    sheet.fill(
+/// Adds how much money and how many transactions were ever cleared, and the price of each product that has a price.
+fn add_money(html: &mut HtmlBuilder, left: &Opening) {
+    html.fill(
         CLEARED,
         &[Text::Number(left.cleared), Text::Number(left.clears)],
     );
-    sheet.add(head!("fc_price_thousandths" is a "gauge": "Price of a litre, in thousandths."));
+    html.add(head!("fc_price_thousandths" is a "gauge": "Price of a litre, in thousandths."));
     for (place, price) in left.prices.iter().enumerate() {
         if *price > 0 {
             let (product, price) = (numbered(place, 1), u64::from(*price));
             add_sample(
-                sheet,
+                html,
                 "fc_price_thousandths{product=\"{}\"} {}\n",
                 product,
                 price,
@@ -222,25 +229,25 @@ fn add_money(sheet: &mut Sheet, left: &Opening) {
     }
 }
 
-fn add_counters(sheet: &mut Sheet, left: &Opening) {
-    sheet.add(head!("fc_counters" is a "gauge": "Value of a counter whose bound is over 0."));
+fn add_counters(html: &mut HtmlBuilder, left: &Opening) {
+    html.add(head!("fc_counters" is a "gauge": "Value of a counter whose bound is over 0."));
     for counter in 0..32u32 {
         if left.counters.bound(counter) > 0 {
             let value = left.counters.get(counter);
             add_sample(
-                sheet,
+                html,
                 "fc_counters{counter=\"{}\"} {}\n",
                 digits(counter),
                 value,
             );
         }
     }
-    sheet.add(head!("fc_counters_bound" is a "gauge": "Bound of a counter."));
+    html.add(head!("fc_counters_bound" is a "gauge": "Bound of a counter."));
     for counter in 0..32u32 {
         let bound = left.counters.bound(counter);
         if bound > 0 {
             add_sample(
-                sheet,
+                html,
                 "fc_counters_bound{counter=\"{}\"} {}\n",
                 digits(counter),
                 bound,
@@ -249,46 +256,48 @@ fn add_counters(sheet: &mut Sheet, left: &Opening) {
     }
 }
 
-fn add_peers(sheet: &mut Sheet, peers: &[Peers]) {
-    sheet.add(head!("fc_connections_open" is a "gauge": "Connections that are open, by role."));
-    for role in peers {
+fn add_peers(html: &mut HtmlBuilder, role_counts: &[RoleCounts]) {
+    html.add(head!("fc_connections_open" is a "gauge": "Connections that are open, by role."));
+    for role in role_counts {
         let name = Text::Words(role_name(role.role));
         add_sample(
-            sheet,
+            html,
             "fc_connections_open{role=\"{}\"} {}\n",
             name,
             role.open,
         );
     }
-    sheet.add(head!("fc_connections_total" is a "counter": "Connections so far, by role."));
-    for role in peers {
+    html.add(head!("fc_connections_total" is a "counter": "Connections so far, by role."));
+    for role in role_counts {
         let name = Text::Words(role_name(role.role));
         add_sample(
-            sheet,
+            html,
             "fc_connections_total{role=\"{}\"} {}\n",
             name,
             role.total,
         );
     }
-    sheet.add(head!("fc_workers" is a "gauge": "Workers that still serve a role."));
-    for role in peers {
+    html.add(head!("fc_workers" is a "gauge": "Workers that still serve a role."));
+    for role in role_counts {
         let (name, workers) = (Text::Words(role_name(role.role)), u64::from(role.workers));
-        add_sample(sheet, "fc_workers{role=\"{}\"} {}\n", name, workers);
+        add_sample(html, "fc_workers{role=\"{}\"} {}\n", name, workers);
     }
 }
 
-/// Adds a metric that tells how often something was done, and how long it took in all. `form` is made by `summary!`.
-fn add_times(sheet: &mut Sheet, form: &str, times: Times) {
-    sheet.fill(
+/// Adds a metric that shows how often something was done, and how long it took in all. `form` must be made by
+/// `summary!`.
+fn add_times(html: &mut HtmlBuilder, form: &str, times: DurationSummary) {
+    html.fill(
         form,
         &[Text::Seconds(times.nanoseconds), Text::Number(times.count)],
     );
 }
 
-/// Adds the length of the journal's file, and its syncs, if answers wait for them.
-fn add_file(sheet: &mut Sheet, journal: JournalFile) {
-    sheet.fill(BYTES, &[Text::Number(journal.bytes)]);
+/// Adds the length of the journal's file. If answers wait for syncs of the file, also adds how many syncs there were,
+/// and how long they took in all.
+fn add_file(html: &mut HtmlBuilder, journal: JournalFileStats) {
+    html.fill(BYTES, &[Text::Number(journal.bytes)]);
     if let Some(syncs) = journal.syncs {
-        add_times(sheet, SYNCS, syncs);
+        add_times(html, SYNCS, syncs);
     }
 }

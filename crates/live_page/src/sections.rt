@@ -1,20 +1,20 @@
-//! The page of a station as it is now, and its sections.
+//! The page of HTML that shows a station as it is now, section by section.
 use crate::checking::health;
 use crate::parts::{ENTRIES, NONE, digits, hundredths, thousands};
-use crate::station::{Health, Peers, Station};
+use crate::station::{Health, RoleCounts, StationSnapshot};
 use crate::words::{add_entry, order_name, role_name};
 use day_page::names::state_name;
 use day_page::page::add_figure;
 use day_page::tables::add_row;
 use day_page::texts::{number, numbered};
-use day_page::{HEAD, STYLE, Sheet, Text};
+use day_page::{HEAD, HtmlBuilder, STYLE, Text};
 use decision_journal::{Entry, FIRST_REFUSAL, REFUSALS, Tally};
 use fuelling_point::{Point, Transaction};
 use program_slots::Version;
 use site_core::Opening;
 use std::alloc::{AllocError, Global};
 
-/// Makes the start of a section: its id and its title, and the names of its table's columns.
+/// Makes the start of a section of the page: its id, its title, and the names of its table's columns.
 macro_rules! section {
     ($id:literal with title $title:literal and columns $($column:literal),+) => {
         concat!(
@@ -28,56 +28,56 @@ macro_rules! section {
 /// The closing tags of a section and its table.
 const END: &str = "</tbody></table></div></section>\n";
 
-/// The tags that follow `HEAD`: they make a browser load the page again after 5 seconds, and name its title.
+/// The tags that follow `HEAD`: they make a browser load the page again after 5 seconds, and give the page its title.
 const TITLE: &str = "<meta http-equiv=\"refresh\" content=\"5\">\n<title>The station now</title>\n";
 
 /// Returns the page of HTML that shows a station at one moment. It has no script and refers to no other file, and a
 /// browser loads it again after 5 seconds. The error is that memory ran out.
-pub fn page(alloc: Global, station: &Station<'_>) -> Result<String, AllocError> {
+pub fn page(alloc: Global, station: &StationSnapshot<'_>) -> Result<String, AllocError> {
     let left = station.left;
-    let mut sheet = Sheet::new(alloc);
-    sheet.add(HEAD);
-    sheet.add(TITLE);
-    sheet.add(STYLE);
-    add_headline(&mut sheet, station);
-    add_points(&mut sheet, left);
-    add_unpaid(&mut sheet, &left.points);
-    add_prices(&mut sheet, &left.prices);
-    add_rules(&mut sheet, &left.rules, station.tally);
-    add_counters(&mut sheet, left);
-    add_refusals(&mut sheet, station.tally);
-    add_peers(&mut sheet, station.peers);
-    add_entries(&mut sheet, station.last);
-    sheet.add("</main></body></html>\n");
-    sheet.finish()
+    let mut html = HtmlBuilder::new(alloc);
+    html.add(HEAD);
+    html.add(TITLE);
+    html.add(STYLE);
+    add_headline(&mut html, station);
+    add_points(&mut html, left);
+    add_unpaid(&mut html, &left.points);
+    add_prices(&mut html, &left.prices);
+    add_rules(&mut html, &left.rules, station.tally);
+    add_counters(&mut html, left);
+    add_refusals(&mut html, station.tally);
+    add_peers(&mut html, station.role_counts);
+    add_entries(&mut html, station.last);
+    html.add("</main></body></html>\n");
+    html.finish()
 }
 
-/// Adds the moment, the title, whether all is well, and the main figures.
-fn add_headline(sheet: &mut Sheet, station: &Station<'_>) {
-    sheet.fill(
+/// Adds the moment at which the station is shown, the title, whether all is well, and the main figures.
+fn add_headline(html: &mut HtmlBuilder, station: &StationSnapshot<'_>) {
+    html.fill(
         "<p class=\"audited\">{} UTC, renewed every 5 seconds</p>\n<h1>The station now</h1>\n",
         &[Text::Moment(station.moment)],
     );
-    match health(station.has_failed, station.entries, station.peers) {
-        Health::Well => sheet.add("<p>All is well.</p>\n"),
-        flaw => sheet.fill(
+    match health(station.has_failed, station.entries, station.role_counts) {
+        Health::Healthy => html.add("<p>All is well.</p>\n"),
+        flaw => html.fill(
             "<p><strong>Not well: {}.</strong></p>\n",
             &[Text::Words(flaw.words())],
         ),
     }
-    sheet.add("<ul class=\"figures\">\n");
+    html.add("<ul class=\"figures\">\n");
     let left = station.left;
     let entries = u64::from(station.entries);
-    add_figure(sheet, "Entries", thousands(entries));
+    add_figure(html, "Entries", thousands(entries));
     add_figure(
-        sheet,
+        html,
         "Journal full, in per cent",
         Text::Number(entries.saturating_mul(100) / ENTRIES),
     );
-    add_figure(sheet, "Cleared so far", hundredths(left.cleared));
-    add_figure(sheet, "Transactions cleared", thousands(left.clears));
-    add_figure(sheet, "Tills", digits(station.tills));
-    sheet.add("</ul>\n");
+    add_figure(html, "Cleared so far", hundredths(left.cleared));
+    add_figure(html, "Transactions cleared", thousands(left.clears));
+    add_figure(html, "Tills", digits(station.tills));
+    html.add("</ul>\n");
 }
 
 /// Returns cents as money, or the empty text for 0.
@@ -85,8 +85,8 @@ fn money_or_none(cents: u64) -> Text {
     if cents == 0 { NONE } else { hundredths(cents) }
 }
 
-/// Returns the number of a nozzle, 1 to 8, and the price of its product, which has the same number. Both are empty for
-/// any other number, such as 0, which means that no nozzle is up.
+/// Returns two texts: the number `nozzle`, 1 to 8, and the price of this nozzle's product, which has the same number.
+/// For any other `nozzle`, such as 0, which means that no nozzle is up, both texts are empty.
 fn nozzle_texts(nozzle: u32, prices: &[u32; 8]) -> (Text, Text) {
     match prices.get((nozzle as usize).wrapping_sub(1)) {
         None => (NONE, NONE),
@@ -94,8 +94,9 @@ fn nozzle_texts(nozzle: u32, prices: &[u32; 8]) -> (Text, Text) {
     }
 }
 
-/// Adds the row of the point at a place, counted from 0.
-fn add_point(sheet: &mut Sheet, place: usize, point: &Point, prices: &[u32; 8]) {
+/// Adds the table row of `point`. `place` is its position in the list of points, counted from 0. `prices` are the
+/// prices of products 1 to 8.
+fn add_point(html: &mut HtmlBuilder, place: usize, point: &Point, prices: &[u32; 8]) {
     let (nozzle, price) = nozzle_texts(point.nozzle(), prices);
     let cells = [
         Text::Words(state_name(point.state())),
@@ -107,21 +108,21 @@ fn add_point(sheet: &mut Sheet, place: usize, point: &Point, prices: &[u32; 8]) 
         hundredths(point.amount()),
         hundredths(point.volume()),
     ];
-    add_row(sheet, numbered(place, 1), &cells);
+    add_row(html, numbered(place, 1), &cells);
 }
 
-fn add_points(sheet: &mut Sheet, left: &Opening) {
-    sheet.add(section!("points" with title "Points" and columns
+fn add_points(html: &mut HtmlBuilder, left: &Opening) {
+    html.add(section!("points" with title "Points" and columns
         "Point", "State", "Nozzle", "Price", "Pending order", "Preset", "Granted", "Money", "Litres"));
     for (place, point) in left.points.iter().enumerate() {
-        add_point(sheet, place, point, &left.prices);
+        add_point(html, place, point, &left.prices);
     }
-    sheet.add(END);
+    html.add(END);
 }
 
-/// Adds the row of `transaction`, which is unpaid at the point at `place`, counted from 0. If it is `None`, nothing is
-/// added.
-fn add_transaction(sheet: &mut Sheet, place: usize, transaction: Option<Transaction>) {
+/// Adds the table row of an unpaid transaction, or nothing if `transaction` is `None`. `place` is the position of the
+/// transaction's point in the list of points, counted from 0.
+fn add_transaction(html: &mut HtmlBuilder, place: usize, transaction: Option<Transaction>) {
     let Some(unpaid) = transaction else {
         return;
     };
@@ -135,36 +136,37 @@ fn add_transaction(sheet: &mut Sheet, place: usize, transaction: Option<Transact
         hundredths(unpaid.volume),
         holder,
     ];
-    add_row(sheet, numbered(place, 1), &cells);
+    add_row(html, numbered(place, 1), &cells);
 }
 
-fn add_unpaid(sheet: &mut Sheet, points: &[Point]) {
-    sheet.add(section!("unpaid" with title "Unpaid" and columns
+fn add_unpaid(html: &mut HtmlBuilder, points: &[Point]) {
+    html.add(section!("unpaid" with title "Unpaid" and columns
         "Point", "Transaction", "Money", "Litres", "Held by till"));
     for (place, point) in points.iter().enumerate() {
         let [first, second] = point.transactions();
-        add_transaction(sheet, place, first);
-        add_transaction(sheet, place, second);
+        add_transaction(html, place, first);
+        add_transaction(html, place, second);
     }
-    sheet.add(END);
+    html.add(END);
 }
 
-fn add_prices(sheet: &mut Sheet, prices: &[u32; 8]) {
-    sheet.add(section!("prices" with title "Prices" and columns "Product", "Price of a litre"));
+fn add_prices(html: &mut HtmlBuilder, prices: &[u32; 8]) {
+    html.add(section!("prices" with title "Prices" and columns "Product", "Price of a litre"));
     for (place, price) in prices.iter().enumerate() {
         if *price > 0 {
             add_row(
-                sheet,
+                html,
                 numbered(place, 1),
                 &[Text::Thousandths(u64::from(*price))],
             );
         }
     }
-    sheet.add(END);
+    html.add(END);
 }
 
-/// Adds the row of the version in a slot, with how many requests it granted and denied in this journal.
-fn add_rule(sheet: &mut Sheet, slot: usize, version: u32, tally: &Tally) {
+/// Adds the table row of the version that is in force in `slot`: its number, the entry that loaded it (or `from the day
+/// before`), and how many requests it granted and denied in this journal.
+fn add_rule(html: &mut HtmlBuilder, slot: usize, version: u32, tally: &Tally) {
     let decided = tally.decided_by(version);
     let since = match decided.since {
         0 => Text::Words("from the day before"),
@@ -176,72 +178,68 @@ fn add_rule(sheet: &mut Sheet, slot: usize, version: u32, tally: &Tally) {
         thousands(decided.granted),
         thousands(decided.denied),
     ];
-    add_row(sheet, number(slot), &cells);
+    add_row(html, number(slot), &cells);
 }
 
-fn add_rules(sheet: &mut Sheet, rules: &[Option<Version>], tally: &Tally) {
-    sheet.add(section!("rules" with title "Rules in force" and columns
+fn add_rules(html: &mut HtmlBuilder, rules: &[Option<Version>], tally: &Tally) {
+    html.add(section!("rules" with title "Rules in force" and columns
         "Slot", "Version", "Since", "Granted", "Denied"));
     for (slot, rule) in rules.iter().enumerate() {
         if let Some(version) = rule {
-            add_rule(sheet, slot, version.number, tally);
+            add_rule(html, slot, version.number, tally);
         }
     }
-    sheet.add(END);
+    html.add(END);
 }
 
-fn add_counters(sheet: &mut Sheet, left: &Opening) {
-    sheet.add(section!("counters" with title "Counters" and columns "Counter", "Value", "Bound"));
+fn add_counters(html: &mut HtmlBuilder, left: &Opening) {
+    html.add(section!("counters" with title "Counters" and columns "Counter", "Value", "Bound"));
     for counter in 0..32u32 {
         let bound = left.counters.bound(counter);
         if bound > 0 {
             let value = left.counters.get(counter);
-            add_row(
-                sheet,
-                digits(counter),
-                &[thousands(value), thousands(bound)],
-            );
+            add_row(html, digits(counter), &[thousands(value), thousands(bound)]);
         }
     }
-    sheet.add(END);
+    html.add(END);
 }
 
-fn add_refusals(sheet: &mut Sheet, tally: &Tally) {
-    sheet.add(section!("refusals" with title "Refusals" and columns "Refusal", "Times"));
+fn add_refusals(html: &mut HtmlBuilder, tally: &Tally) {
+    html.add(section!("refusals" with title "Refusals" and columns "Refusal", "Times"));
     for number in FIRST_REFUSAL..FIRST_REFUSAL + REFUSALS {
         let count = tally.refusals(number);
         if count > 0 {
-            add_row(sheet, Text::Refusal(number), &[thousands(count)]);
+            add_row(html, Text::Refusal(number), &[thousands(count)]);
         }
     }
-    sheet.add(END);
+    html.add(END);
 }
 
-fn add_peers(sheet: &mut Sheet, peers: &[Peers]) {
-    sheet.add(section!("connections" with title "Connections" and columns
+fn add_peers(html: &mut HtmlBuilder, role_counts: &[RoleCounts]) {
+    html.add(section!("connections" with title "Connections" and columns
         "Role", "Workers", "Open", "So far"));
-    for role in peers {
+    for role in role_counts {
         let cells = [
             digits(role.workers),
             thousands(role.open),
             thousands(role.total),
         ];
-        add_row(sheet, Text::Words(role_name(role.role)), &cells);
+        add_row(html, Text::Words(role_name(role.role)), &cells);
     }
-    sheet.add(END);
+    html.add(END);
 }
 
-/// The start of the section of the last entries. The columns of words are aligned to the left.
+/// The start of the section that lists the last entries. Its columns of words are aligned to the left.
 const LAST: &str =
     "<section id=\"entries\"><h2>Last entries</h2>\n<div class=\"wide\"><table><thead><tr>\
 <th scope=\"col\">Entry</th><th scope=\"col\">Moment in UTC</th><th scope=\"col\" class=\"words\">Who</th>\
 <th scope=\"col\" class=\"words\">What</th><th scope=\"col\" class=\"words\">Reply</th></tr></thead><tbody>\n";
 
-/// Adds the section of the last entries, the newest first.
-fn add_entries(sheet: &mut Sheet, entries: &[Entry]) {
-    sheet.add(LAST);
+/// Adds the section that lists the last entries, the newest first. `entries` has the oldest first.
+fn add_entries(html: &mut HtmlBuilder, entries: &[Entry]) {
+    html.add(LAST);
     for entry in entries.iter().rev() {
-        add_entry(sheet, entry);
+        add_entry(html, entry);
     }
-    sheet.add(END);
+    html.add(END);
 }

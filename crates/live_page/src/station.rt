@@ -6,27 +6,28 @@ use till_request::Role;
 
 /// What is shown of a station at one moment.
 #[derive(Clone, Copy)]
-pub struct Station<'a> {
+pub struct StationSnapshot<'a> {
     /// The number of tills, 1 to 64.
     pub tills: u32,
-    /// The number of entries.
+    /// The number of entries in the journal.
     pub entries: u32,
-    /// What the site would leave for the next day: its points, prices, counters, totals and versions in force.
+    /// What the site would leave for the next day if it were closed now: its points, prices, counters, totals and
+    /// versions in force.
     pub left: &'a Opening,
-    /// Whether the journal failed.
+    /// Whether a write to the journal, or a sync of the journal's file, failed.
     pub has_failed: bool,
-    /// The file in which the journal is kept, if it is kept in one.
-    pub journal: Option<JournalFile>,
-    /// How often something of the site was read under the site's lock to be shown, and how long these reads waited for
-    /// the lock in all.
-    pub waits: Times,
+    /// The length of the journal's file, and how often and how long it was synced. `None` if the journal isn't kept in
+    /// a file.
+    pub journal: Option<JournalFileStats>,
+    /// How often the site was read for display, and how long in all these reads waited for the site's lock.
+    pub waits: DurationSummary,
     /// How often each refusal was the reply, and what each version of a rule decided, in all entries of the history.
     pub tally: &'a Tally,
     /// The last entries, at most 20 of them, the oldest first.
     pub last: &'a [Entry],
-    /// The workers and their connections: for tills, for dispensers and for the owner, each only if the site has
-    /// workers for them or had some.
-    pub peers: &'a [Peers],
+    /// The counts of workers and connections: for tills, for dispensers and for the owner, in this order. A role for
+    /// which the site never had a worker is left out.
+    pub role_counts: &'a [RoleCounts],
     /// The moment at which the station is shown, in seconds since the start of 1970.
     pub moment: u64,
     /// The resident memory of the process in bytes, if it is known.
@@ -35,37 +36,38 @@ pub struct Station<'a> {
 
 /// How often something was done, and how long it took in all.
 #[derive(Clone, Copy)]
-pub struct Times {
+pub struct DurationSummary {
     pub count: u64,
     pub nanoseconds: u64,
 }
 
-/// The file in which a journal is kept.
+/// The length and the syncs of the file in which a journal is kept.
 #[derive(Clone, Copy)]
-pub struct JournalFile {
+pub struct JournalFileStats {
     /// The length of the file, in bytes.
     pub bytes: u64,
-    /// The syncs of the file, if answers wait for them.
-    pub syncs: Option<Times>,
+    /// How often the file was synced, and how long that took in all, or `None` if answers don't wait for syncs.
+    pub syncs: Option<DurationSummary>,
 }
 
-/// The workers for tills, those for dispensers or those for the owner, and their connections.
+/// The numbers of workers and of connections for one role: tills, dispensers or the owner.
 #[derive(Clone, Copy)]
-pub struct Peers {
+pub struct RoleCounts {
     /// `Role::Till`, `Role::Dispenser` or `Role::Owner`.
     pub role: Role,
     /// The number of workers that still serve this role.
     pub workers: u32,
-    /// The number of connections that are open.
+    /// The number of connections that are open now.
     pub open: u64,
     /// The number of connections since the serving of the site began.
     pub total: u64,
 }
 
-/// Whether all is well with a station, or the first thing that isn't. `Display` writes it in a few words.
+/// The health of a station: `Healthy` if all is well, or else the first of these problems that it has. `Display` writes
+/// it in a few words.
 #[derive(Clone, Copy)]
 pub enum Health {
-    Well,
+    Healthy,
     /// The journal failed, so the site takes no further event.
     JournalFailed,
     /// The journal has 1,000,000 entries or more, of the 1,048,576 that it can have.
@@ -83,7 +85,7 @@ impl Health {
         ensures { result.now ≡ health_text self }
     {
         match self {
-            Health::Well => "ok",
+            Health::Healthy => "ok",
             Health::JournalFailed => "the journal failed",
             Health::NearlyFull => "the journal is nearly full",
             Health::NoWorker(Role::Till | Role::OneTill(_)) => "no worker is left for tills",

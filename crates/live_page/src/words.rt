@@ -1,43 +1,43 @@
-//! Entries in words.
+//! Describes the entries of a journal in words, for the page.
 use crate::parts::{NONE, digits, hundredths};
 use day_page::names::state_name;
-use day_page::{STATES, Sheet, Text};
+use day_page::{HtmlBuilder, STATES, Text};
 use decision_journal::Entry;
 use fuelling_point::{DispenserEvent, Order};
 use till_request::{Act, Reply, Request, Role};
 
-/// A form, which is words with at most two places `{}`, and the texts for these places. A text that has no place is
-/// `NONE`.
+/// A template with at most two marks `{}`, and the texts that replace the first and the second mark. If the template
+/// lacks a mark, the text for it is `NONE`, the empty text.
 #[derive(Clone, Copy)]
 struct Phrase(&'static str, Text, Text);
 
-/// Returns a phrase whose form has one place, for a number.
+/// Returns the phrase in which `number` replaces the only `{}` of `form`.
 fn of_number(form: &'static str, number: u32) -> Phrase {
     Phrase(form, digits(number), NONE)
 }
 
-/// Returns a phrase whose form has two places, for two numbers in this order.
+/// Returns the phrase in which `first` and `second` replace the two `{}` of `form`, in this order.
 fn of_numbers(form: &'static str, first: u32, second: u32) -> Phrase {
     Phrase(form, digits(first), digits(second))
 }
 
-/// Returns a phrase whose form has two places, for a number and then an amount in cents.
+/// Returns the phrase in which `number` replaces the first `{}` of `form`, and `amount`, in cents, the second.
 fn of_amount(form: &'static str, number: u32, amount: u64) -> Phrase {
     Phrase(form, digits(number), hundredths(amount))
 }
 
-/// Returns a phrase whose form has no places.
+/// Returns the phrase with the words `form`, which have no `{}`.
 fn plain(form: &'static str) -> Phrase {
     Phrase(form, NONE, NONE)
 }
 
-/// Adds a phrase.
-fn add_phrase(sheet: &mut Sheet, phrase: Phrase) {
+/// Adds the words of a phrase, with its texts in place of the marks `{}`.
+fn add_phrase(html: &mut HtmlBuilder, phrase: Phrase) {
     let Phrase(form, first, second) = phrase;
-    sheet.fill(form, &[first, second]);
+    html.fill(form, &[first, second]);
 }
 
-/// Returns the name of those who have this role, in the singular: `till`, `dispenser` or `owner`.
+/// Returns the name of a peer with this role: `till`, `dispenser` or `owner`.
 pub(crate) fn role_name(role: Role) -> &'static str {
     match role {
         Role::Till | Role::OneTill(_) => "till",
@@ -46,7 +46,7 @@ pub(crate) fn role_name(role: Role) -> &'static str {
     }
 }
 
-/// Returns what a till asks for.
+/// Returns the words for what a till's request asks for.
 fn request_words(request: &Request) -> Phrase {
     match *request {
         Request::Release(point, amount) => of_amount("release point {} up to {}", point, amount),
@@ -80,7 +80,7 @@ fn request_words(request: &Request) -> Phrase {
     }
 }
 
-/// Returns what a dispenser reports.
+/// Returns the words for what a dispenser reports.
 fn event_words(event: &DispenserEvent) -> Phrase {
     match *event {
         DispenserEvent::Up(nozzle) => of_number("nozzle {} is up", nozzle),
@@ -97,7 +97,8 @@ fn event_words(event: &DispenserEvent) -> Phrase {
     }
 }
 
-/// Returns who sent an act, and what the act is, in words.
+/// Returns two phrases: one for who sent `act`, and one for `act` itself, which is a till's request, a dispenser's
+/// report or a load of a rule.
 fn act_words(act: &Act) -> (Phrase, Phrase) {
     match act {
         Act::Till { till, request } => (of_number("till {}", *till), request_words(request)),
@@ -109,7 +110,7 @@ fn act_words(act: &Act) -> (Phrase, Phrase) {
     }
 }
 
-/// Returns an order in words.
+/// Returns the words for the order that a dispenser got.
 fn order_words(order: Order) -> Phrase {
     match order {
         Order::Authorise(amount) => Phrase("order: deliver up to {}", hundredths(amount), NONE),
@@ -130,8 +131,8 @@ pub(crate) fn order_name(order: Option<Order>) -> &'static str {
     }
 }
 
-/// Returns the name of the state with this number, 1 to 9. Returns `unknown` for a greater number, and the name of
-/// state 1 for 0.
+/// Returns the name of a point's state with this number, 1 to 9. Returns `unknown` for a greater number, and the name
+/// of state 1 for 0.
 fn state_numbered(number: u32) -> &'static str {
     match STATES.get((number as usize).saturating_sub(1)) {
         None => "unknown",
@@ -139,7 +140,7 @@ fn state_numbered(number: u32) -> &'static str {
     }
 }
 
-/// Returns whether an act is a till's request to set a price.
+/// Returns whether an act is a till's request to change a price.
 fn asks_price(act: &Act) -> bool {
     matches!(
         act,
@@ -150,8 +151,8 @@ fn asks_price(act: &Act) -> bool {
     )
 }
 
-/// Returns the words for a grant by this version. `value` is a price in thousandths of the currency per litre if
-/// `is_price` is true, or else an amount in cents.
+/// Returns the words for a request that was granted. `version` is the version of the rule that granted it. `value` is a
+/// price in thousandths of the currency per litre if `is_price` is true, or else an amount in cents.
 fn grant_words(is_price: bool, value: u64, version: u32) -> Phrase {
     let granted = if is_price {
         Text::Thousandths(value)
@@ -161,8 +162,8 @@ fn grant_words(is_price: bool, value: u64, version: u32) -> Phrase {
     Phrase("granted {} by version {}", granted, digits(version))
 }
 
-/// Returns the words for a refusal. `value` is what it names: a state for S22, a slot for S23, a version for S24. It is
-/// `None` if the refusal names nothing.
+/// Returns the words for a refusal with the number `number`. `value` is what the refusal names: a state for S22, a slot
+/// for S23, a version for S24. It is `None` if the refusal names nothing.
 fn refusal_words(number: u32, value: Option<u32>) -> Phrase {
     let refusal = Text::Refusal(number);
     let Some(value) = value else {
@@ -176,7 +177,7 @@ fn refusal_words(number: u32, value: Option<u32>) -> Phrase {
     }
 }
 
-/// Returns the reply of an entry in words.
+/// Returns the words for the reply of an entry.
 fn reply_words(entry: &Entry) -> Phrase {
     match entry.reply {
         Reply::Done => plain("done"),
@@ -192,17 +193,17 @@ fn reply_words(entry: &Entry) -> Phrase {
     }
 }
 
-/// Adds the row of an entry: its number, its moment, who sent it, what it is, and the reply.
-pub(crate) fn add_entry(sheet: &mut Sheet, entry: &Entry) {
+/// Adds the table row of an entry: its number, its moment, who sent its act, what the act is, and the reply.
+pub(crate) fn add_entry(html: &mut HtmlBuilder, entry: &Entry) {
     let (who, what) = act_words(&entry.act);
-    sheet.fill(
+    html.fill(
         "<tr><th scope=\"row\">{}</th><td>{}</td><td class=\"words\">",
         &[digits(entry.number), Text::Moment(entry.moment)],
     );
-    add_phrase(sheet, who);
-    sheet.add("</td><td class=\"words\">");
-    add_phrase(sheet, what);
-    sheet.add("</td><td class=\"words\">");
-    add_phrase(sheet, reply_words(entry));
-    sheet.add("</td></tr>\n");
+    add_phrase(html, who);
+    html.add("</td><td class=\"words\">");
+    add_phrase(html, what);
+    html.add("</td><td class=\"words\">");
+    add_phrase(html, reply_words(entry));
+    html.add("</td></tr>\n");
 }

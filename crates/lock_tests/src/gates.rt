@@ -1,4 +1,5 @@
-//! A test that a program is run while nobody holds the lock, and that a forecourt can be closed after a refused close.
+//! A test that a program runs while nobody holds the site's lock, and that a forecourt can still be closed after a
+//! close was refused.
 ghost use Rattle.std.specs.Prelude.{◌≡◌, [], None};
 
 use crate::programs::ASKED;
@@ -22,7 +23,7 @@ fn config(alloc: Global) -> Option<Config> {
     Config::new(2, 2, [1799, 1849, 0, 0, 0, 0, 0, 0], points, [(0, 0); 32])
 }
 
-/// Loads a program that grants what is asked into slot 0.
+/// Loads into slot 0 a program that grants what is asked.
 fn load<L: SiteLedger, R: Wait>(
     rt: &R,
     alloc: Global,
@@ -50,7 +51,7 @@ fn open<L: SiteLedger, R: Wait>(
     Some(())
 }
 
-/// Returns whether a call was answered with a grant of 8000 cents by version 1, and its entry has this number.
+/// Returns whether a call was answered with a grant of 8000 cents by version 1, in the entry with the number `number`.
 fn is_granted(answered: Result<Answered, CallFault>, number: u32) -> bool {
     match answered {
         Ok(answered) => answered.number == number && answered.reply == Reply::Granted(8000, 1),
@@ -58,8 +59,8 @@ fn is_granted(answered: Result<Answered, CallFault>, number: u32) -> bool {
     }
 }
 
-/// A gate that waits before it runs a draft: it sets `held` to the number of its calls, and waits until `let_go` is the
-/// same number. `in_time` becomes false if that takes too long.
+/// A gate that waits before it runs a draft. At its first call it sets `held` to 1 and waits until `let_go` is 1, at
+/// its second call both are 2, and so on. `in_time` becomes false if a wait takes too long.
 #[derive(Drop)]
 struct Holding<'a> {
     held: &'a AtomicU64,
@@ -68,7 +69,7 @@ struct Holding<'a> {
     in_time: bool,
 }
 
-/// Waits until a count is `wanted`, and returns true. After looking 100,000,000 times it returns false.
+/// Waits until `count` is `wanted`, and returns true. Gives up after 100,000,000 looks, and returns false.
 fn wait_for(count: &AtomicU64, wanted: u64) -> bool {
     for _ in 0..100_000_000u32 {
         if count.load(Ordering::SeqCst) == wanted {
@@ -94,8 +95,9 @@ impl Gate for Holding<'_> {
     }
 }
 
-/// Asks for a release as till 1. The gate waits at two runs, and both become stale, since point 2 changes each time. So
-/// the request is decided under the lock, as entry 6. Returns whether all this happened.
+/// Asks for a release as till 1. The gate runs the rule twice in vain: each time `other_calls` changes point 2 while
+/// the gate waits. So the request is then decided under the site's lock. Returns whether the gate was called twice, no
+/// wait took too long, and the request was granted as entry 6.
 fn held_call<L: SiteLedger, R: Wait>(
     rt: &R,
     forecourt: &Forecourt<L>,
@@ -113,8 +115,12 @@ fn held_call<L: SiteLedger, R: Wait>(
     is_granted(answered, 6) && gate.calls == 2 && gate.in_time
 }
 
-/// Each time that till 1's gate waits, changes point 2 and then lets the gate go. The first time, the nozzle is lifted.
-/// The second time, till 2 is granted a release after one run of its own. Returns whether all this happened.
+/// Changes point 2 twice while till 1's gate waits, and lets this gate go each time:
+///
+/// - First a nozzle is lifted.
+/// - Then till 2 is granted a release as entry 5, with one call of its own gate.
+///
+/// Returns whether all this happened.
 fn other_calls<L: SiteLedger, R: Wait>(
     rt: &R,
     forecourt: &Forecourt<L>,
@@ -132,7 +138,7 @@ fn other_calls<L: SiteLedger, R: Wait>(
     is_held && lifted.is_ok() && is_held_again && is_granted(released, 5) && gate.calls == 1
 }
 
-/// Makes the calls of both tills on two threads, and returns whether all of them had the expected results.
+/// Runs `held_call` and `other_calls` on two threads, and returns whether both returned true.
 fn beside<L: SiteLedger + Send + Sync, R: Threads + Wait + Sync>(
     rt: &R,
     forecourt: &Forecourt<L>,
@@ -149,8 +155,8 @@ fn beside<L: SiteLedger + Send + Sync, R: Threads + Wait + Sync>(
     one && two
 }
 
-/// Loads the program and opens the points of a forecourt, and then makes the calls of both tills with its two passes.
-/// Returns whether all calls of the tills had the expected results, or `None` if the preparation failed.
+/// Loads the program and opens the points of a forecourt, and then returns what `beside` returns for its two passes.
+/// Returns `None` if something before `beside` failed.
 fn are_granted<L: SiteLedger + Send + Sync, R: Threads + Wait + Sync>(
     rt: &R,
     alloc: Global,
@@ -176,8 +182,8 @@ fn closed<L: SiteLedger, R: Wait>(
     }
 }
 
-/// Reopens a forecourt that couldn't be closed, and closes it with the passes that the refused close gave back and with
-/// `last`. Returns how many entries its site has, or `None` if this close is refused too, or memory ran out.
+/// Reopens the forecourt of a refused close, and closes it with all passes: those in `kept`, and `last`. Returns how
+/// many entries its site has, or `None` if this close is refused too, or memory ran out.
 fn closed_again<L: SiteLedger, R: Wait>(
     rt: &R,
     kept: CloseFault<L>,
@@ -189,7 +195,8 @@ fn closed_again<L: SiteLedger, R: Wait>(
 }
 
 /// Tries to close a forecourt without its last pass, and then closes it with all passes. Returns why the first close
-/// was refused, and how many entries the site has. Returns `None` if the first close wasn't refused, or the second was.
+/// was refused, and how many entries the site has. Returns `None` if there is no pass, if the first close isn't
+/// refused, or if the second one fails.
 fn closed_in_the_end<L: SiteLedger, R: Wait>(
     rt: &R,
     forecourt: Forecourt<L>,
@@ -202,9 +209,8 @@ fn closed_in_the_end<L: SiteLedger, R: Wait>(
     }
 }
 
-/// Makes the calls of both tills at a new forecourt, and closes it with `closed_in_the_end`. Returns whether all calls
-/// had the expected results, why the first close was refused, and how many entries the site has. Returns `None` if the
-/// forecourt couldn't be made or prepared for the calls, or if `closed_in_the_end` returns `None`.
+/// Starts a forecourt with two passes, and runs `are_granted` and `closed_in_the_end` with it. Returns the results of
+/// these two functions, or `None` if a step failed.
 fn both<L: SiteLedger + Send + Sync, R: Threads + Wait + Sync>(
     rt: &R,
     alloc: Global,
@@ -231,7 +237,7 @@ fn both_of<R: Threads + Wait + Sync>(
     both::<Brand, R>(rt, alloc, Blank::new(2), config)
 }
 
-// If the gate were called under the lock, the other till couldn't let it go, and the test would fail.
+// If till 1's gate ran under the site's lock, till 2 couldn't call the forecourt meanwhile, and the test would fail.
 #[test]
 fn gate_holds_first_until_second(rt: HostRuntime) -> Result<(), Fail> {
     let config = config(rt.alloc()).ok_or("a configuration")?;

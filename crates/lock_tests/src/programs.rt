@@ -24,8 +24,8 @@ fn items(alloc: Global) -> Result<Vec<Item>, AllocError> {
     Ok(items)
 }
 
-/// Verifies these items on at most `workers` threads. `workers` must be 1 to 16. Returns how many results are right:
-/// the second item must be refused, and each other one accepted. Returns 0 if there is no memory for the results.
+/// Verifies these items on at most `workers` threads, which must be 1 to 16. Returns how many results are right: the
+/// second item is refused, and each other one accepted. Returns 0 if there is no memory for the results.
 fn answered<R: Threads + Sync>(rt: &R, alloc: Global, items: &[Item], workers: u32) -> u32
     requires { (0 < workers) × (workers ≤ 16) }
 {

@@ -1,8 +1,8 @@
-//! Tests of serving over the loopback interface. A thread of the test connects as each of the peers.
+//! Tests of serving over the loopback interface. The tests themselves connect as till, dispenser and owner.
 use line_session::Doors;
 use site_core::{Config, Site};
 use site_server::{
-    AtOnce, Crew, Listener, NoJournal, NoWatcher, Notices, OpenDoor, Outside, Serving,
+    AtOnce, Crew, Listener, NoJournal, NoWatcher, Notices, OpenDoor, Serving, ServingHooks,
     SessionFailure, SocketDoors, Stream,
 };
 use std::alloc::{AllocError, Global};
@@ -20,9 +20,9 @@ use till_request::Role;
 struct Silent;
 
 impl Notices for Silent {
-    ghost failure_told = { λ _ _ _. Unit {0} };
+    ghost failure_reported = { λ _ _ _. Unit {0} };
 
-    ghost end_told = { λ _ _. Unit {0} };
+    ghost end_reported = { λ _ _. Unit {0} };
 
     fn accept_failed(&self, _role: Role, _pass: u32, _error: &io::Error) {}
 
@@ -92,7 +92,7 @@ fn addresses_of(ports: &Ports) -> io::Result<Addresses> {
     })
 }
 
-/// Makes a door of each port, each with one worker: for till 1, for dispensers and for the owner.
+/// Makes three doors with one worker each: for till 1, for dispensers and for the owner.
 fn doors_at(alloc: Global, ports: Ports) -> Result<Vec<OpenDoor>, AllocError> {
     let mut doors = Vec::new(alloc);
     for (role, listener) in [
@@ -109,7 +109,7 @@ fn doors_at(alloc: Global, ports: Ports) -> Result<Vec<OpenDoor>, AllocError> {
     Ok(doors)
 }
 
-/// Connects as a peer, sends these lines, and appends the next `answers` answers to `heard`.
+/// Connects to the address `at`, sends `lines`, and appends the next `answers` answers to `heard`.
 fn ask<R: Net<Listener = TcpListener, Stream = TcpStream>>(
     rt: &R,
     alloc: Global,
@@ -165,7 +165,7 @@ fn one_of_each<R: Net<Listener = TcpListener, Stream = TcpStream> + Threads + Wa
     serving: Serving,
     at: Addresses,
 ) -> Result<(u64, usize, String), Fail> {
-    let outside = Outside {
+    let outside = ServingHooks {
         notices: &Silent,
         release: &AtOnce,
         watcher: &NoWatcher,

@@ -1,4 +1,4 @@
--- Definitions: how a request on the page port is answered.
+-- Definitions: the answers to requests on the page port, a port on which a browser looks at the site.
 use Rattle.std.specs.Prelude.{◌≡◌, ◌⊎◌, ℕ, List, [], ◌∷◌, ◌++◌, codes, Result, Ok, Err}
 use Rattle.http1.specs.Fields.{Header}
 use Rattle.http_server.specs.Response.{fields_of}
@@ -6,28 +6,32 @@ use Rattle.http_server.specs.declared.response.Response.{Response}
 use Rattle.live_page.specs.declared.station.Health.{Health}
 use Rattle.live_page.specs.declared.station.Health.TheVariants as health
 use Rattle.live_page.specs.Health.{health_text}
-use Rattle.page_port.specs.declared.asked.Refusal.{Refusal}
-use Rattle.page_port.specs.declared.asked.Refusal.TheVariants as refusals
-use Rattle.page_port.specs.declared.asked.View.{View}
-use Rattle.page_port.specs.declared.asked.View.TheVariants as views
-use Rattle.page_port.specs.declared.shown.Kind.{Kind}
-use Rattle.page_port.specs.declared.shown.Kind.TheVariants as kinds
-use Rattle.page_port.specs.declared.shown.Shown.{Shown}
+use Rattle.page_port.specs.declared.routing.Refusal.{Refusal}
+use Rattle.page_port.specs.declared.routing.Refusal.TheVariants as refusals
+use Rattle.page_port.specs.declared.routing.Endpoint.{Endpoint}
+use Rattle.page_port.specs.declared.routing.Endpoint.TheVariants as endpoints
+use Rattle.page_port.specs.declared.page_answer.MediaType.{MediaType}
+use Rattle.page_port.specs.declared.page_answer.MediaType.TheVariants as kinds
+use Rattle.page_port.specs.declared.page_answer.PageAnswer.{PageAnswer}
 
 abbrev pub status_of : Refusal → ℕ
 status_of refusals.OtherHost = 403
 status_of refusals.NoSuchPath = 404
 status_of refusals.OtherMethod = 405
-status_of refusals.NoNumber = 400
+status_of refusals.BadQuery = 400
 
-abbrev pub type_of : Kind → List ℕ
+abbrev pub type_of : MediaType → List ℕ
 type_of kinds.Html = codes "text/html; charset=utf-8"
 type_of kinds.Metrics = codes "text/plain; version=0.0.4; charset=utf-8"
 type_of kinds.Plain = codes "text/plain; charset=utf-8"
 
--- the header fields of an answer: its type, which a browser must not guess; that nobody stores it; that as a page it
--- loads nothing and runs no script; and that the connection ends
-abbrev pub fields : Kind → List Header
+-- The header fields of an answer whose text is of this kind:
+-- - `content-type` gives the type of the text.
+-- - `cache-control` forbids storing the answer.
+-- - `x-content-type-options` forbids guessing another type.
+-- - `content-security-policy` forbids a page to load anything or to run a script.
+-- - `connection` says that the connection ends after the answer.
+abbrev pub fields : MediaType → List Header
 fields kind =
     (codes "content-type", type_of kind)
     ∷ (codes "cache-control", codes "no-store")
@@ -36,62 +40,66 @@ fields kind =
     ∷ (codes "connection", codes "close")
     ∷ []
 
--- the header fields of the answer to a request that is refused
+-- the header fields of the answer to a request that is refused for this reason
 abbrev pub fields_refusing : Refusal → List Header
 fields_refusing refusals.OtherMethod = fields kinds.Plain ++ (codes "allow", codes "GET, HEAD") ∷ []
 fields_refusing refusals.OtherHost = fields kinds.Plain
 fields_refusing refusals.NoSuchPath = fields kinds.Plain
-fields_refusing refusals.NoNumber = fields kinds.Plain
+fields_refusing refusals.BadQuery = fields kinds.Plain
 
--- the text of the answer to a request that is refused
+-- the text of the answer to a request that is refused for this reason
 abbrev pub text_refusing : Refusal → List ℕ
 text_refusing refusals.OtherHost = codes "this page is for localhost, 127.0.0.1 and [::1] alone\n"
 text_refusing refusals.NoSuchPath = codes "nothing is here: try /, /metrics, /healthz or /journal?after=N\n"
 text_refusing refusals.OtherMethod = codes "only GET and HEAD are answered here\n"
-text_refusing refusals.NoNumber = codes "write after=N, with N from 0 to 4294967295 in plain digits\n"
+text_refusing refusals.BadQuery = codes "write after=N, with N from 0 to 4294967295 in plain digits\n"
 
--- the status of the answer that says whether all is well
+-- the HTTP status of the answer that reports this health
 abbrev pub status_of_health : Health → ℕ
-status_of_health health.Well = 200
+status_of_health health.Healthy = 200
 status_of_health health.JournalFailed = 503
 status_of_health health.NearlyFull = 503
 status_of_health (health.NoWorker _) = 503
 
--- the answer has a text of this kind, and the status 200
-abbrev pub Shows : Kind → Shown → Type 0
-Shows kind shown = (shown.status ≡ 200) × (shown.kind ≡ kind)
+-- The answer has the status 200, and a text of this kind.
+abbrev pub IsOkOfKind : MediaType → PageAnswer → Type 0
+IsOkOfKind kind page_answer = (page_answer.status ≡ 200) × (page_answer.kind ≡ kind)
 
--- the answer says this health in a few words, and has its status
-abbrev pub TellsHealth : Health → Shown → Type 0
-TellsHealth health shown =
-    (shown.status ≡ status_of_health health) × (shown.kind ≡ kinds.Plain) × (shown.text ≡ health_text health ++ codes "\n")
+-- The answer reports this health of the station: its status is that of the health, and its plain text describes the
+-- health, with an LF at the end.
+abbrev pub ReportsHealth : Health → PageAnswer → Type 0
+ReportsHealth health page_answer =
+    (page_answer.status ≡ status_of_health health) × (page_answer.kind ≡ kinds.Plain) × (page_answer.text ≡ health_text health ++ codes "\n")
 
--- The answer's status and kind of text fit this view. If the view is `Health`, the answer says a health; which one is
--- left open here.
-abbrev pub IsShown : View → Shown → Type 0
-IsShown views.Page shown = Shows kinds.Html shown
-IsShown views.Metrics shown = Shows kinds.Metrics shown
-IsShown views.Health shown = (health : Health) × TellsHealth health shown
-IsShown (views.Journal _) shown = Shows kinds.Plain shown
+-- The answer fits this endpoint:
+-- - `Page`, `Metrics` and `Journal`: the status is 200, and the text's kind is `Html`, `Metrics` or `Plain`, in this
+--   order
+-- - `Health`: the answer reports some health of the station; which one is left open here
+abbrev pub FitsEndpoint : Endpoint → PageAnswer → Type 0
+FitsEndpoint endpoints.Page page_answer = IsOkOfKind kinds.Html page_answer
+FitsEndpoint endpoints.Metrics page_answer = IsOkOfKind kinds.Metrics page_answer
+FitsEndpoint endpoints.Health page_answer = (health : Health) × ReportsHealth health page_answer
+FitsEndpoint (endpoints.Journal _) page_answer = IsOkOfKind kinds.Plain page_answer
 
--- the answer says that memory ran out
-abbrev pub TellsWant : Shown → Type 0
-TellsWant shown = (shown.status ≡ 503) × (shown.kind ≡ kinds.Plain) × (shown.text ≡ codes "out of memory\n")
+-- The answer reports that memory ran out: it has the status 503 and the plain text "out of memory", with an LF.
+abbrev pub ReportsOutOfMemory : PageAnswer → Type 0
+ReportsOutOfMemory page_answer = (page_answer.status ≡ 503) × (page_answer.kind ≡ kinds.Plain) × (page_answer.text ≡ codes "out of memory\n")
 
--- the response refuses a request for this reason
+-- The response refuses a request for this reason: it has the status, the fields and the text for the reason.
 pub record Refuses (refusal : Refusal) (response : Response) : Type 0 where
   pub status : response.status ≡ status_of refusal
   pub fields : fields_of response ≡ fields_refusing refusal
   pub text : response.body.items ≡ text_refusing refusal
 
--- the response has the status, the fields and the text of this answer
-pub record Puts (shown : Shown) (response : Response) : Type 0 where
-  pub status : response.status ≡ shown.status
-  pub fields : fields_of response ≡ fields shown.kind
-  pub text : response.body.items ≡ shown.text
+-- The response has the status and the text of `page_answer`, and the header fields for its kind of text.
+pub record HasAnswer (page_answer : PageAnswer) (response : Response) : Type 0 where
+  pub status : response.status ≡ page_answer.status
+  pub fields : fields_of response ≡ fields page_answer.kind
+  pub text : response.body.items ≡ page_answer.text
 
--- The response fits what a request asks for. It refuses a refused request, for the same reason. Else it shows the view,
--- or says that memory ran out.
-abbrev pub IsAnswer : Result View Refusal → Response → Type 0
+-- The response answers a request for which `requested_endpoint` gives this result:
+-- - a refusal: the response refuses the request for this reason
+-- - an endpoint: the response has an answer that fits the endpoint, or reports that memory ran out
+abbrev pub IsAnswer : Result Endpoint Refusal → Response → Type 0
 IsAnswer (Err refusal) response = Refuses refusal response
-IsAnswer (Ok view) response = (shown : Shown) × Puts shown response × (IsShown view shown ⊎ TellsWant shown)
+IsAnswer (Ok endpoint) response = (page_answer : PageAnswer) × HasAnswer page_answer response × (FitsEndpoint endpoint page_answer ⊎ ReportsOutOfMemory page_answer)

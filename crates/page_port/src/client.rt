@@ -1,4 +1,4 @@
-//! The connection of somebody who looks at a served site.
+//! A connection to the page port, on which a browser or a script looks at a site.
 use http_server::{Config, Connection, Service, State};
 use http1::Limits;
 use std::alloc::Global;
@@ -7,11 +7,11 @@ use std::io::{self, ErrorKind, Read};
 use std::net::{Shutdown, TcpStream};
 use std::time::{Clock, Instant};
 
-/// How many seconds a connection has at most from its opening until its answer is made, and as many again from then
-/// until it ends.
+/// A time limit in seconds: a connection ends when it has been open for so long without an answer, or when so long has
+/// passed since its answer was made.
 const MOST_SECONDS: u64 = 5;
 
-/// A request's head has at most 8,192 bytes, and a request has no body.
+/// The limits of a connection: a request's head must have at most 8,192 bytes, and a request must have no body.
 const LIMITS: Config = Config {
     limits: Limits {
         max_head_len: 8192,
@@ -23,32 +23,32 @@ const LIMITS: Config = Config {
     read_size: 4096,
 };
 
-/// The result of a client's turn.
+/// The result of a call of `Client::turn`, which reads or writes what it can without waiting.
 #[derive(Clone, Copy)]
-pub enum Turn {
+pub enum TurnOutcome {
     /// Bytes were read or written, or the input ended.
     Moved,
-    /// The peer has to send or to take something first.
+    /// Nothing could be read or written: the peer must send or take something first.
     Waits,
-    /// The connection is to be closed.
+    /// The connection must be closed.
     Over,
 }
 
-/// The connection of somebody who looks at a served site. It waits for nothing: each turn moves what can be moved at
+/// A connection to the page port. No method waits for the peer: each call of `turn` reads or writes what it can at
 /// once.
 #[derive(Drop)]
 pub struct Client {
     stream: TcpStream,
     connection: Connection,
-    /// When the connection was opened, and later when its answer was made.
+    /// When the answer was made, or, before that, when the connection was opened.
     since: Instant,
-    /// Whether the answer was sent whole, and nothing more will be sent.
+    /// Whether the whole answer was sent. Nothing more is sent then.
     is_answered: bool,
 }
 
 impl Client {
-    /// Makes a client of a connection that was just opened. The error is that of the system, which sets up the
-    /// connection and reads the clock.
+    /// Makes the client for the connection `stream`, which was just opened. The error is the system's: the connection
+    /// couldn't be set up, or the clock couldn't be read.
     pub fn new<R: Clock>(
         rt: &R,
         alloc: Global,
@@ -72,8 +72,8 @@ impl Client {
         matches!(self.connection.state(), State::Open)
     }
 
-    /// Answers the request if it has come by now and isn't answered yet. The seconds for taking the answer begin once
-    /// it is made, however long that took. The error is that the clock can't be read.
+    /// If the whole request has come and isn't answered yet, has `service` answer it, and sets `self.since` to the time
+    /// now. The error is that the clock can't be read.
     fn answer<S: Service, R: Clock>(&mut self, rt: &R, service: &mut S) -> io::Result<()> {
         if self.is_open() {
             self.connection.advance(service);
@@ -85,8 +85,8 @@ impl Client {
     }
 
     /// Writes to the connection if something is to be sent, and reads from it otherwise. Returns the number of bytes.
-    /// The error is `WouldBlock` if nothing can be written or read at once.
-    fn carry(&mut self) -> io::Result<usize> {
+    /// The error is `WouldBlock` if nothing can be written or read at once, or else the system's.
+    fn transfer_bytes(&mut self) -> io::Result<usize> {
         if self.connection.wants_write() {
             self.connection.write_to(&mut self.stream)
         } else {
@@ -94,10 +94,13 @@ impl Client {
         }
     }
 
-    /// Takes what the peer still sends after its answer was sent: if the connection were closed before the peer's bytes
-    /// are taken, the system might throw the answer away. Returns how many bytes came, at most 4,096, or 0 once the
-    /// peer has closed its side.
-    fn take_rest(&mut self) -> io::Result<usize> {
+    /// Closes the connection for writing, if it isn't closed yet. Then reads and ignores at most 4,096 bytes that the
+    /// peer still sends. Returns how many, or 0 if the peer has closed its side. The error is `WouldBlock` if nothing
+    /// can be read at once, or else the system's.
+    ///
+    /// The whole answer must have been sent. If the connection were closed before the peer's bytes are read, the system
+    /// might throw the answer away.
+    fn drain_input(&mut self) -> io::Result<usize> {
         if !self.is_answered {
             self.is_answered = true;
             self.stream.shutdown(Shutdown::Write)?;
@@ -106,32 +109,36 @@ impl Client {
         self.stream.read(&mut bytes)
     }
 
-    /// Does what `turn` does, but returns a failure as an error. After an error the connection is to be closed.
-    fn go_on<S: Service, R: Clock>(&mut self, rt: &R, service: &mut S) -> io::Result<Turn> {
+    /// Does what `turn` does, but returns a failure as an error. After an error the connection must be closed.
+    fn try_turn<S: Service, R: Clock>(
+        &mut self,
+        rt: &R,
+        service: &mut S,
+    ) -> io::Result<TurnOutcome> {
         self.answer(rt, service)?;
         if self.since.elapsed(rt)?.as_secs() >= MOST_SECONDS {
-            return Ok(Turn::Over);
+            return Ok(TurnOutcome::Over);
         }
         let is_done = self.connection.is_done();
         let carried = if is_done {
-            self.take_rest()
+            self.drain_input()
         } else {
-            self.carry()
+            self.transfer_bytes()
         };
         match carried {
-            Ok(0) if is_done => Ok(Turn::Over),
-            Ok(_) => Ok(Turn::Moved),
-            Err(error) if error.kind() == ErrorKind::WouldBlock => Ok(Turn::Waits),
+            Ok(0) if is_done => Ok(TurnOutcome::Over),
+            Ok(_) => Ok(TurnOutcome::Moved),
+            Err(error) if error.kind() == ErrorKind::WouldBlock => Ok(TurnOutcome::Waits),
             Err(error) => Err(error),
         }
     }
 
-    /// Writes or reads what can be moved at once, and has `service` answer the request once it has come. After a
-    /// failure the result is `Over`: a peer that goes away is of no interest to anybody.
-    pub fn turn<S: Service, R: Clock>(&mut self, rt: &R, service: &mut S) -> Turn {
-        match self.go_on(rt, service) {
+    /// Has `service` answer the request once it has come, and writes or reads what it can at once. Returns `Over` after
+    /// a failure too: nobody needs to know of a peer that goes away.
+    pub fn turn<S: Service, R: Clock>(&mut self, rt: &R, service: &mut S) -> TurnOutcome {
+        match self.try_turn(rt, service) {
             Ok(turn) => turn,
-            Err(_) => Turn::Over,
+            Err(_) => TurnOutcome::Over,
         }
     }
 }

@@ -1,22 +1,22 @@
 //! Counts of a site's workers and of their connections: for tills, for dispensers and for the owner.
-use live_page::Peers;
+use live_page::RoleCounts;
 use std::alloc::{AllocError, Global};
 use std::sync::atomic::{AtomicU32, AtomicU64, Ordering};
 use till_request::Role;
 
-/// The workers for tills, those for dispensers or those for the owner, and their connections.
+/// Counts the workers and the connections of one role: tills, dispensers or owner.
 #[derive(Drop)]
-struct Counted {
+struct RoleCounters {
     workers: u32,
-    /// The number of workers that serve no further connection.
+    /// How many of the `workers` have served their last connection.
     left: AtomicU32,
     opened: AtomicU64,
     closed: AtomicU64,
 }
 
-impl Counted {
-    fn new() -> Counted {
-        Counted {
+impl RoleCounters {
+    fn new() -> RoleCounters {
+        RoleCounters {
             workers: 0,
             left: AtomicU32::new(0),
             opened: AtomicU64::new(0),
@@ -24,12 +24,12 @@ impl Counted {
         }
     }
 
-    /// Returns the counts as they are shown. A connection that ends while this reads the counts can still count as
-    /// open.
-    fn peers(&self, role: Role) -> Peers {
+    /// Returns these counts, which are those of `role`: the workers that still serve, the open connections, and all
+    /// connections so far. A connection that ends during this call can still count as open.
+    fn role_counts(&self, role: Role) -> RoleCounts {
         let closed = self.closed.load(Ordering::SeqCst);
         let total = self.opened.load(Ordering::SeqCst);
-        Peers {
+        RoleCounts {
             role,
             workers: self
                 .workers
@@ -40,26 +40,26 @@ impl Counted {
     }
 }
 
-/// Counts the workers of a site, and their connections, separately for tills, for dispensers and for the owner. Workers
-/// that take the lines of all roles count as the owner's.
+/// Counts a site's workers and their connections, separately for tills, for dispensers and for the owner. A worker with
+/// `Role::All` counts as one for the owner.
 #[derive(Drop)]
-pub struct Connections {
-    tills: Counted,
-    dispensers: Counted,
-    owner: Counted,
+pub struct ConnectionCounts {
+    tills: RoleCounters,
+    dispensers: RoleCounters,
+    owner: RoleCounters,
 }
 
-impl Connections {
-    /// Makes the counts of a site without workers.
-    pub fn new() -> Connections {
-        Connections {
-            tills: Counted::new(),
-            dispensers: Counted::new(),
-            owner: Counted::new(),
+impl ConnectionCounts {
+    /// Makes counts that are all 0.
+    pub fn new() -> ConnectionCounts {
+        ConnectionCounts {
+            tills: RoleCounters::new(),
+            dispensers: RoleCounters::new(),
+            owner: RoleCounters::new(),
         }
     }
 
-    fn counted(&self, role: Role) -> &Counted {
+    fn counted(&self, role: Role) -> &RoleCounters {
         match role {
             Role::Till | Role::OneTill(_) => &self.tills,
             Role::Dispenser | Role::SomePoints(_) => &self.dispensers,
@@ -67,7 +67,7 @@ impl Connections {
         }
     }
 
-    /// Adds workers that take the lines of this role.
+    /// Adds `workers` workers to the count for `role`.
     pub fn add_workers(&mut self, role: Role, workers: u32) {
         let counted = match role {
             Role::Till | Role::OneTill(_) => &mut self.tills,
@@ -87,21 +87,21 @@ impl Connections {
         self.counted(role).closed.fetch_add(1, Ordering::SeqCst);
     }
 
-    /// Counts that a worker with this role serves no further connection.
+    /// Counts that a worker with this role has served its last connection.
     pub fn left(&self, role: Role) {
         self.counted(role).left.fetch_add(1, Ordering::SeqCst);
     }
 
-    /// Returns the counts for tills, those for dispensers and those for the owner, in this order. Leaves out those for
-    /// whom the site has no workers and had none. The error is that memory ran out.
-    pub(crate) fn peers(&self, alloc: Global) -> Result<Vec<Peers>, AllocError> {
-        let mut peers = Vec::new(alloc);
+    /// Returns the counts for tills, for dispensers and for the owner, in this order. Leaves out a role for which no
+    /// worker was ever added. The error is that memory ran out.
+    pub(crate) fn role_counts(&self, alloc: Global) -> Result<Vec<RoleCounts>, AllocError> {
+        let mut role_counts = Vec::new(alloc);
         for role in [Role::Till, Role::Dispenser, Role::Owner] {
             let counted = self.counted(role);
             if counted.workers > 0 {
-                peers.push(counted.peers(role))?;
+                role_counts.push(counted.role_counts(role))?;
             }
         }
-        Ok(peers)
+        Ok(role_counts)
     }
 }

@@ -1,22 +1,21 @@
 //! Counts of the file in which a served site's journal is kept.
 use crate::timings::Timings;
-use live_page::JournalFile;
+use live_page::JournalFileStats;
 use std::sync::atomic::{AtomicBool, AtomicU64, Ordering};
 use std::time::Duration;
 
-/// Counts the bytes of the file in which a journal is kept, and its syncs, and records whether a write or a sync
-/// failed.
+/// Counts the bytes and the syncs of a journal's file, and records whether a write or a sync of the file failed.
 #[derive(Drop)]
 pub struct JournalCounts {
     bytes: AtomicU64,
     has_failed: AtomicBool,
-    /// The syncs, if answers wait for them.
+    /// How often the file was synced, and how long these syncs took in all, or `None` if answers don't wait for syncs.
     syncs: Option<Timings>,
 }
 
 impl JournalCounts {
-    /// Makes the counts of a file with this many bytes. `is_synced` says whether answers wait for its syncs, which are
-    /// then counted too.
+    /// Makes the counts of a file with this many bytes. `is_synced` says whether answers wait for syncs of the file; if
+    /// not, syncs aren't counted.
     pub fn new(bytes: u64, is_synced: bool) -> JournalCounts {
         JournalCounts {
             bytes: AtomicU64::new(bytes),
@@ -29,12 +28,12 @@ impl JournalCounts {
         }
     }
 
-    /// Adds the number of bytes that were appended to the file.
+    /// Counts that this many bytes were appended to the file.
     pub fn appended(&self, bytes: usize) {
         self.bytes.fetch_add(bytes as u64, Ordering::SeqCst);
     }
 
-    /// Counts a sync, which took the time `taken`. If answers don't wait for syncs, does nothing.
+    /// Counts a sync that took the time `taken`. If answers don't wait for syncs, does nothing.
     pub fn synced(&self, taken: Duration) {
         if let Some(syncs) = &self.syncs {
             syncs.add(taken);
@@ -51,9 +50,9 @@ impl JournalCounts {
         self.has_failed.load(Ordering::SeqCst)
     }
 
-    /// Returns the counts as they are shown.
-    pub(crate) fn file(&self) -> JournalFile {
-        JournalFile {
+    /// Returns the length of the file, and the count and the total time of its syncs.
+    pub(crate) fn file(&self) -> JournalFileStats {
+        JournalFileStats {
             bytes: self.bytes.load(Ordering::SeqCst),
             syncs: match &self.syncs {
                 Some(syncs) => Some(syncs.times()),

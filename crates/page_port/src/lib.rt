@@ -1,15 +1,15 @@
-//! The port of a served site on which a browser, Prometheus or a script looks at it: HTTP on 127.0.0.1.
+//! The page port of a served site: there a browser, Prometheus or a script looks at the site, by HTTP on 127.0.0.1.
 #![tactic(auto)]
 
-mod asked;
 mod client;
 mod connections;
 mod journal_counts;
+mod page_answer;
 mod port;
+mod routing;
 mod service;
-mod shown;
 mod timings;
 
-pub use connections::Connections;
+pub use connections::ConnectionCounts;
 pub use journal_counts::JournalCounts;
 pub use port::PagePort;

@@ -1,11 +1,11 @@
-//! The port on which somebody looks at a served site.
-use crate::client::{Client, Turn};
-use crate::connections::Connections;
+//! The page port: a port of 127.0.0.1 on which a browser or a script looks at a site while it is served.
+use crate::client::{Client, TurnOutcome};
+use crate::connections::ConnectionCounts;
 use crate::journal_counts::JournalCounts;
-use crate::service::Answers;
+use crate::service::PageService;
 use crate::timings::Timings;
 use http_server::Service;
-use live_page::JournalFile;
+use live_page::JournalFileStats;
 use site_lock::{Forecourt, Journal, SiteLedger};
 use std::alloc::Global;
 use std::hash::RandomState;
@@ -17,41 +17,41 @@ use std::sync::atomic::{AtomicBool, Ordering};
 use std::time::{Clock, Duration};
 use std::{fs, thread};
 
-/// How many clients there are at most at once. Further connections wait in the system's queue.
+/// The most connections that are served at one time. Further connections wait in the system's queue.
 const MOST_CLIENTS: usize = 32;
 
-/// How many milliseconds to wait when no client can go on.
+/// How many milliseconds `watch` waits after a round in which it accepted no connection and no client progressed.
 const REST_MILLISECONDS: u64 = 5;
 
 /// How many milliseconds to wait after a connection couldn't be accepted.
 const PAUSE_MILLISECONDS: u64 = 100;
 
-/// The bytes of a page of memory.
+/// How many bytes a page of memory has.
 const MEMORY_PAGE: u64 = 4096;
 
-/// A port of 127.0.0.1 on which somebody looks at a site while it is served.
+/// A port of 127.0.0.1 on which a browser or a script looks at a site while it is served.
 ///
 /// One thread serves up to 32 connections at once, and answers one request on each, so that a peer that hangs keeps
-/// nobody waiting. A request has 5 seconds to come, and an answer has 5 seconds to be taken; then the connection ends.
-/// What is shown is copied under the site's lock, a piece of bounded size at a time, and sent afterwards.
+/// nobody waiting. A connection ends if its request doesn't come within 5 seconds, or its answer isn't taken within 5
+/// seconds. What an answer shows is copied under the site's lock, a bounded amount at a time, and sent without the
+/// lock.
 #[derive(Drop)]
 pub struct PagePort<'a> {
     rt: &'a HostRuntime,
     pub(crate) tills: u32,
     listener: TcpListener,
-    /// A second handle of the listener's socket, by which the socket can be shut down.
+    /// A second handle of the listener's socket. `leave` uses it to shut the socket down.
     handle: TcpStream,
     keys: RandomState,
-    pub(crate) connections: Connections,
+    pub(crate) connections: ConnectionCounts,
     pub(crate) journal: Option<&'a JournalCounts>,
-    /// How often something of the site was read under the site's lock to be shown, and how long these reads waited for
-    /// the lock in all.
+    /// How often answers took the site's lock, and how long they waited for it in all.
     pub(crate) waits: Timings,
     is_leaving: AtomicBool,
 }
 
-/// Opens a port of 127.0.0.1. Returns its listener, and a second handle of the same socket, by which it can be shut
-/// down. A port above 65,535 gives the error `InvalidInput`.
+/// Opens a port of 127.0.0.1. Returns its listener, and a second handle of the same socket, by which the socket can be
+/// shut down. The error is `InvalidInput` for a port above 65,535, or else the system's.
 fn listen<H: Net<Listener = TcpListener, Stream = TcpStream>>(
     host: &H,
     port: u32,
@@ -66,41 +66,42 @@ fn listen<H: Net<Listener = TcpListener, Stream = TcpStream>>(
     }
 }
 
-/// Gives each client a turn. A client whose turn gives `Over` is removed from the list, and its connection is closed.
-/// The last client of the list, if it is another one, then takes its place, and has no turn in this call. Returns
-/// whether at least one turn gave `Moved` or `Over`.
+/// Calls `turn` of each client. A client that returns `Over` is removed, which closes its connection. Then the last
+/// client, unless it is the removed one, takes the free position in `clients`, and has no turn in this call. Returns
+/// whether at least one client returned `Moved` or `Over`.
 fn take_turns<S: Service, R: Clock>(rt: &R, clients: &mut Vec<Client>, service: &mut S) -> bool {
-    let mut went_on = false;
+    let mut has_progressed = false;
     for place in 0..clients.len() {
-        // If a client was over, the list is shorter now: the last client took its place, and has its turn in the next
-        // call.
+        // Removals make `clients` shorter, so `place` can be past the end.
         let Some(client) = clients.get_mut(place) else {
             break;
         };
         match client.turn(rt, service) {
-            Turn::Waits => {}
-            Turn::Moved => went_on = true,
-            Turn::Over => {
-                went_on = true;
+            TurnOutcome::Waits => {}
+            TurnOutcome::Moved => has_progressed = true,
+            TurnOutcome::Over => {
+                has_progressed = true;
                 if place < clients.len() {
                     drop(clients.swap_remove(place));
                 }
             }
         }
     }
-    went_on
+    has_progressed
 }
 
 impl<'a> PagePort<'a> {
-    /// Opens a port of 127.0.0.1 on which a site can be looked at. The site has `tills` tills, and `connections` counts
-    /// its workers and their connections. `journal` has the counts of the file in which the site's journal is kept, if
-    /// it is kept in one. A port above 65,535 gives the error `InvalidInput`. `host` must be the same runtime as `rt`.
+    /// Opens `port` of 127.0.0.1 as the page port of a site with `tills` tills. `connections` counts the site's workers
+    /// and connections. `journal` has the counts of the site's journal file, or is `None` if there is no such file.
+    /// `host` must be the same runtime as `rt`.
+    ///
+    /// The error is `InvalidInput` for a port above 65,535, or else the system's.
     pub fn open<H: Net<Listener = TcpListener, Stream = TcpStream>>(
         rt: &'a HostRuntime,
         host: &H,
         port: u32,
         tills: u32,
-        connections: Connections,
+        connections: ConnectionCounts,
         journal: Option<&'a JournalCounts>,
     ) -> io::Result<PagePort<'a>> {
         let keys = RandomState::new(rt)?;
@@ -121,7 +122,7 @@ impl<'a> PagePort<'a> {
     }
 
     /// Returns the counts of the site's workers and of their connections.
-    pub fn connections(&self) -> &Connections {
+    pub fn connections(&self) -> &ConnectionCounts {
         &self.connections
     }
 
@@ -129,16 +130,16 @@ impl<'a> PagePort<'a> {
         self.rt.alloc()
     }
 
-    /// Returns the counts of the file in which the journal is kept, if it is kept in one.
-    pub(crate) fn journal(&self) -> Option<JournalFile> {
+    /// Returns the length and the syncs of the journal's file, or `None` if the journal isn't kept in a file.
+    pub(crate) fn journal(&self) -> Option<JournalFileStats> {
         match self.journal {
             Some(counts) => Some(counts.file()),
             None => None,
         }
     }
 
-    /// Returns whether a write to the journal's file or a sync of it failed. The result is false if the journal isn't
-    /// kept in a file. After a failed sync the site itself learns of it only at the next event.
+    /// Returns whether a write or a sync of the journal's file failed, or false if the journal isn't kept in a file.
+    /// The site itself learns of a failed sync only at the next event.
     pub(crate) fn has_journal_failed(&self) -> bool {
         match self.journal {
             Some(counts) => counts.has_failed(),
@@ -146,7 +147,7 @@ impl<'a> PagePort<'a> {
         }
     }
 
-    /// Returns the resident memory of the process in bytes, or `None` if the system doesn't say.
+    /// Returns the resident memory of the process in bytes, or `None` if it can't be found out.
     pub(crate) fn memory(&self) -> Option<u64> {
         let Ok(text) = fs::read_to_string(self.rt, "/proc/self/statm") else {
             return None;
@@ -155,8 +156,8 @@ impl<'a> PagePort<'a> {
         pages.parse::<u64>().ok()?.checked_mul(MEMORY_PAGE)
     }
 
-    /// Accepts the next connection, and adds its client to `clients`. Waits for a connection only if there is no
-    /// client; otherwise the error is `WouldBlock` if no connection has come.
+    /// Accepts the next connection, and adds its client to `clients`. If `clients` is empty, waits for a connection;
+    /// otherwise the error is `WouldBlock` if none has come. Other errors are the system's, or that memory ran out.
     fn accept<R: Clock>(&self, rt: &R, clients: &mut Vec<Client>) -> io::Result<()> {
         self.listener.set_nonblocking(!clients.is_empty())?;
         let (stream, _) = self.listener.accept()?;
@@ -164,8 +165,9 @@ impl<'a> PagePort<'a> {
         Ok(clients.push(client)?)
     }
 
-    /// Waits after a connection couldn't be accepted. First prints the error for an operator, unless `has_failed` says
-    /// that the previous connection couldn't be accepted either.
+    /// Prints on standard error that a connection couldn't be accepted because of `error`, and waits for 100
+    /// milliseconds. Prints nothing if `has_failed`, which says that no connection was accepted since the last such
+    /// failure.
     fn pause(&self, has_failed: bool, error: &io::Error) {
         if !has_failed {
             let _ = eprintln!(self.rt; "fc: no connection for the page: {error}");
@@ -173,9 +175,13 @@ impl<'a> PagePort<'a> {
         thread::sleep(self.rt, Duration::from_millis(PAUSE_MILLISECONDS));
     }
 
-    /// Accepts the next connection, unless none has come or there are 32 clients already. Returns whether it did. If
-    /// there is no client, waits for a connection. If a connection can't be accepted, calls `pause`, unless `leave` was
-    /// called. `has_failed` says whether the last connection couldn't be accepted, and is updated.
+    /// Accepts the next connection, and returns whether it did.
+    ///
+    /// - If there is no client, waits for a connection.
+    /// - If there are 32 clients, accepts none.
+    /// - After an error other than `WouldBlock`, calls `pause`, unless `leave` was called.
+    ///
+    /// `has_failed` says whether accepting failed since the last connection was accepted, and is updated.
     fn accept_next<R: Clock>(
         &self,
         rt: &R,
@@ -210,9 +216,10 @@ impl<'a> PagePort<'a> {
         rt: &R,
         forecourt: &Forecourt<L, J>,
     ) {
-        // The first look counts all entries. If memory runs out for that, the next look counts them.
+        // The first look counts all entries, so that later looks needn't. If memory runs out for that, the next look
+        // does it.
         let _ = forecourt.look(rt, 0);
-        let mut answers = Answers {
+        let mut answers = PageService {
             rt,
             port: self,
             forecourt,
@@ -224,14 +231,14 @@ impl<'a> PagePort<'a> {
             if self.is_leaving() {
                 break;
             }
-            let went_on = take_turns(rt, &mut clients, &mut answers);
-            if !has_come && !went_on {
+            let has_progressed = take_turns(rt, &mut clients, &mut answers);
+            if !has_come && !has_progressed {
                 thread::sleep(rt, Duration::from_millis(REST_MILLISECONDS));
             }
         }
     }
 
-    /// Asks `watch` to return soon. If `watch` waits for a connection, it stops waiting, since the socket is shut down.
+    /// Asks `watch` to return soon. If `watch` waits for a connection, its wait ends, since this shuts the socket down.
     pub fn leave(&self) {
         self.is_leaving.store(true, Ordering::SeqCst);
         let _ = self.handle.shutdown(Shutdown::Both);

@@ -1,5 +1,5 @@
 //! Counts of how long something took.
-use live_page::Times;
+use live_page::DurationSummary;
 use std::sync::atomic::{AtomicU64, Ordering};
 use std::time::Duration;
 
@@ -11,7 +11,7 @@ pub struct Timings {
 }
 
 impl Timings {
-    /// Makes the counts of something that wasn't done yet.
+    /// Makes a count of 0 and a total time of 0.
     pub fn new() -> Timings {
         Timings {
             count: AtomicU64::new(0),
@@ -19,16 +19,16 @@ impl Timings {
         }
     }
 
-    /// Counts one time more, and adds `taken`, which is how long it took this time.
+    /// Adds 1 to the count, and `taken` to the total time.
     pub fn add(&self, taken: Duration) {
         let nanoseconds = u64::try_from(taken.as_nanos()).unwrap_or(u64::MAX);
         self.nanoseconds.fetch_add(nanoseconds, Ordering::SeqCst);
         self.count.fetch_add(1, Ordering::SeqCst);
     }
 
-    /// Returns the counts as they are shown.
-    pub fn times(&self) -> Times {
-        Times {
+    /// Returns the count and the total time.
+    pub fn times(&self) -> DurationSummary {
+        DurationSummary {
             count: self.count.load(Ordering::SeqCst),
             nanoseconds: self.nanoseconds.load(Ordering::SeqCst),
         }

@@ -17,12 +17,14 @@ slice_get-earlier [] x k h = absurd (omega arith)
 slice_get-earlier (y ∷ ys) x zero h = refl
 slice_get-earlier (y ∷ ys) x (suc k) h = slice_get-earlier ys x k (omega arith)
 
--- The version in a slot that began with `opened`, and in which this number was installed since.
+-- The version in a slot. If versions were installed in the slot, it is the last of these, whose number is given;
+-- otherwise it is `opened`, which the slot began with.
 abbrev shown : ℕ → List ProgramText → Option Version → Option ℕ → Option Version
 shown before programs opened None = opened
 shown before programs opened (Some n) = option_map (λ program. record { number = n; program = program }) (slice_get programs (n - before - 1))
 
--- If P holds of all items of a list and of the default d, it holds of the item at place k, which is d past the end.
+-- If P holds for all items of a list and for the default d, then it holds for the item at place k. Past the end of the
+-- list, this item is d.
 at_or : {A : Type 0} (P : A → Type 0) (xs : List A) (k : ℕ) (d : A) → P d → All P xs → P (get_or xs k d)
 at_or P [] k d h all = h
 at_or P (x ∷ xs) zero d h all = all 0 d (omega arith)

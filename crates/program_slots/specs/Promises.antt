@@ -6,8 +6,8 @@ use Rattle.program_slots.specs.Slots.{version_in}
 use Rattle.program_slots.specs.declared.SlotFault.{SlotFault}
 use Rattle.program_slots.specs.declared.SlotFault.TheVariants.{NoSuchSlot, VersionsFull, OutOfMemory}
 
--- The program became a new version with the next number. It is in its slot, and each other slot keeps its version. What
--- the slots began with stays.
+-- The program was installed in `slot` as a new version, with the next number. Each other slot keeps its version, and
+-- the versions that the slots began with stay the same.
 pub record Installs (old : SlotsValue) (slot : ℕ) (program : ProgramText) (number : ℕ) (new : SlotsValue) : Type 0 where
   pub number_is : number ≡ old.before + length old.programs + 1
   pub programs_are : new.programs ≡ old.programs ++ program ∷ []
@@ -17,8 +17,8 @@ pub record Installs (old : SlotsValue) (slot : ℕ) (program : ProgramText) (num
   pub in_slot : version_in new slot ≡ Some (record { number = number; program = program })
   pub elsewhere : (other : ℕ) → other ≢ slot → version_in new other ≡ version_in old other
 
--- What is true before the call if `install` returns this result. A slot over 15 is reported first. Memory can run out
--- only where a version could otherwise be made.
+-- What must have been true before the call if `install` returned this result. A slot over 15 is reported first. Memory
+-- can run out only if the slot is 0 to 15 and fewer than 4,096 versions were installed.
 abbrev pub Refuses : SlotsValue → ℕ → Result ℕ SlotFault → Type 0
 Refuses old slot (Ok number) = (slot < 16) × (length old.programs < 4096)
 Refuses old slot (Err NoSuchSlot) = 16 ≤ slot

@@ -1,8 +1,9 @@
--- Definitions: which version is in a slot. There are 16 slots, 0 to 15, and versions are numbered from 1 over all slots (this profile).
+-- Definitions: which version is in a slot. There are 16 slots, 0 to 15, and versions are numbered from 1 over all slots
+-- (this profile).
 use Rattle.std.specs.Prelude.{◌≡◌, ◌≤◌, ℕ, ◌-◌, ◌==◌, nat_lt, if◌then◌else◌, List, [], ◌∷◌, slice_get, slice_index_or, Option, option_map, Some, None}
 use Rattle.std.specs.List.{repeat}
 use Rattle.bpf_model.specs.Program.{ProgramText, IsGood}
-use Rattle.reg_types.specs.Shown.{refusal_of}
+use Rattle.reg_types.specs.RefusedPrograms.{refusal_of}
 use Rattle.program_slots.specs.Value.{SlotsValue, Version}
 
 -- The slot has no version. Or the number of its version is from 1 to `versions`, and its program is good and accepted
@@ -11,7 +12,7 @@ abbrev pub IsRule : ℕ → Option Version → Type 0
 IsRule versions None = Unit {0}
 IsRule versions (Some v) = (1 ≤ v.number) × (v.number ≤ versions) × IsGood v.program × (refusal_of v.program ≡ None)
 
--- Slots that begin with these versions, after `before` versions were made.
+-- The value of slots that begin with the versions `opened`, after `before` versions were made.
 abbrev pub opened_slots : ℕ → List (Option Version) → SlotsValue
 opened_slots before opened = record { before = before; opened = opened; installed = repeat 16 (None ∷ []); programs = [] }
 

@@ -1,4 +1,4 @@
-//! The slots that programs are installed in. Each program that is installed is a new version, whose number is never
+//! The slots that programs are installed in. Each installed program becomes a new version, with a number that is never
 //! used again. The version in a slot is the newest that was installed there, and older ones are kept. Slots can begin
 //! with versions that were made earlier.
 #![tactic(auto)]
@@ -19,8 +19,7 @@ use std::marker::Model;
 use std::sync::Arc;
 pub use version::Version;
 
-/// The greatest number of versions that can be installed, in all slots together. Those that slots begin with don't
-/// count.
+/// How many versions can be installed at most, in all slots together. Versions that the slots begin with don't count.
 pub const VERSIONS: usize = 4096;
 
 /// The number of slots.
@@ -91,7 +90,7 @@ impl Slots {
     /// slots began. No other slot changes.
     ///
     /// The error is `NoSuchSlot` for a slot over 15, else `VersionsFull` if 4,096 versions were installed, else
-    /// `OutOfMemory`. After an error nothing has changed, and the program is dropped.
+    /// `OutOfMemory` if memory ran out. After an error nothing has changed, and the program is dropped.
     pub fn install(&mut self, slot: u32, program: Arc<Program>) -> Result<u32, SlotFault>
         ensures step { IfOk result (λ number. Installs self.old slot (arc_value program) number self.new) }
         ensures refusal { Refuses self.old slot result }
@@ -153,7 +152,8 @@ impl Slots {
     }
 
     /// Returns a list of the versions in slots 0 to 15, with `None` for an empty slot. `Slots::opened` can make new
-    /// slots of it. Copies no program. The error is that memory ran out.
+    /// slots from this list. The programs are shared, not copied. The error is that memory ran out, or that a program
+    /// has too many owners.
     pub fn rules(&self, alloc: Global) -> Result<Vec<Option<Version>>, AllocError>
         ensures each { IfOk result
             (λ rules. rules.items ≡ map (λ slot. version_in self.now slot) (range_with_len 0 16)) }
@@ -166,7 +166,8 @@ impl Slots {
         Ok(rules)
     }
 
-    // Returns a copy of the version in a slot. The error is that memory ran out. For an empty slot no memory is taken.
+    // Returns a copy of the version in a slot; `None` for an empty slot and for a slot over 15. The copy shares the
+    // program. The error is that the program has too many owners; for an empty slot there is no error.
     fn rule(&self, slot: u32) -> Result<Option<Version>, AllocError>
         ensures empty { version_in self.now slot ≡ None → IsOk result }
         ensures same { IfOk result (λ rule. rule ≡ version_in self.now slot) }
@@ -184,7 +185,8 @@ impl Slots {
     }
 }
 
-// Returns the number and the program of the version that a slot began with, if any.
+// Returns the number and the program of the version that a slot began with. `None` if it began empty, and for a slot
+// over 15.
 fn opened_in(opened: &[Option<Version>], slot: u32) -> Option<(u32, &Arc<Program>)>
     ensures { MatchOption result (slice_index_or opened.now slot None ≡ None)
         (λ v. slice_index_or opened.now slot None ≡ Some (record { number = v.0; program = arc_value v.1.now })) }
@@ -195,7 +197,7 @@ fn opened_in(opened: &[Option<Version>], slot: u32) -> Option<(u32, &Arc<Program
     }
 }
 
-// Returns the program of the first version that has this number, or `None` if there is none.
+// Returns the program of the first version in the list that has this number, or `None` if no version has it.
 fn program_numbered(versions: &[Option<Version>], number: u32) -> Option<&Arc<Program>>
     ensures { MatchOption result (program_among versions.now number ≡ None)
         (λ program. program_among versions.now number ≡ Some (arc_value program.now)) }

@@ -24,7 +24,7 @@ impl Model for Version {
 }
 
 impl Version {
-    /// Returns a copy of this version. The two share the program. The error is that memory ran out.
+    /// Returns a copy of this version. The two share the program. The error is that the program has too many owners.
     pub fn copied(&self) -> Result<Version, AllocError>
         ensures { IfOk result (λ v. v ≡ self.now) }
     {

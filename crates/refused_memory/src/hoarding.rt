@@ -1,14 +1,13 @@
 //! Allocates all memory of the process, except one block that stays free.
 use std::alloc::Global;
 
-/// How many bytes of a freed block `take_but` allocates again. It first allocates a block of `size + HELD` bytes, and
-/// then all other memory. Then it frees the block and allocates `HELD` bytes of it again, so `size` bytes of it stay
-/// free. A block of only `size` bytes wouldn't do: once freed, a block of up to 1,032 bytes would be reused only for
-/// blocks of its own size.
+/// `take_all_but` allocates a block of `size + HELD` bytes, and then all other memory. Then it frees the block and
+/// allocates `HELD` bytes of it again, so `size` bytes stay free. Without the `HELD` bytes, a freed block of up to
+/// 1,032 bytes would be reused only for blocks of its own size.
 const HELD: usize = 1080;
 
-/// How often at most a script is played to try one of its lines with little memory. Each time, more bytes are left free
-/// during that line: as many as `room_of` returns.
+/// The most plays of a script in which the same line has little memory. In play number n, counted from 0, `room_of(n)`
+/// bytes are free during that line.
 pub const TURNS: usize = 120;
 
 /// Allocates blocks of `size` bytes until that fails, but at most 100,000, and adds them to `blocks`.
@@ -45,7 +44,7 @@ pub struct Taken {
 
 /// Allocates all memory except one block of `size` bytes, which stays free. Returns `None` if there is too little
 /// memory for that.
-pub fn take_but(alloc: Global, size: usize) -> Option<Taken> {
+pub fn take_all_but(alloc: Global, size: usize) -> Option<Taken> {
     let room: Vec<u8> = Vec::with_capacity(alloc, size.saturating_add(HELD)).ok()?;
     let mut blocks = Vec::with_capacity(alloc, 200_000).ok()?;
     hoard(alloc, &mut blocks);
@@ -54,14 +53,13 @@ pub fn take_but(alloc: Global, size: usize) -> Option<Taken> {
     Some(Taken { blocks, held })
 }
 
-/// Allocates all memory except 64 MiB, which are enough for what a test makes. With only 64 MiB left, the later calls
-/// of `take_but` take a hundredth of the time. Returns `None` if there is too little memory to leave 64 MiB free.
-pub fn leave_few(alloc: Global) -> Option<Taken> {
-    take_but(alloc, 1 << 26)
+/// Allocates all memory except a block of 64 MiB, which is enough for a test. Later calls of `take_all_but` then take a
+/// hundredth of the time. Returns `None` if there is too little memory for that block.
+pub fn take_but_64_mib(alloc: Global) -> Option<Taken> {
+    take_all_but(alloc, 1 << 26)
 }
 
-/// Returns how many bytes stay free in the try number `turn`, counted from 0: none in the first, over 80,000 in the
-/// last.
+/// Returns how many bytes stay free in try number `turn`, counted from 0: none in the first, over 80,000 in the last.
 pub fn room_of(turn: usize) -> usize {
     turn.wrapping_mul(turn).wrapping_mul(6)
 }

@@ -6,6 +6,6 @@
 #[cfg(test)]
 mod hoarding;
 #[cfg(test)]
-mod narrow;
+mod low_memory_input;
 #[cfg(test)]
 mod plays;

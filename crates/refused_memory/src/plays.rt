@@ -1,8 +1,8 @@
 //! Tests of plays with too little memory for one line. The line must be answered `S31` and change nothing, or the play
 //! must end with `OutOfMemory` after the answers to the lines before it. The commands of `fc` are tested in the same
 //! way by tools/faults.py, one allocation at a time.
-use crate::hoarding::{TURNS, leave_few, room_of};
-use crate::narrow::Narrow;
+use crate::hoarding::{TURNS, room_of, take_but_64_mib};
+use crate::low_memory_input::LowMemoryInput;
 use console::playing::play;
 use line_session::SessionFault;
 use site_config::ranges::read_config;
@@ -18,8 +18,9 @@ const STATION: &str =
     "tills = 2\nprice_slot = 2\nprices = [1799, 1849, 0, 0, 0, 0, 0, 0]\n[[point]]\nrelease = 0\npreset = 1\n\
         [[point]]\nrelease = 0\npreset = 1\n[[counter]]\nvalue = 0\nbound = 2\n";
 
-// The list of the history begins with memory for four entries, and is made larger for the fifth. In this script the
-// fifth entry is the release, which is granted when it is sent again.
+// The list of a site's entries has memory for four at first, and must grow for the fifth. In this script, the fifth
+// entry is the first release. If there is no memory to grow the list, the first release is refused, and the second is
+// granted.
 const RELEASE: &str =
     "load 0 0 79101800000000009500000000000000\ntill 1 show 1\ntill 1 show 1\ntill 1 open 1\n\
         till 1 release 1 8000\ntill 1 release 1 8000\n";
@@ -33,8 +34,8 @@ const DELIVERY: &str =
         disp 1 started\ndisp 1 flow 2500 1390\ndisp 1 down\ntill 1 lock 1 1\ntill 2 lock 1 1\ntill 2 clear 1 1\n\
         till 1 clear 1 1\ntill 1 clear 1 1\ntill 1 show 1\n";
 
-/// How a play ended, and what it wrote. `is_done` says that it ended without a fault, and `is_out_of_memory` that it
-/// ended with `OutOfMemory`. Both are false after any other fault.
+/// How a play ended, and what it wrote. `is_done` is whether it ended without a fault, and `is_out_of_memory` whether
+/// it ended with `OutOfMemory`. Both are false after any other fault.
 #[derive(Drop)]
 struct Outcome {
     text: Vec<u8>,
@@ -42,7 +43,12 @@ struct Outcome {
     is_done: bool,
 }
 
-fn outcome_of(alloc: Global, config: Config, mut input: Narrow, mut output: MemoryOut) -> Outcome {
+fn outcome_of(
+    alloc: Global,
+    config: Config,
+    mut input: LowMemoryInput,
+    mut output: MemoryOut,
+) -> Outcome {
     let ended = play(alloc, config, &mut input, &mut output);
     drop(input);
     Outcome {
@@ -54,10 +60,15 @@ fn outcome_of(alloc: Global, config: Config, mut input: Narrow, mut output: Memo
 
 /// Makes an input that gives a script, and leaves only `size` bytes of memory during line number `line`, counted from
 /// 0. Returns `None` if there is too little memory for the script.
-fn narrow(alloc: Global, script: &[u8], line: usize, size: usize) -> Option<Narrow> {
+fn low_memory_input(
+    alloc: Global,
+    script: &[u8],
+    line: usize,
+    size: usize,
+) -> Option<LowMemoryInput> {
     let bytes = Vec::from_slice(alloc, script).ok()?;
     let input = MemoryIn::new(bytes, Vec::new(alloc), None);
-    Some(Narrow::new(alloc, input, line, size))
+    Some(LowMemoryInput::new(alloc, input, line, size))
 }
 
 /// Makes an output that takes up to 65,536 bytes of answers without allocating. Returns `None` if there is too little
@@ -74,22 +85,22 @@ fn output(alloc: Global) -> Option<MemoryOut> {
 fn played(alloc: Global, site: &str, script: &[u8], line: usize, size: usize) -> Option<Outcome> {
     let config = read_config(alloc, site.as_bytes()).ok()?.config;
     let output = output(alloc)?;
-    let input = narrow(alloc, script, line, size)?;
+    let input = low_memory_input(alloc, script, line, size)?;
     Some(outcome_of(alloc, config, input, output))
 }
 
-/// The two texts that a play is allowed to write: `whole` if no memory is refused, and `told` if the line for which
-/// there was little memory is answered `S31` and changes nothing.
+/// What a play must write if it ends without a fault: `whole` if all lines have enough memory, and `text_if_refused` if
+/// the line for which there is little memory is answered `S31` and changes nothing.
 #[derive(Drop)]
-struct Wanted {
+struct ExpectedTexts {
     whole: Vec<u8>,
-    told: Vec<u8>,
+    text_if_refused: Vec<u8>,
 }
 
 /// What happened to the line for which there was little memory: it was answered as with enough memory (`Answered`), it
 /// was answered `S31` and changed nothing (`Refused`), or it wasn't answered (`Ended`).
 #[derive(Clone, Copy)]
-enum Became {
+enum LineOutcome {
     Answered,
     Refused,
     /// The play ended with `OutOfMemory`, after the answers to the lines before this one.
@@ -98,18 +109,18 @@ enum Became {
 
 /// Returns what happened to line number `line`, counted from 0, for which there was little memory. Returns `None` if
 /// the play wrote something wrong, or if it ended with another fault than `OutOfMemory`.
-fn what_became(found: &Outcome, wanted: &Wanted, line: usize) -> Option<Became> {
+fn line_outcome(found: &Outcome, wanted: &ExpectedTexts, line: usize) -> Option<LineOutcome> {
     let text = found.text.as_slice();
     if found.is_out_of_memory {
-        return (text == first_lines(&wanted.whole, line)).then_some(Became::Ended);
+        return (text == first_lines(&wanted.whole, line)).then_some(LineOutcome::Ended);
     }
     if !found.is_done {
         return None;
     }
     if text == wanted.whole.as_slice() {
-        return Some(Became::Answered);
+        return Some(LineOutcome::Answered);
     }
-    (text == wanted.told.as_slice()).then_some(Became::Refused)
+    (text == wanted.text_if_refused.as_slice()).then_some(LineOutcome::Refused)
 }
 
 /// Returns the first `lines` lines of a text with their LFs, or the whole text if it has fewer lines.
@@ -126,8 +137,8 @@ fn first_lines(text: &[u8], lines: usize) -> &[u8] {
     text
 }
 
-/// Returns the text with `put` in place of the `less` lines from line number `line` on, counted from 0. A line in `put`
-/// has its LF. Returns `None` if memory ran out.
+/// Returns `text` with `less` of its lines, from line number `line` on, replaced by the lines in `put`. Lines are
+/// counted from 0. Each line in `put` must end with an LF. Returns `None` if memory ran out.
 fn changed(alloc: Global, text: &[u8], line: usize, put: &[u8], less: usize) -> Option<Vec<u8>> {
     let behind = first_lines(text, line.wrapping_add(less));
     let mut all = Vec::from_slice(alloc, first_lines(text, line)).ok()?;
@@ -138,39 +149,39 @@ fn changed(alloc: Global, text: &[u8], line: usize, put: &[u8], less: usize) -> 
 
 /// Returns what a play writes if line number `line`, counted from 0, is answered `S31` and changes nothing, and each
 /// other line has enough memory. Returns `None` if the configuration can't be read, or if memory ran out.
-fn told_without(alloc: Global, site: &str, script: &str, line: usize) -> Option<Vec<u8>> {
+fn refused_play_text(alloc: Global, site: &str, script: &str, line: usize) -> Option<Vec<u8>> {
     let less = changed(alloc, script.as_bytes(), line, b"", 1)?;
     let found = played(alloc, site, &less, script.len(), 0)?;
     changed(alloc, &found.text, line, b"S31\n", 0)
 }
 
-fn wanted_of(alloc: Global, site: &str, script: &str, line: usize) -> Option<Wanted> {
-    let told = told_without(alloc, site, script, line)?;
+fn wanted_of(alloc: Global, site: &str, script: &str, line: usize) -> Option<ExpectedTexts> {
+    let text_if_refused = refused_play_text(alloc, site, script, line)?;
     let found = played(alloc, site, script.as_bytes(), script.len(), 0)?;
-    Some(Wanted {
+    Some(ExpectedTexts {
         whole: found.text,
-        told,
+        text_if_refused,
     })
 }
 
-/// Plays a script again and again, each time with more bytes of memory left free during line number `line`, counted
-/// from 0, until that line has enough memory. Returns how often this line was answered `S31`, and how often the play
-/// ended with `OutOfMemory`. Returns `None` if a play wrote something wrong or ended with another fault, if the line
-/// never had enough memory, or if memory ran out before a play.
+/// Plays a script again and again, each time with more memory free during line number `line`, counted from 0, until
+/// that line has enough. Returns how often the line was answered `S31`, and how often the play ended with
+/// `OutOfMemory`. Returns `None` if a play can't begin, writes something wrong or ends with another fault, or if the
+/// line never has enough memory.
 fn count_refusals(
     alloc: Global,
     site: &str,
     script: &str,
     line: usize,
-    wanted: &Wanted,
+    wanted: &ExpectedTexts,
 ) -> Option<(u32, u32)> {
     let (mut refused, mut ended) = (0u32, 0u32);
     for turn in 0..TURNS {
         let found = played(alloc, site, script.as_bytes(), line, room_of(turn))?;
-        match what_became(&found, wanted, line)? {
-            Became::Answered => return Some((refused, ended)),
-            Became::Refused => refused = refused.wrapping_add(1),
-            Became::Ended => ended = ended.wrapping_add(1),
+        match line_outcome(&found, wanted, line)? {
+            LineOutcome::Answered => return Some((refused, ended)),
+            LineOutcome::Refused => refused = refused.wrapping_add(1),
+            LineOutcome::Ended => ended = ended.wrapping_add(1),
         }
     }
     None
@@ -178,13 +189,13 @@ fn count_refusals(
 
 fn refused_at(alloc: Global, site: &str, script: &str, line: usize) -> Option<(u32, u32)> {
     let wanted = wanted_of(alloc, site, script, line)?;
-    let _few = leave_few(alloc)?;
+    let _few = take_but_64_mib(alloc)?;
     count_refusals(alloc, site, script, line, &wanted)
 }
 
-/// Tries each of the first `lines` lines of a script in turn. Returns for how many lines the answer was `S31` at least
-/// once, and for how many the play ended with `OutOfMemory` at least once. Returns `None` if `count_refusals` returns
-/// `None` for a line, or if memory ran out elsewhere.
+/// Plays a script with little memory for one line, for each of its first `lines` lines in turn. Returns for how many
+/// lines the answer was `S31` at least once, and for how many the play ended with `OutOfMemory` at least once. Returns
+/// `None` if `refused_at` returns `None` for a line.
 fn refused_in(alloc: Global, site: &str, script: &str, lines: usize) -> Option<(u32, u32)> {
     let (mut wanted, mut ended) = (0u32, 0u32);
     for line in 0..lines {
@@ -199,7 +210,7 @@ fn refused_in(alloc: Global, site: &str, script: &str, lines: usize) -> Option<(
     Some((wanted, ended))
 }
 
-// Tests three scripts: a release that is sent again, presets that count, and a delivery.
+// Tests three scripts: a release that is sent twice, presets that are decided by a rule with a counter, and a delivery.
 #[test]
 fn each_growth_refused(rt: HostRuntime) -> Result<(), Fail> {
     for (site, script, lines) in [

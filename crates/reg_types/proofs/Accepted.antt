@@ -1,4 +1,4 @@
--- If no reached instruction of a program has a flaw, then the facts that are inferred of its units cover the program.
+-- If no reached instruction of a program has a flaw, then the facts that are inferred for its units cover the program.
 use Rattle.std.proofs.Common.{◌≡◌, ◌≢◌, ℕ, zero, suc, ◌<◌, ◌≤◌, List, [], ◌∷◌, Option, Some, None, refl, sym, ap, ◌∙◌, subst, inl, inr, arith, length}
 use Rattle.std.specs.Prelude.{Result, Ok, Err, IsSome, ◌==◌, slice_get, ⊤}
 use Rattle.std.specs.List.{AllByRecursion}
@@ -17,7 +17,7 @@ use Rattle.reg_types.specs.Effects.{Effect}
 use Rattle.reg_types.specs.declared.types.Flaw.{Flaw}
 use Rattle.reg_types.specs.declared.refusal.TypeFault.{TypeFault}
 use Rattle.reg_types.specs.Facts.{IsBelow, IsSound, IsTyped, Enters, Covers, IsCovered}
-use Rattle.reg_types.specs.Inference.{leads, join_fact, entry_fact, fact_after, form_with, instruction_of, instruction_at, ruled, flaw_in, flaw_of, flaw_under}
+use Rattle.reg_types.specs.Inference.{successor_units, join_fact, entry_fact, fact_after, form_with, instruction_of, instruction_at, ruled, flaw_in, flaw_of, flaw_under}
 use Rattle.reg_types.specs.Inference.{taken_in, arrived, arrived_all, passed_by, passed_from, passed, known, inferred, or_else, first_flaw_below, first_flaw}
 use Rattle.operations.specs.Operations.{upper_of}
 use Rattle.reg_types.proofs.Good.{judged_is, good}
@@ -152,7 +152,7 @@ module _ (us : List ProgramUnit) (options : LoadOptions) where
 
   from_wider : (pc : ℕ) (fact : Fact) (o : Option (Inst × Form)) (q : ℕ) (old : Option Fact) → IsWider old (passed_from us options pc fact o q old)
   from_wider pc fact None q old = IsWider-refl old
-  from_wider pc fact (Some x) q old = by_wider q fact (ruled us options pc fact x) (leads pc x.0 x.1) old
+  from_wider pc fact (Some x) q old = by_wider q fact (ruled us options pc fact x) (successor_units pc x.0 x.1) old
 
   passed_wider : (pc : ℕ) (here : Option Fact) (q : ℕ) (old : Option Fact) → IsWider old (passed us options pc here q old)
   passed_wider pc None q old = IsWider-refl old
@@ -171,39 +171,23 @@ module _ (us : List ProgramUnit) (options : LoadOptions) where
 
   module _ (sound : IsSound us) where
     ahead_of : (pc : ℕ) (fact : Fact) (x : Inst × Form) (e : Effect) → instruction_at us pc ≡ Some x → ruled us options pc fact x ≡ Ok e
-        → (tos : List ℕ) × (leads pc x.0 x.1 ≡ Some tos) × AllByRecursion (IsAhead us pc) tos
+        → (tos : List ℕ) × (successor_units pc x.0 x.1 ≡ Some tos) × AllByRecursion (IsAhead us pc) tos
     ahead_of pc fact x e at j =
         let is = instruction_is (slice_get us pc) x at in
         leads_ahead sound.bytes us sound.reads pc x.0 is.0 sound.forward x.1 is.1 (judged_is (length us) pc options fact x.0 (upper_of us pc) x.1 e j).0
-
-    behind_by : (pc q : ℕ) (fact : Fact) (x : Inst × Form) (r : Result Effect Flaw) → q ≤ pc → instruction_at us pc ≡ Some x → ruled us options pc fact x ≡ r
-        → (old : Option Fact) → passed_by q fact r (leads pc x.0 x.1) old ≡ old
-    behind_by pc q fact x (Err flaw) l at j old = refl
-    behind_by pc q fact x (Ok e) l at j old =
-        let a = ahead_of pc fact x e at j in
-        ap (λ o. passed_by q fact (Ok e) o old) a.1 ∙ behind us pc q (fact_after fact e) l a.0 a.2 old
-
-    behind_from : (pc q : ℕ) (fact : Fact) (o : Option (Inst × Form)) → q ≤ pc → instruction_at us pc ≡ o → (old : Option Fact)
-        → passed_from us options pc fact o q old ≡ old
-    behind_from pc q fact None l at old = refl
-    behind_from pc q fact (Some x) l at old = behind_by pc q fact x (ruled us options pc fact x) l at refl old
-
-    pub passed_behind : (pc q : ℕ) (here : Option Fact) → q ≤ pc → (old : Option Fact) → passed us options pc here q old ≡ old
-    passed_behind pc q None l old = refl
-    passed_behind pc q (Some fact) l old = behind_from pc q fact (instruction_at us pc) l refl old
 
     -- ---- each reached unit is well typed
 
     -- if the instruction of unit pc is accepted, the fact after it is joined into what is known of each unit that it
     -- leads to
     past_is : (pc q : ℕ) (fact : Fact) (x : Inst × Form) (e : Effect) (tos : List ℕ) → inferred us options pc ≡ Some fact → instruction_at us pc ≡ Some x
-        → ruled us options pc fact x ≡ Ok e → leads pc x.0 x.1 ≡ Some tos
+        → ruled us options pc fact x ≡ Ok e → successor_units pc x.0 x.1 ≡ Some tos
         → known us options (suc pc) q ≡ arrived_all q (fact_after fact e) tos (known us options pc q)
     unfolding known
     past_is pc q fact x e tos h at j to =
         ap (λ o. passed us options pc o q (known us options pc q)) h
         ∙ ap (λ o. passed_from us options pc fact o q (known us options pc q)) at
-        ∙ ap (λ r. passed_by q fact r (leads pc x.0 x.1) (known us options pc q)) j
+        ∙ ap (λ r. passed_by q fact r (successor_units pc x.0 x.1) (known us options pc q)) j
         ∙ ap (λ o. passed_by q fact (Ok e) o (known us options pc q)) to
 
     enters_from : (fact : Fact) (to : ℕ) → IsWider (Some fact) (inferred us options to) → Enters (inferred us options) fact to

@@ -1,4 +1,4 @@
--- The typing rules accept every plain program.
+-- The typing rules accept every plain program (one that works on R0 and the context only).
 use Rattle.std.proofs.Common.{◌≡◌, ℕ, zero, suc, ◌+◌, ◌-◌, ◌*◌, ◌^◌, ◌<◌, ◌≤◌, List, [], ◌∷◌, Option, Some, None, Bool, true, false, refl, sym, ap, ◌∙◌, subst}
 use Rattle.std.proofs.Common.{inl, inr, arith, length}
 use Rattle.std.specs.Prelude.{Result, Ok, Err, IsSome, ℤ, nat_le, slice_get, slice_set, ◌==◌, cond, ⊤}
@@ -32,9 +32,9 @@ use Rattle.reg_types.specs.declared.types.Flaw.{Flaw}
 use Rattle.reg_types.specs.declared.types.Flaw.TheVariants.{FallsOff, NotANumber}
 use Rattle.reg_types.specs.declared.types.Fact.{Fact}
 use Rattle.reg_types.specs.Effects.{Effect}
-use Rattle.reg_types.specs.Rules.{type_at, is_numeric, is_plain, one_number, two_numbers, alu_type, unmarked, set_type, load_type, loaded_type, number_at}
-use Rattle.reg_types.specs.Rules.{compared, exited, effect, falls_off, judged, join_type}
-use Rattle.reg_types.specs.Inference.{leads, join_types, entry_fact, fact_after, instruction_at, ruled, flaw_in, flaw_of, flaw_under, taken_in, arrived}
+use Rattle.reg_types.specs.Rules.{type_at, is_numeric, is_zero_offset, one_number, two_numbers, alu_type, unmarked, set_type, load_type, loaded_type, number_at}
+use Rattle.reg_types.specs.Rules.{compared, exited, effect, falls_off, checked_effect, join_type}
+use Rattle.reg_types.specs.Inference.{successor_units, join_types, entry_fact, fact_after, instruction_at, ruled, flaw_in, flaw_of, flaw_under, taken_in, arrived}
 use Rattle.reg_types.specs.Inference.{arrived_all, passed_by, passed_from, passed, known, inferred, or_else, first_flaw_below}
 use Rattle.operations.specs.Operations.{upper_of}
 use Rattle.reg_types.specs.Plain.{IsPlainForm, SetsFirst, LoadsArgument, ArePlainUnits}
@@ -90,7 +90,7 @@ numbers_ok layout Add w i (Stk k) n h = absurd (cc)
 numbers_ok layout Sub w i Unset n h = absurd (cc)
 numbers_ok layout Sub w i (Ctx k) n h = absurd (cc)
 numbers_ok layout Sub w i (Stk k) n h = absurd (cc)
-numbers_ok layout Mov w i a n h = plain_move (is_plain i.offset) (low w (immediate w i.imm))
+numbers_ok layout Mov w i a n h = plain_move (is_zero_offset i.offset) (low w (immediate w i.imm))
 numbers_ok layout Neg w i a n h = gives (one_number i.dst a) (one_ok i.dst a h)
 numbers_ok layout SwapBytes w i a n h = gives (one_number i.dst a) (one_ok i.dst a h)
 numbers_ok layout op w i a n h = gives (two_numbers i.dst i.src a (Const n)) (two_ok i.dst i.src n a h)
@@ -180,7 +180,7 @@ first_effect options fact i upper (Load size) l b f s = loaded_first options.lay
 first_effect options fact i upper (LoadSigned size) l b f s = load_first options.layout fact i size f l b
 first_effect options fact i upper (Arithmetic Mov w Immediate) l b f s =
     set_dst fact.types i.dst (alu_type options.layout Mov w Immediate i (type_at fact.types i.dst) (Const (immediate w i.imm))) f l b
-    (plain_move (is_plain i.offset) (low w (immediate w i.imm)))
+    (plain_move (is_zero_offset i.offset) (low w (immediate w i.imm)))
 first_effect options fact i upper (Arithmetic Mov w Register) l b f s = absurd s
 first_effect options fact i upper (Arithmetic op w source) l b f s = absurd s
 first_effect options fact i upper Ja l b f s = absurd s
@@ -219,10 +219,6 @@ plain_join a b j l e p q =
 
 forms_same : (f g : Form) (o : Option Form) → o ≡ Some f → o ≡ Some g → f ≡ g
 forms_same f g o a b = cc
-
-is_exit : Form → Bool
-is_exit Exit = true
-is_exit form = false
 
 module _ (bytes : List ℕ) (us : List ProgramUnit) (options : LoadOptions) (reads : units bytes ≡ Some us) (plain : ArePlainUnits options.layout us) (pc : ℕ) (i : Inst)
     (at : slice_get us pc ≡ Some (First i)) where
@@ -269,12 +265,12 @@ module _ (bytes : List ℕ) (us : List ProgramUnit) (options : LoadOptions) (rea
   stays_on Call is = no_exit Call is (λ e. cc)
 
   accepted : (fact : Fact) (upper : ℤ) (form : Form) → form_of i.opcode ≡ Some form → Accepted (effect options fact i upper form)
-      → Accepted (judged (length us) pc options fact i upper form)
+      → Accepted (checked_effect (length us) pc options fact i upper form)
   accepted fact upper form is x =
       (x.0, ap (λ b. cond b (Err FallsOff) (effect options fact i upper form)) (stays_on form is) ∙ x.1, x.2)
 
   plain_here : (fact : Fact) (upper : ℤ) (form : Form) → form_of i.opcode ≡ Some form → PlainTypesAt pc fact.types
-      → Accepted (judged (length us) pc options fact i upper form)
+      → Accepted (checked_effect (length us) pc options fact i upper form)
   plain_here fact upper form is (inr p) =
       accepted fact upper form is (plain_effect options fact i upper form p (plain.each pc i form at is))
   plain_here fact upper form is (inl z) =
@@ -342,7 +338,7 @@ module _ (us : List ProgramUnit) (options : LoadOptions) (all : AcceptsAll us op
   passed_plain pc q fact None old p at before = before
   passed_plain pc q fact (Some x) old p at before =
       let r = ruled_plain pc fact x p at in
-      subst (λ e. PlainOption (passed_by q fact e (leads pc x.0 x.1) old)) (sym r.1) (plain_by q fact r.0 (leads pc x.0 x.1) old r.2 before)
+      subst (λ e. PlainOption (passed_by q fact e (successor_units pc x.0 x.1) old)) (sym r.1) (plain_by q fact r.0 (successor_units pc x.0 x.1) old r.2 before)
 
   plain_past : (pc q : ℕ) (here old : Option Fact) → PlainKnown pc here → PlainOption old → PlainOption (passed us options pc here q old)
   plain_past pc q None old p before = before

@@ -15,7 +15,7 @@ use Rattle.bpf_model.specs.Machine.{and_then}
 use Rattle.bpf_model.specs.Flow.{IsAhead, GoesForward, distance_at, distance_of, distance_by}
 use Rattle.bpf_model.proofs.Reading.{units_at, inst_at, small_registers, count_of_units}
 use Rattle.reg_types.specs.Rules.{falls_off}
-use Rattle.reg_types.specs.Inference.{leads, option_cons}
+use Rattle.reg_types.specs.Inference.{successor_units, option_cons}
 
 first_unit : (b : Bool) (i j : Inst) (v : ℤ) → cond b (First i) (Second v) ≡ First j → (b ≡ true) × (i ≡ j)
 first_unit true i j v e = (refl, cc)
@@ -67,7 +67,7 @@ module _ (bytes : List ℕ) (us : List ProgramUnit) (reads : units bytes ≡ Som
 
   -- an instruction that can't run past the last unit leads only to later units at which instructions begin
   pub leads_ahead : GoesForward us → (form : Form) → form_of i.opcode ≡ Some form → falls_off (length us) pc form ≡ false
-      → (tos : List ℕ) × (leads pc i form ≡ Some tos) × AllByRecursion (IsAhead us pc) tos
+      → (tos : List ℕ) × (successor_units pc i form ≡ Some tos) × AllByRecursion (IsAhead us pc) tos
   leads_ahead f Exit is more = ([], refl, tt)
   leads_ahead f Ja is more =
       let j = f.jumps pc i.offset (distance_is Ja i.offset is refl) in
@@ -106,7 +106,3 @@ there bytes us pc i reads at =
 -- an instruction begins at the first unit
 pub first_there : (bytes : List ℕ) (us : List ProgramUnit) → units bytes ≡ Some us → (i : Inst) × (slice_get us 0 ≡ Some (First i))
 first_there bytes us reads = let n = count_of_units bytes us reads in begins_first bytes us 0 reads refl n.0
-
-pub all_inside : (us : List ProgramUnit) (pc n : ℕ) (tos : List ℕ) → n ≡ length us → AllByRecursion (IsAhead us pc) tos → AllByRecursion (λ to. to < n) tos
-all_inside us pc n [] e h = tt
-all_inside us pc n (to ∷ tos) e h = (let l = h.0.inside in omega (arith, e, l), all_inside us pc n tos e h.1)

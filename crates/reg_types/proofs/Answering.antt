@@ -1,4 +1,4 @@
--- Which refusal `verify` returns, and that what it states of the program is true.
+-- Which refusal `verify` returns, and what is then true of the program.
 use Rattle.std.proofs.Common.{◌≡◌, ◌≢◌, ℕ, zero, suc, ◌⊎◌, List, Option, Some, None, Bool, true, false, refl, sym, ap, ◌∙◌, inl, inr, length}
 use Rattle.std.specs.Prelude.{Result, Ok, Err, ◌/◌, ◌&&◌, cond, is_none, slice_get}
 use Rattle.bpf_model.specs.declared.instruction.Inst.{Inst}
@@ -6,14 +6,14 @@ use Rattle.bpf_model.specs.declared.instruction.Form.{Form}
 use Rattle.bpf_model.specs.declared.instruction.Unit.{Unit as ProgramUnit}
 use Rattle.bpf_model.specs.declared.instruction.UnitFault.{UnitFault}
 use Rattle.bpf_model.specs.declared.instruction.JumpFault.{JumpFault}
-use Rattle.bpf_model.specs.Reading.{units, units_below, has_right_length, fault_below}
+use Rattle.bpf_model.specs.Reading.{units, units_below, has_valid_length, fault_below}
 use Rattle.bpf_model.specs.Flow.{flow_fault}
 use Rattle.bpf_decode.specs.declared.DecodeFault.{DecodeFault}
 use Rattle.bpf_decode.specs.declared.DecodeFault.TheVariants.{Length, BadOpcode, BadField, BadRegister, HalfWide, OutOfMemory as NoMemoryToDecode}
-use Rattle.bpf_decode.specs.Faults.{BeginRight, IsRefusedFor}
+use Rattle.bpf_decode.specs.Faults.{HasValidFirstUnit, IsRefusedFor}
 use Rattle.flow_check.specs.declared.FlowFault.{FlowFault}
 use Rattle.flow_check.specs.declared.FlowFault.TheVariants.{BackwardJump, JumpOut, JumpIntoWide, OutOfMemory as NoMemoryForFlow}
-use Rattle.flow_check.specs.Faults.{IsShown as IsFlowShown}
+use Rattle.flow_check.specs.Faults.{IsFirstFlowFault as IsFlowFaultOf}
 use Rattle.reg_types.specs.declared.types.LoadOptions.{LoadOptions}
 use Rattle.reg_types.specs.LoadOptions.{loaded_on}
 use Rattle.reg_types.specs.declared.types.Fact.{Fact}
@@ -22,16 +22,16 @@ use Rattle.reg_types.specs.declared.types.Flaw.{Flaw}
 use Rattle.reg_types.specs.declared.refusal.TypeFault.{TypeFault}
 use Rattle.reg_types.specs.declared.refusal.Refusal.{Refusal}
 use Rattle.reg_types.specs.declared.refusal.Refusal.TheVariants.{Decode, Flow, «Type» as TypeRefusal, OutOfMemory}
-use Rattle.reg_types.specs.Refusals.{located, shown_by}
+use Rattle.reg_types.specs.Refusals.{located, refusal_numbers}
 use Rattle.reg_types.specs.Inference.{instruction_at, ruled, flaw_in, flaw_of, flaw_under, inferred, or_else, first_flaw_below, first_flaw}
 use Rattle.operations.specs.Operations.{upper_of}
-use Rattle.reg_types.specs.Passing.{IsPassRefused, IsToldAlone, decode_told}
-use Rattle.reg_types.specs.Shown.{IsTypeShown, IsRefused, IsRefusal, unit_refusal, decode_refusal, flow_refusal, type_refusal, code_refusal, or_refused}
-use Rattle.reg_types.specs.Shown.{refusal_of, OneAnswer}
+use Rattle.reg_types.specs.Passing.{IsPassRefused, WrapsNoOutOfMemory, decode_fault_refusal}
+use Rattle.reg_types.specs.RefusedPrograms.{IsPossibleTypeFault, IsRefused, IsRefusal, unit_refusal, decode_refusal, flow_refusal, type_refusal, code_refusal, or_refused}
+use Rattle.reg_types.specs.RefusedPrograms.{refusal_of, OneAnswer}
 use Rattle.reg_types.specs.Plain.{IsPlain}
 use Rattle.reg_types.proofs.Accepting.{plain_accepts, plain_flawless}
 use Rattle.reg_types.proofs.Accepted.{instruction_is}
-use Rattle.reg_types.proofs.Showing.{judged_shows}
+use Rattle.reg_types.proofs.Showing.{checked_effect_shows}
 
 -- ---- where the first flaw is
 
@@ -61,7 +61,7 @@ decoded_by us false o below e = absurd (cc)
 
 module _ (bytes : List ℕ) (us : List ProgramUnit) (options : LoadOptions) (reads : units bytes ≡ Some us) (flows : flow_fault us ≡ None) where
   shown_of : (pc : ℕ) (fact : Fact) (o : Option (Inst × Form)) (fault : TypeFault) → instruction_at us pc ≡ o → flaw_of us options pc fact o ≡ Some fault
-      → IsTypeShown bytes fault
+      → IsPossibleTypeFault bytes fault
   shown_of pc fact None fault at e = absurd (cc)
   shown_of pc fact (Some x) fault at e =
       let is = instruction_is (slice_get us pc) x at in
@@ -76,21 +76,21 @@ module _ (bytes : List ℕ) (us : List ProgramUnit) (options : LoadOptions) (rea
         form = x.1;
         form_is = is.1;
         flaw = f.0;
-        shows = judged_shows (length us) pc options fact x.0 (upper_of us pc) x.1 f.0 f.1;
+        shows = checked_effect_shows (length us) pc options fact x.0 (upper_of us pc) x.1 f.0 f.1;
         fault_is = f.2;
       }
 
-  shown_under : (pc : ℕ) (o : Option Fact) (fault : TypeFault) → flaw_under us options pc o ≡ Some fault → IsTypeShown bytes fault
+  shown_under : (pc : ℕ) (o : Option Fact) (fault : TypeFault) → flaw_under us options pc o ≡ Some fault → IsPossibleTypeFault bytes fault
   shown_under pc None fault e = absurd (cc)
   shown_under pc (Some fact) fault e = shown_of pc fact (instruction_at us pc) fault refl e
 
-  type_shown : (fault : TypeFault) → first_flaw us options ≡ Some fault → IsTypeShown bytes fault
-  type_shown fault e = let k = flaw_at us options (length us) fault e in shown_under k.0 (inferred us options k.0) fault k.1
+  type_numbers : (fault : TypeFault) → first_flaw us options ≡ Some fault → IsPossibleTypeFault bytes fault
+  type_numbers fault e = let k = flaw_at us options (length us) fault e in shown_under k.0 (inferred us options k.0) fault k.1
 
   -- ---- which refusal is returned
 
   decoded : decode_refusal bytes ≡ None
-  decoded = decoded_by us (has_right_length bytes) (fault_below bytes (length bytes / 8)) (units_below bytes (length bytes / 8)) reads
+  decoded = decoded_by us (has_valid_length bytes) (fault_below bytes (length bytes / 8)) (units_below bytes (length bytes / 8)) reads
 
   flawed_is : (o : Option TypeFault) → first_flaw us options ≡ o → refusal_of (loaded_on bytes options) ≡ type_refusal o
   unfolding refusal_of
@@ -106,7 +106,7 @@ module _ (bytes : List ℕ) (us : List ProgramUnit) (options : LoadOptions) (rea
   pub pass_shown : (refusal : Refusal) → IsPassRefused us options refusal → IsRefused (loaded_on bytes options) refusal
   pass_shown (Decode fault) h = absurd h
   pass_shown (Flow fault) h = absurd h
-  pass_shown (TypeRefusal fault) h = type_shown fault h
+  pass_shown (TypeRefusal fault) h = type_numbers fault h
   pass_shown OutOfMemory h = tt
 
   pub pass_exact : (refusal : Refusal) → IsPassRefused us options refusal → IsRefusal (refusal_of (loaded_on bytes options)) refusal
@@ -115,7 +115,7 @@ module _ (bytes : List ℕ) (us : List ProgramUnit) (options : LoadOptions) (rea
   pass_exact (TypeRefusal fault) h = flawed_is (Some fault) h
   pass_exact OutOfMemory h = tt
 
-pub pass_alone : (us : List ProgramUnit) (options : LoadOptions) (refusal : Refusal) → IsPassRefused us options refusal → IsToldAlone refusal
+pub pass_alone : (us : List ProgramUnit) (options : LoadOptions) (refusal : Refusal) → IsPassRefused us options refusal → WrapsNoOutOfMemory refusal
 pass_alone us options (Decode fault) h = absurd h
 pass_alone us options (Flow fault) h = absurd h
 pass_alone us options (TypeRefusal fault) h = (λ e. absurd (cc), λ e. absurd (cc))
@@ -126,11 +126,11 @@ module _ (bytes : List ℕ) (options : LoadOptions) where
   unfolding refusal_of
   first_refused refusal e = ap (λ o. or_refused o (code_refusal options (units bytes))) e
 
-  unit_refused : (o : Option (ℕ × UnitFault)) → has_right_length bytes ≡ true → fault_below bytes (length bytes / 8) ≡ o → decode_refusal bytes ≡ unit_refusal o
+  unit_refused : (o : Option (ℕ × UnitFault)) → has_valid_length bytes ≡ true → fault_below bytes (length bytes / 8) ≡ o → decode_refusal bytes ≡ unit_refusal o
   unit_refused o right e =
       ap (λ t. cond t (unit_refusal (fault_below bytes (length bytes / 8))) (Some (Decode Length))) right ∙ ap unit_refusal e
 
-  pub decode_exact : (fault : DecodeFault) → IsRefusedFor bytes fault → IsRefusal (refusal_of (loaded_on bytes options)) (decode_told fault)
+  pub decode_exact : (fault : DecodeFault) → IsRefusedFor bytes fault → IsRefusal (refusal_of (loaded_on bytes options)) (decode_fault_refusal fault)
   decode_exact Length h = first_refused (Decode Length) (ap (λ t. cond t (unit_refusal (fault_below bytes (length bytes / 8))) (Some (Decode Length))) h)
   decode_exact (BadOpcode pc) h = first_refused (Decode (BadOpcode pc)) (unit_refused _ h.right_length h.first)
   decode_exact (BadField pc) h = first_refused (Decode (BadField pc)) (unit_refused _ h.right_length h.first)
@@ -138,24 +138,24 @@ module _ (bytes : List ℕ) (options : LoadOptions) where
   decode_exact (HalfWide pc) h = first_refused (Decode (HalfWide pc)) (unit_refused _ h.right_length h.first)
   decode_exact NoMemoryToDecode h = tt
 
-  pub decode_shown : (fault : DecodeFault) → IsRefusedFor bytes fault → IsRefused (loaded_on bytes options) (decode_told fault)
-  decode_shown Length h = h
-  decode_shown (BadOpcode pc) h = h
-  decode_shown (BadField pc) h = h
-  decode_shown (BadRegister pc) h = h
-  decode_shown (HalfWide pc) h = h
-  decode_shown NoMemoryToDecode h = tt
+  pub decode_numbers : (fault : DecodeFault) → IsRefusedFor bytes fault → IsRefused (loaded_on bytes options) (decode_fault_refusal fault)
+  decode_numbers Length h = h
+  decode_numbers (BadOpcode pc) h = h
+  decode_numbers (BadField pc) h = h
+  decode_numbers (BadRegister pc) h = h
+  decode_numbers (HalfWide pc) h = h
+  decode_numbers NoMemoryToDecode h = tt
 
   flow_is : (us : List ProgramUnit) (x : ℕ × JumpFault) → units bytes ≡ Some us → flow_fault us ≡ Some x
       → refusal_of (loaded_on bytes options) ≡ flow_refusal (Some x)
   unfolding refusal_of
   flow_is us x reads e =
       ap (λ r. or_refused r (code_refusal options (units bytes)))
-      (decoded_by us (has_right_length bytes) (fault_below bytes (length bytes / 8)) (units_below bytes (length bytes / 8)) reads)
+      (decoded_by us (has_valid_length bytes) (fault_below bytes (length bytes / 8)) (units_below bytes (length bytes / 8)) reads)
       ∙ ap (code_refusal options) reads
       ∙ ap (λ f. or_refused (flow_refusal f) (type_refusal (first_flaw us options))) e
 
-  pub flow_exact : (us : List ProgramUnit) (fault : FlowFault) → units bytes ≡ Some us → IsFlowShown us fault
+  pub flow_exact : (us : List ProgramUnit) (fault : FlowFault) → units bytes ≡ Some us → IsFlowFaultOf us fault
       → refusal_of (loaded_on bytes options) ≡ Some (Flow fault)
   flow_exact us (BackwardJump pc) reads h = flow_is us _ reads h
   flow_exact us (JumpOut pc) reads h = flow_is us _ reads h
@@ -177,7 +177,7 @@ module _ (bytes : List ℕ) (options : LoadOptions) where
   exact_plain (TypeRefusal fault) h p = other_refusal (TypeRefusal fault) h p
   exact_plain OutOfMemory h p = refl
 
-pub decode_alone : (fault : DecodeFault) → IsToldAlone (decode_told fault)
+pub decode_alone : (fault : DecodeFault) → WrapsNoOutOfMemory (decode_fault_refusal fault)
 decode_alone Length = (λ e. absurd (cc), λ e. absurd (cc))
 decode_alone (BadOpcode pc) = (λ e. absurd (cc), λ e. absurd (cc))
 decode_alone (BadField pc) = (λ e. absurd (cc), λ e. absurd (cc))
@@ -185,16 +185,16 @@ decode_alone (BadRegister pc) = (λ e. absurd (cc), λ e. absurd (cc))
 decode_alone (HalfWide pc) = (λ e. absurd (cc), λ e. absurd (cc))
 decode_alone NoMemoryToDecode = (λ e. absurd (cc), λ e. absurd (cc))
 
-pub flow_alone : (us : List ProgramUnit) (fault : FlowFault) → IsFlowShown us fault → IsToldAlone (Flow fault)
+pub flow_alone : (us : List ProgramUnit) (fault : FlowFault) → IsFlowFaultOf us fault → WrapsNoOutOfMemory (Flow fault)
 flow_alone us (BackwardJump pc) h = (λ e. absurd (cc), λ e. absurd (cc))
 flow_alone us (JumpOut pc) h = (λ e. absurd (cc), λ e. absurd (cc))
 flow_alone us (JumpIntoWide pc) h = (λ e. absurd (cc), λ e. absurd (cc))
 flow_alone us NoMemoryForFlow h = absurd h
 
-pub memory_alone : IsToldAlone OutOfMemory
+pub memory_alone : WrapsNoOutOfMemory OutOfMemory
 memory_alone = (λ e. absurd (cc), λ e. absurd (cc))
 
-pub begin_right : (bytes : List ℕ) (fault : DecodeFault) → IsRefusedFor bytes fault → shown_by (decode_told fault) ≡ None → BeginRight bytes
+pub begin_right : (bytes : List ℕ) (fault : DecodeFault) → IsRefusedFor bytes fault → refusal_numbers (decode_fault_refusal fault) ≡ None → HasValidFirstUnit bytes
 begin_right bytes Length h e = absurd (cc)
 begin_right bytes (BadOpcode pc) h e = absurd (cc)
 begin_right bytes (BadField pc) h e = absurd (cc)
@@ -202,8 +202,8 @@ begin_right bytes (BadRegister pc) h e = absurd (cc)
 begin_right bytes (HalfWide pc) h e = absurd (cc)
 begin_right bytes NoMemoryToDecode h e = h
 
--- if `BeginRight` holds of bytes, their length isn't wrong: with a wrong length, any P would follow
-pub never_wrong : (P : Type 0) (bytes : List ℕ) → BeginRight bytes → has_right_length bytes ≡ false → P
+-- if `HasValidFirstUnit` holds of bytes, their length isn't wrong: with a wrong length, any P would follow
+pub never_wrong : (P : Type 0) (bytes : List ℕ) → HasValidFirstUnit bytes → has_valid_length bytes ≡ false → P
 never_wrong P bytes right wrong = let never : true ≡ false = sym right.right_length ∙ wrong in absurd (cc)
 
 pub fault_of_err : {T : Type 0} (a : DecodeFault) → (let told : Result T DecodeFault = Err a in told ≡ Err Length) → a ≡ Length

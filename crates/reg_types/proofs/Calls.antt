@@ -1,4 +1,4 @@
--- A well typed call is answered, and changes only declared counters.
+-- A well typed call of a helper has a result, and changes only declared counters.
 use Rattle.std.proofs.Common.{◌≡◌, ℕ, ◌+◌, ◌-◌, ◌<◌, ◌≤◌, List, [], ◌++◌, Option, Some, None, Bool, true, false, refl, sym, ap, ◌∙◌, subst, inl, inr, arith}
 use Rattle.std.proofs.Common.{length, length-append}
 use Rattle.std.specs.Prelude.{Result, Ok, Err, pos, ◌^◌, ◌/◌, ◌%◌, ◌==◌, ◌&&◌, cond, nat_le, is_some, slice_set, slice_index_or}
@@ -13,7 +13,7 @@ use Rattle.bpf_model.specs.declared.machine.View.{View}
 use Rattle.bpf_model.specs.declared.machine.PointView.{PointView}
 use Rattle.bpf_model.specs.declared.machine.Helper.{Helper}
 use Rattle.bpf_model.specs.declared.machine.Helper.TheVariants.{CounterGet, CounterAdd, CounterTake, PointState, PointRecord, PriceOf}
-use Rattle.bpf_model.specs.Machine.{Counters, counter, counter_argument, Answer, answer, added, taken, written, record_bytes, record_place, map_option}
+use Rattle.bpf_model.specs.Machine.{Counters, counter, counter_argument, HelperResult, answer, added, taken, written, record_bytes, record_place, map_option}
 use Rattle.bpf_model.specs.Machine.{and_then, number, shifted, point, point_or_zero, is_there, price}
 use Rattle.bpf_model.specs.Runs.{AreCounters}
 use Rattle.helpers.specs.declared.Kind.{Kind}
@@ -81,16 +81,16 @@ changes_set declared counters c v bit l =
 le_from : (m n : ℕ) → nat_le m n ≡ true → m ≤ n
 le_from m n e = grind (arith, nat_tests)
 
--- A call is answered. It changes only declared counters, and writes `bytes` to the stack from `at` on, as its effect e
--- states.
-pub record Answered (declared : ℕ) (types : List RegType) (view : View) (counters : Counters) (stack : List Cell) (given : Option Answer)
+-- A call is answered: it has a result. It changes only declared counters, and writes `bytes` to the stack from `at` on,
+-- as its effect e states.
+pub record Answered (declared : ℕ) (types : List RegType) (view : View) (counters : Counters) (stack : List Cell) (given : Option HelperResult)
     (e : Effect) : Type 0 where
-  pub reply : Answer
+  pub reply : HelperResult
   pub there : given ≡ Some reply
   pub changes : Changes declared counters reply.counters
   pub at : ℕ
   pub bytes : List ℕ
-  pub marks : record { types = after_call types; at = at; len = length bytes; kept = Anything } ≡ e
+  pub marks : record { types = after_call types; at = at; len = length bytes; spilled = Anything } ≡ e
   pub stack_is : reply.stack ≡ written stack at bytes
   pub inside : at + length bytes ≤ 512
 
@@ -162,11 +162,11 @@ length-record p =
 
 module _ (declared : ℕ) (types : List RegType) (view : View) (va vb : Value) (counters : Counters) (stack : List Cell) (a b : RegType) (fa : FitsType a va)
     (fb : FitsType b vb) where
-  abbrev record_reply : ℕ → ℕ → Answer
+  abbrev record_reply : ℕ → ℕ → HelperResult
   record_reply f at = record { value = is_there (point view f); counters = counters; stack = written stack at (record_bytes (point_or_zero (point view f))) }
 
   abbrev record_effect : ℕ → ℕ → Effect
-  record_effect at len = record { types = after_call types; at = at; len = len; kept = Anything }
+  record_effect at len = record { types = after_call types; at = at; len = len; spilled = Anything }
 
   abbrev first_of_two : Helper → Kind
   first_of_two h = kind_at (kinds h) 0
@@ -175,14 +175,14 @@ module _ (declared : ℕ) (types : List RegType) (view : View) (va vb : Value) (
   second_of_two h = kind_at (kinds h) 1
 
   -- a call is answered as its effect states if the call leaves the stack as it was
-  plainly : (given : Option Answer) (e : Effect) (reply : Answer) → given ≡ Some reply → Changes declared counters reply.counters → reply.stack ≡ stack
+  plainly : (given : Option HelperResult) (e : Effect) (reply : HelperResult) → given ≡ Some reply → Changes declared counters reply.counters → reply.stack ≡ stack
       → unmarked (after_call types) ≡ e → Answered declared types view counters stack given e
   plainly given e reply there changes same marks =
       record { reply = reply; there = there; changes = changes; at = 0; bytes = []; marks = marks; stack_is = same; inside = omega arith }
 
   -- adding to a declared counter changes that counter alone if the sum is within its bound, and else changes nothing
   added_if : (t : Bool) (n c : ℕ) → nat_le ((counter counters c).0 + n) (counter counters c).1 ≡ t → declared / 2 ^ c % 2 ≡ 1
-      → Changes declared counters (cond {A = Answer} t (record {
+      → Changes declared counters (cond {A = HelperResult} t (record {
         value = 1;
         counters = slice_set counters c ((counter counters c).0 + n, (counter counters c).1);
         stack = stack;
@@ -196,7 +196,7 @@ module _ (declared : ℕ) (types : List RegType) (view : View) (va vb : Value) (
   added_if false n c e bit = Changes-refl declared counters
 
   taken_if : (t : Bool) (n c : ℕ) → nat_le n (counter counters c).0 ≡ t → c ≤ 31 → declared / 2 ^ c % 2 ≡ 1
-      → Changes declared counters (cond {A = Answer} t (record {
+      → Changes declared counters (cond {A = HelperResult} t (record {
         value = 1;
         counters = slice_set counters c ((counter counters c).0 - n, (counter counters c).1);
         stack = stack;
@@ -211,11 +211,11 @@ module _ (declared : ℕ) (types : List RegType) (view : View) (va vb : Value) (
   taken_if false n c e small bit = Changes-refl declared counters
 
   stack_if : (t : Bool) (x y : Counters)
-      → (cond {A = Answer} t (record { value = 1; counters = x; stack = stack }) (record { value = 0; counters = y; stack = stack })).stack ≡ stack
+      → (cond {A = HelperResult} t (record { value = 1; counters = x; stack = stack }) (record { value = 0; counters = y; stack = stack })).stack ≡ stack
   stack_if true x y = refl
   stack_if false x y = refl
 
-  counter_there : (t : RegType) (e : Effect) (go : ℕ → Answer) → FitsType t va → fits_counter t ≡ true → declares declared t ≡ true
+  counter_there : (t : RegType) (e : Effect) (go : ℕ → HelperResult) → FitsType t va → fits_counter t ≡ true → declares declared t ≡ true
       → ((c : ℕ) → c ≤ 31 → declared / 2 ^ c % 2 ≡ 1 → Changes declared counters (go c).counters × ((go c).stack ≡ stack)) → unmarked (after_call types) ≡ e
       → Answered declared types view counters stack (map_option go (counter_argument declared va)) e
   counter_there t e go f fits dec all marks =
@@ -223,7 +223,7 @@ module _ (declared : ℕ) (types : List RegType) (view : View) (va vb : Value) (
       let h = all c.0 c.3 c.2 in
       plainly (map_option go (counter_argument declared va)) e (go c.0) (ap (map_option go) c.1) h.0 h.1 marks
 
-  counter_and_number : (e : Effect) (go : ℕ → ℕ → Answer) → fits_counter a ≡ true → is_numeric b ≡ true → declares declared a ≡ true
+  counter_and_number : (e : Effect) (go : ℕ → ℕ → HelperResult) → fits_counter a ≡ true → is_numeric b ≡ true → declares declared a ≡ true
       → ((c n : ℕ) → c ≤ 31 → declared / 2 ^ c % 2 ≡ 1 → Changes declared counters (go c n).counters × ((go c n).stack ≡ stack))
       → unmarked (after_call types) ≡ e
       → Answered declared types view counters stack (and_then (counter_argument declared va) (λ c. map_option (λ n. go c n) (number vb))) e
@@ -234,7 +234,7 @@ module _ (declared : ℕ) (types : List RegType) (view : View) (va vb : Value) (
       plainly (and_then (counter_argument declared va) (λ c. map_option (λ n. go c n) (number vb))) e (go c.0 n.0)
       (ap (λ o. and_then o (λ c. map_option (λ n. go c n) (number vb))) c.1 ∙ ap (map_option (λ n. go c.0 n)) n.1) h.0 h.1 marks
 
-  number_there : (e : Effect) (go : ℕ → Answer) → is_numeric a ≡ true → ((n : ℕ) → Changes declared counters (go n).counters × ((go n).stack ≡ stack))
+  number_there : (e : Effect) (go : ℕ → HelperResult) → is_numeric a ≡ true → ((n : ℕ) → Changes declared counters (go n).counters × ((go n).stack ≡ stack))
       → unmarked (after_call types) ≡ e → Answered declared types view counters stack (map_option go (number va)) e
   number_there e go num all marks =
       let n = number_is a va fa num in

@@ -14,7 +14,7 @@ use Rattle.reg_types.specs.declared.types.Fact.{Fact}
 use Rattle.reg_types.specs.declared.types.StoredFact.{StoredFact}
 use Rattle.reg_types.specs.Facts.{stored, AreDistinct}
 use Rattle.reg_types.specs.Inference.{inferred, goes, is_entered, is_target, count_below, facts_in, targets_in}
-use Rattle.reg_types.specs.Passing.{IsAccepted, IsFactCount, IsFew}
+use Rattle.reg_types.specs.Passing.{IsAccepted, IsFactCount, IsBoundedByTargets}
 
 truth : (b : Bool) → (b ≡ true) ⊎ (b ≡ false)
 truth true = inl refl
@@ -173,7 +173,7 @@ module _ (us : List ProgramUnit) (options : LoadOptions) where
 module _ (bytes : List ℕ) (us : List ProgramUnit) (options : LoadOptions) (facts : List StoredFact) (is : IsAccepted bytes options us facts) where
   inside : (q : ℕ) → is_some (stored facts q) ≡ true → q < length us
   inside q e =
-      elim (entered_target us options (length us) q (sym (is.inferred_are.kept q) ∙ e)) [
+      elim (entered_target us options (length us) q (sym (is.inferred_are.occupied q) ∙ e)) [
         | inl first ↦ (let n = count_of_units bytes us is.reads in let l = n.0 in omega (arith, first, l))
         | inr t ↦ target_inside us options is.forward (length us) q t
       ]
@@ -181,7 +181,7 @@ module _ (bytes : List ℕ) (us : List ProgramUnit) (options : LoadOptions) (fac
   pub facts_are : length facts ≡ facts_in us options
   facts_are =
       count_of_stored (length us) facts is.distinct inside
-      ∙ count_same (length us) (λ q. is_some (stored facts q)) (is_entered us options (length us)) (λ q l. is.inferred_are.kept q)
+      ∙ count_same (length us) (λ q. is_some (stored facts q)) (is_entered us options (length us)) (λ q l. is.inferred_are.occupied q)
 
   pub facts_few : length facts ≤ 1 + targets_in us
   facts_few = let e = facts_are in let l =
@@ -197,5 +197,5 @@ module _ (bytes : List ℕ) (us : List ProgramUnit) (options : LoadOptions) (fac
   pub counts : IsFactCount (loaded_on bytes options) (length facts)
   counts other reads = facts_are ∙ ap (λ u. facts_in u options) (same_units other reads)
 
-  pub few : IsFew bytes (length facts)
+  pub few : IsBoundedByTargets bytes (length facts)
   few other reads = subst (λ u. length facts ≤ 1 + targets_in u) (same_units other reads) facts_few

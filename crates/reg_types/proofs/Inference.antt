@@ -1,4 +1,4 @@
--- Two facts that say the same have the same flaws, effects and joins.
+-- Two facts that are the same, as `IsSame` defines, have the same flaws, effects and joins.
 use Rattle.std.proofs.Common.{◌≡◌, ℕ, zero, suc, ◌-◌, ◌⊎◌, ◌↔◌, List, [], ◌∷◌, Option, Some, None, Bool, true, false, refl, sym, ap, ◌∙◌, subst, inl, inr}
 use Rattle.std.proofs.Common.{arith, length}
 use Rattle.std.specs.Prelude.{Result, Ok, Err, ℤ, ◌==◌, ◌&&◌, cond, drop, slice_index_or}
@@ -19,10 +19,10 @@ use Rattle.reg_types.specs.declared.types.Fact.{Fact}
 use Rattle.reg_types.specs.Effects.{Effect}
 use Rattle.reg_types.specs.declared.types.Flaw.{Flaw}
 use Rattle.reg_types.specs.declared.types.Flaw.TheVariants.{FallsOff, UnsetBytes}
-use Rattle.reg_types.specs.Rules.{type_at, join_type, all_in, load_type, number_set, lowest, set_type, kept_type, kept_or, spill_of, is_unset, effect, falls_off}
-use Rattle.reg_types.specs.Rules.{judged}
+use Rattle.reg_types.specs.Rules.{type_at, join_type, all_in, load_type, number_set, lowest, set_type, reload_type, reload_or, spill_of, is_unset, effect, falls_off}
+use Rattle.reg_types.specs.Rules.{checked_effect}
 use Rattle.reg_types.specs.Facts.{HasAfter, IsAfter, IsEntry}
-use Rattle.reg_types.specs.Inference.{leads, common, marked, cleared, join_types, join_spills, respilled, set_after, join_fact, entry_fact, fact_after}
+use Rattle.reg_types.specs.Inference.{successor_units, common, marked, cleared, join_types, join_spills, respilled, set_after, join_fact, entry_fact, fact_after}
 use Rattle.reg_types.specs.Inference.{instruction_at, ruled, flaw_in, flaw_of, flaw_under, taken_in, arrived, arrived_all, passed_by, passed_from, passed}
 use Rattle.operations.specs.Operations.{upper_of}
 use Rattle.reg_types.specs.Passing.{IsSame, AreSame}
@@ -91,8 +91,8 @@ after_if : (b : Bool) (at len : ℕ) (set : List Bool) (p : ℕ) → Has (cond b
 after_if true at len set p = marked_has at len set p
 after_if false at len set p = cleared_has at len set p
 
-pub after_has : (e : Effect) (set : List Bool) (p : ℕ) → Has (set_after e set) p ↔ HasAfter (is_unset e.kept) set e.at e.len p
-after_has e set p = after_if (is_unset e.kept) e.at e.len set p
+pub after_has : (e : Effect) (set : List Bool) (p : ℕ) → Has (set_after e set) p ↔ HasAfter (is_unset e.spilled) set e.at e.len p
+after_has e set p = after_if (is_unset e.spilled) e.at e.len set p
 
 has_after_same : (b : Bool) (at len p : ℕ) (x y : List Bool) → (Has x p ↔ Has y p) → HasAfter b x at len p → HasAfter b y at len p
 has_after_same true at len p x y f h = elim h [ inl old ↦ inl (f.0 old) | inr w ↦ inr w ]
@@ -124,7 +124,7 @@ pub joined_types : (a b j : List RegType) → length a ≡ length b → length j
 joined_types a b j la lj e =
     ext_get_or Unset j (join_types a b) (lj ∙ sym (length-joined a b la)) (λ r l. e r ∙ sym (type_at-joined a b r))
 
--- ---- facts that say the same
+-- ---- facts that are the same
 
 pub IsSame-refl : (a : Fact) → IsSame a a
 IsSame-refl a = record { types = refl; places = λ p. (λ h. h, λ h. h); spills = refl }
@@ -185,14 +185,14 @@ after_same a b e f =
       types = refl;
       places =
           λ p. (
-            λ h. (after_has e b.stack p).1 (has_after_same (is_unset e.kept) e.at e.len p a.stack b.stack (f.places p) ((after_has e a.stack p).0 h)),
-            λ h. (after_has e a.stack p).1 (has_after_same (is_unset e.kept) e.at e.len p b.stack a.stack ((f.places p).1, (f.places p).0)
+            λ h. (after_has e b.stack p).1 (has_after_same (is_unset e.spilled) e.at e.len p a.stack b.stack (f.places p) ((after_has e a.stack p).0 h)),
+            λ h. (after_has e a.stack p).1 (has_after_same (is_unset e.spilled) e.at e.len p b.stack a.stack ((f.places p).1, (f.places p).0)
                 ((after_has e b.stack p).0 h)),
           );
-      spills = ap (respilled (spill_of e.kept) e.at e.len 0) f.spills;
+      spills = ap (respilled (spill_of e.spilled) e.at e.len 0) f.spills;
     }
 
--- a fact that fulfils `IsAfter`, such as the one that the code computes, says the same as `fact_after`
+-- a fact that fulfils `IsAfter`, such as the one that the code computes, is the same as `fact_after`
 pub same_after : (fact : Fact) (e : Effect) (after : Fact) → IsAfter fact e after → IsSame after (fact_after fact e)
 same_after fact e after is =
     record {
@@ -252,7 +252,7 @@ set_same : (options : LoadOptions) (types : List RegType) (a b : List Bool) (spi
       stack = b;
       spills = spills;
     }) i upper form
-set_same options types a b spills h i upper (Load size) = ap (λ r. set_type types i.dst (kept_or (kept_type spills (type_at types i.src) i (bytes_in size)) r))
+set_same options types a b spills h i upper (Load size) = ap (λ r. set_type types i.dst (reload_or (reload_type spills (type_at types i.src) i (bytes_in size)) r))
     (load_same options.layout a b h (type_at types i.src) i (bytes_in size))
 set_same options types a b spills h i upper (LoadSigned size) = ap (set_type types i.dst) (load_same options.layout a b h (type_at types i.src) i (bytes_in size))
 set_same options types a b spills h i upper form = refl
@@ -264,7 +264,7 @@ effect_same options a b f i upper form =
     ∙ ap (λ spills. effect options (record { types = b.types; stack = b.stack; spills = spills }) i upper form) f.spills
 
 pub judged_same : (count pc : ℕ) (options : LoadOptions) (a b : Fact) → IsSame a b → (i : Inst) (upper : ℤ) (form : Form)
-    → judged count pc options a i upper form ≡ judged count pc options b i upper form
+    → checked_effect count pc options a i upper form ≡ checked_effect count pc options b i upper form
 judged_same count pc options a b f i upper form = ap (λ r. cond (falls_off count pc form) (Err FallsOff) r) (effect_same options a b f i upper form)
 
 -- ---- passing one unit
@@ -283,8 +283,8 @@ module _ (us : List ProgramUnit) (options : LoadOptions) (pc : ℕ) where
       → AreSame (passed_from us options pc a o q x) (passed_from us options pc b o q y)
   passed_from_same a b None q x y f g = g
   passed_from_same a b (Some i) q x y f g =
-      subst (λ r. AreSame (passed_by q a (ruled us options pc a i) (leads pc i.0 i.1) x) (passed_by q b r (leads pc i.0 i.1) y)) (ruled_same a b f i)
-      (passed_by_same q a b (ruled us options pc a i) (leads pc i.0 i.1) x y f g)
+      subst (λ r. AreSame (passed_by q a (ruled us options pc a i) (successor_units pc i.0 i.1) x) (passed_by q b r (successor_units pc i.0 i.1) y)) (ruled_same a b f i)
+      (passed_by_same q a b (ruled us options pc a i) (successor_units pc i.0 i.1) x y f g)
 
   pub passed_same : (a b : Option Fact) (q : ℕ) (x y : Option Fact) → AreSame a b → AreSame x y → AreSame (passed us options pc a q x) (passed us options pc b q y)
   passed_same None None q x y f g = g

@@ -1,4 +1,4 @@
--- Pointers kept on the stack: what stores do to them, and what spills say of them.
+-- Pointers stored in the stack: what stores do to them, and how the spills of a fact describe them.
 use Rattle.std.proofs.Common.{◌≡◌, ◌≢◌, ℕ, zero, suc, ◌+◌, ◌-◌, ◌*◌, ◌<◌, ◌≤◌, ◌⊎◌, ◌↔◌, List, [], ◌∷◌, Option, Some, None, Bool, true, false, refl, sym, ap}
 use Rattle.std.proofs.Common.{◌∙◌, subst, inl, inr, arith, length}
 use Rattle.std.specs.Prelude.{pos, negsuc, ◌+ℤ◌, ◌/◌, ◌%◌, ◌==◌, ◌&&◌, cond, nat_le, nat_lt, slice_set, slice_index, ⊤}
@@ -10,14 +10,14 @@ use Rattle.bpf_model.specs.declared.machine.Value.{Value}
 use Rattle.bpf_model.specs.declared.machine.Value.TheVariants.{Unset, Number, Context, Stack}
 use Rattle.bpf_model.specs.declared.machine.Cell.{Cell}
 use Rattle.bpf_model.specs.declared.machine.Cell.TheVariants.{Empty, Byte, Piece}
-use Rattle.bpf_model.specs.Machine.{cell_at, low_byte, written, pieces_written, same_pointer, is_piece, has_pieces, value_if, kept_from, kept_at, is_aligned}
+use Rattle.bpf_model.specs.Machine.{cell_at, low_byte, written, pieces_written, same_pointer, is_piece, has_pieces, value_if, pointer_from, pointer_at, is_aligned}
 use Rattle.stack_map.specs.Places.{Has, Within}
 use Rattle.reg_types.specs.declared.types.RegType.{RegType}
 use Rattle.reg_types.specs.declared.types.RegType.TheVariants.{Unset as Anything, Num, Const, Ctx, Stk}
 use Rattle.reg_types.specs.Rules.{is_unset, is_pointer, natural, lowest, spill_of, spilled_type}
 use Rattle.reg_types.specs.declared.types.Fact.{Fact}
 use Rattle.reg_types.specs.Effects.{Effect}
-use Rattle.reg_types.specs.Facts.{FitsType, IsKept, HasAfter, IsAfter}
+use Rattle.reg_types.specs.Facts.{FitsType, FitsSpill, HasAfter, IsAfter}
 use Rattle.reg_types.specs.Inference.{no_spills, touches, respilled, join_spills}
 
 -- ---- cells that a store doesn't change
@@ -43,7 +43,7 @@ pub length-pieces : (stack : List Cell) (at : ℕ) (v : Value) (i n : ℕ) → l
 length-pieces stack at v i zero = refl
 length-pieces stack at v i (suc n) = length-pieces (slice_set stack at (Piece v i)) (suc at) v (suc i) n ∙ length-set stack at (Piece v i)
 
--- ---- a pointer is kept by its eight cells
+-- ---- a pointer is held by its eight cells
 
 has_pieces_same : (a b : List Cell) (v : Value) (at i n : ℕ) → ((p : ℕ) → at ≤ p → p < at + n → cell_at a p ≡ cell_at b p)
     → has_pieces a at v i n ≡ has_pieces b at v i n
@@ -52,13 +52,13 @@ has_pieces_same a b v at i (suc n) h =
     ap (λ c. is_piece c v i && has_pieces a (suc at) v (suc i) n) (h at (omega arith) (omega arith))
     ∙ ap (λ t. is_piece (cell_at b at) v i && t) (has_pieces_same a b v (suc at) (suc i) n (λ p l m. h p (omega (arith, l)) (omega (arith, m))))
 
-kept_by_cells : (c : Cell) (a b : List Cell) (at : ℕ) → ((p : ℕ) → at ≤ p → p < at + 8 → cell_at a p ≡ cell_at b p) → kept_from c a at ≡ kept_from c b at
+kept_by_cells : (c : Cell) (a b : List Cell) (at : ℕ) → ((p : ℕ) → at ≤ p → p < at + 8 → cell_at a p ≡ cell_at b p) → pointer_from c a at ≡ pointer_from c b at
 kept_by_cells (Piece v i) a b at h = ap (λ t. value_if t v) (has_pieces_same a b v at 0 8 h)
 kept_by_cells Empty a b at h = refl
 kept_by_cells (Byte n) a b at h = refl
 
-pub kept_same : (a b : List Cell) (at : ℕ) → ((p : ℕ) → at ≤ p → p < at + 8 → cell_at a p ≡ cell_at b p) → kept_at a at ≡ kept_at b at
-kept_same a b at h = ap (λ c. kept_from c a at) (h at (omega arith) (omega arith)) ∙ kept_by_cells (cell_at b at) a b at h
+pub kept_same : (a b : List Cell) (at : ℕ) → ((p : ℕ) → at ≤ p → p < at + 8 → cell_at a p ≡ cell_at b p) → pointer_at a at ≡ pointer_at b at
+kept_same a b at h = ap (λ c. pointer_from c a at) (h at (omega arith) (omega arith)) ∙ kept_by_cells (cell_at b at) a b at h
 
 abbrev pub IsPointer : Value → Type 0
 IsPointer (Context k) = ⊤
@@ -89,13 +89,13 @@ pieces_there stack at v i (suc n) p l =
     and_from (is_piece (cell_at all at) v i) (has_pieces all (suc at) v (suc i) n) (ap (λ c. is_piece c v i) (first_piece stack at v i n (omega (arith, l)))
     ∙ piece_self v i p) (pieces_there next (suc at) v (suc i) n p (omega (arith, l, long)))
 
-pub kept_there : (stack : List Cell) (at : ℕ) (v : Value) → IsPointer v → at + 8 ≤ length stack → kept_at (pieces_written stack at v 0 8) at ≡ Some v
+pub kept_there : (stack : List Cell) (at : ℕ) (v : Value) → IsPointer v → at + 8 ≤ length stack → pointer_at (pieces_written stack at v 0 8) at ≡ Some v
 kept_there stack at v p l =
     let all = pieces_written stack at v 0 8 in
-    ap (λ c. kept_from c all at) (first_piece stack at v 0 7 (omega (arith, l))) ∙ ap (λ t. value_if t v) (pieces_there stack at v 0 8 p l)
+    ap (λ c. pointer_from c all at) (first_piece stack at v 0 7 (omega (arith, l))) ∙ ap (λ t. value_if t v) (pieces_there stack at v 0 8 p l)
 
--- if cells keep a pointer, then a load of them gives no number
-pub no_number : (c : Cell) (stack : List Cell) (at : ℕ) (v : Value) (o : Option ℕ) → kept_from c stack at ≡ Some v → low_byte c o ≡ None
+-- if cells hold a pointer, then a load of them gives no number
+pub no_number : (c : Cell) (stack : List Cell) (at : ℕ) (v : Value) (o : Option ℕ) → pointer_from c stack at ≡ Some v → low_byte c o ≡ None
 no_number (Piece w i) stack at v o e = refl
 no_number Empty stack at v o e = refl
 no_number (Byte b) stack at v o e = absurd (cc)
@@ -178,11 +178,11 @@ spill_fits (Stk k) Unset h u = absurd h
 spill_fits (Stk k) (Number n) h u = absurd h
 spill_fits (Stk k) (Context n) h u = absurd h
 
--- a spill of 0 stands for no pointer, so it is right for every stack
-pub nothing_kept : (spill : ℕ) (stack : List Cell) (at : ℕ) → spill ≡ 0 → IsKept (spilled_type spill) stack at
-nothing_kept spill stack at z = subst (λ n. IsKept (spilled_type n) stack at) (sym z) (λ u. absurd (cc))
+-- a spill of 0 stands for no pointer, so it fits every stack
+pub no_spill_fits : (spill : ℕ) (stack : List Cell) (at : ℕ) → spill ≡ 0 → FitsSpill (spilled_type spill) stack at
+no_spill_fits spill stack at z = subst (λ n. FitsSpill (spilled_type n) stack at) (sym z) (λ u. absurd (cc))
 
-kept_on : (t : RegType) (a b : List Cell) (at : ℕ) → kept_at b at ≡ kept_at a at → IsKept t a at → IsKept t b at
+kept_on : (t : RegType) (a b : List Cell) (at : ℕ) → pointer_at b at ≡ pointer_at a at → FitsSpill t a at → FitsSpill t b at
 kept_on t a b at e h = λ u. let x = h u in (x.0, x.1, e ∙ x.2)
 
 pub none_spilled : (k : ℕ) → slice_index no_spills k ≡ 0
@@ -238,42 +238,42 @@ touched at k z e =
     let b = lt_from (8 * k) (at + 8) h.1 in
     omega (arith, z, a, b)
 
-abbrev AllKept : List ℕ → List Cell → Type 0
-AllKept spills stack = (k : ℕ) → IsKept (spilled_type (slice_index spills k)) stack (8 * k)
+abbrev AllSpillsFit : List ℕ → List Cell → Type 0
+AllSpillsFit spills stack = (k : ℕ) → FitsSpill (spilled_type (slice_index spills k)) stack (8 * k)
 
--- if the stack keeps a pointer for each spill, then after a store of bytes it keeps one for each spill that is left
-pub kept_after_bytes : (spills after : List ℕ) (stack : List Cell) (at : ℕ) (bytes : List ℕ) → after ≡ respilled 0 at (length bytes) 0 spills → AllKept spills stack
-    → AllKept after (written stack at bytes)
+-- if the stack holds a pointer for each spill, then after a store of bytes it holds one for each spill that is left
+pub kept_after_bytes : (spills after : List ℕ) (stack : List Cell) (at : ℕ) (bytes : List ℕ) → after ≡ respilled 0 at (length bytes) 0 spills → AllSpillsFit spills stack
+    → AllSpillsFit after (written stack at bytes)
 kept_after_bytes spills after stack at bytes e all k =
     let new = slice_index (respilled 0 at (length bytes) 0 spills) k in
-    subst (λ ns. IsKept (spilled_type (slice_index ns k)) (written stack at bytes) (8 * k)) (sym e)
+    subst (λ ns. FitsSpill (spilled_type (slice_index ns k)) (written stack at bytes) (8 * k)) (sym e)
     (elim (respilled_is 0 at (length bytes) 0 spills k k (omega arith)) [
-      | inl none ↦ nothing_kept new (written stack at bytes) (8 * k) none
+      | inl none ↦ no_spill_fits new (written stack at bytes) (8 * k) none
       | inr some ↦ elim some [
-        | inl old ↦ subst (λ m. IsKept (spilled_type m) (written stack at bytes) (8 * k)) (sym old.1)
+        | inl old ↦ subst (λ m. FitsSpill (spilled_type m) (written stack at bytes) (8 * k)) (sym old.1)
             (kept_on (spilled_type (slice_index spills k)) stack (written stack at bytes) (8 * k)
             (kept_same (written stack at bytes) stack (8 * k) (λ p l m. written_other stack at bytes p (untouched at (length bytes) k p old.0 l m)))
             (all k))
-        | inr none ↦ nothing_kept new (written stack at bytes) (8 * k) none.1
+        | inr none ↦ no_spill_fits new (written stack at bytes) (8 * k) none.1
       ]
     ])
 
--- if the stack keeps a pointer for each spill, then after a store of a pointer it keeps one for each of the new spills
+-- if the stack holds a pointer for each spill, then after a store of a pointer it holds one for each of the new spills
 pub kept_after_pointer : (spills after : List ℕ) (stack : List Cell) (at : ℕ) (t : RegType) (v : Value) → after ≡ respilled (spill_of t) at 8 0 spills → at % 8 ≡ 0
-    → at + 8 ≤ length stack → IsPointer v → FitsType t v → AllKept spills stack → AllKept after (pieces_written stack at v 0 8)
+    → at + 8 ≤ length stack → IsPointer v → FitsType t v → AllSpillsFit spills stack → AllSpillsFit after (pieces_written stack at v 0 8)
 kept_after_pointer spills after stack at t v e z inside p f all k =
     let new = slice_index (respilled (spill_of t) at 8 0 spills) k in
     let cells = pieces_written stack at v 0 8 in
-    subst (λ ns. IsKept (spilled_type (slice_index ns k)) (pieces_written stack at v 0 8) (8 * k)) (sym e)
+    subst (λ ns. FitsSpill (spilled_type (slice_index ns k)) (pieces_written stack at v 0 8) (8 * k)) (sym e)
     (elim (respilled_is (spill_of t) at 8 0 spills k k (omega arith)) [
-      | inl none ↦ nothing_kept new (pieces_written stack at v 0 8) (8 * k) none
+      | inl none ↦ no_spill_fits new (pieces_written stack at v 0 8) (8 * k) none
       | inr some ↦ elim some [
-        | inl old ↦ subst (λ m. IsKept (spilled_type m) (pieces_written stack at v 0 8) (8 * k)) (sym old.1)
+        | inl old ↦ subst (λ m. FitsSpill (spilled_type m) (pieces_written stack at v 0 8) (8 * k)) (sym old.1)
             (kept_on (spilled_type (slice_index spills k)) stack (pieces_written stack at v 0 8) (8 * k)
             (kept_same (pieces_written stack at v 0 8) stack (8 * k) (λ q l m. pieces_other stack at v 0 8 q (untouched at 8 k q old.0 l m)))
             (all k))
-        | inr here ↦ subst (λ m. IsKept (spilled_type m) (pieces_written stack at v 0 8) (8 * k)) (sym here.1)
-            (λ u. (v, spill_fits t v f u, ap (kept_at (pieces_written stack at v 0 8)) (touched at k z here.0) ∙ kept_there stack at v p inside))
+        | inr here ↦ subst (λ m. FitsSpill (spilled_type m) (pieces_written stack at v 0 8) (8 * k)) (sym here.1)
+            (λ u. (v, spill_fits t v f u, ap (pointer_at (pieces_written stack at v 0 8)) (touched at k z here.0) ∙ kept_there stack at v p inside))
       ]
     ])
 
@@ -400,13 +400,13 @@ unwritten fact after e at len types stack spills =
     record {
       types = types;
       places =
-          λ p. subst (λ set. Has set p ↔ HasAfter (is_unset e.kept) fact.stack e.at e.len p) (sym stack)
-          (subst (λ a. Has fact.stack p ↔ HasAfter (is_unset e.kept) fact.stack a e.len p) (sym at)
-          (subst (λ l. Has fact.stack p ↔ HasAfter (is_unset e.kept) fact.stack 0 l p) (sym len) (after_none (is_unset e.kept) fact.stack p)));
+          λ p. subst (λ set. Has set p ↔ HasAfter (is_unset e.spilled) fact.stack e.at e.len p) (sym stack)
+          (subst (λ a. Has fact.stack p ↔ HasAfter (is_unset e.spilled) fact.stack a e.len p) (sym at)
+          (subst (λ l. Has fact.stack p ↔ HasAfter (is_unset e.spilled) fact.stack 0 l p) (sym len) (after_none (is_unset e.spilled) fact.stack p)));
       spills =
-          spills ∙ respilled_none (spill_of e.kept) 0 fact.spills
-          ∙ ap (λ a. respilled (spill_of e.kept) a 0 0 fact.spills) (sym at)
-          ∙ ap (λ l. respilled (spill_of e.kept) e.at l 0 fact.spills) (sym len);
+          spills ∙ respilled_none (spill_of e.spilled) 0 fact.spills
+          ∙ ap (λ a. respilled (spill_of e.spilled) a 0 0 fact.spills) (sym at)
+          ∙ ap (λ l. respilled (spill_of e.spilled) e.at l 0 fact.spills) (sym len);
     }
 
 -- the fact after an instruction doesn't depend on the types before it
@@ -414,6 +414,6 @@ pub after_of : (fact typed after : Fact) (e : Effect) → typed.stack ≡ fact.s
 after_of fact typed after e stack spills h =
     record {
       types = h.types;
-      places = subst (λ set. (p : ℕ) → Has after.stack p ↔ HasAfter (is_unset e.kept) set e.at e.len p) stack h.places;
-      spills = subst (λ ns. after.spills ≡ respilled (spill_of e.kept) e.at e.len 0 ns) spills h.spills;
+      places = subst (λ set. (p : ℕ) → Has after.stack p ↔ HasAfter (is_unset e.spilled) set e.at e.len p) stack h.places;
+      spills = subst (λ ns. after.spills ≡ respilled (spill_of e.spilled) e.at e.len 0 ns) spills h.spills;
     }

@@ -11,7 +11,7 @@ use Rattle.reg_types.specs.declared.types.RegType.TheVariants.{Ctx, Stk}
 use Rattle.reg_types.specs.Rules.{natural, lowest, spill_of, spilled_type}
 use Rattle.reg_types.proofs.Keeping.{spilled_context, spilled_stack, back_again}
 use Rattle.reg_types.specs.Inference.{known, first_flaw_below}
-use Rattle.reg_types.specs.Shown.{refusal_of}
+use Rattle.reg_types.specs.RefusedPrograms.{refusal_of}
 
 -- the bytes of a program whose units are given as 64-bit numbers
 abbrev bytes : List ℕ → List ℕ
@@ -64,7 +64,7 @@ one_unit_twice : refusal_of (on_one (0xb700000001000000 ∷ 0x1500000001000000 �
 unfolding refusal_of known first_flaw_below
 one_unit_twice = refl
 
--- ---- pointers kept on the stack
+-- ---- pointers stored in the stack
 pointer_found_again : refusal_of (on_one (0x7b1af8ff00000000 ∷ 0x79a2f8ff00000000 ∷ 0x7920180000000000 ∷ 0x9500000000000000 ∷ [])) ≡ None
 unfolding refusal_of known first_flaw_below
 pointer_found_again = refl

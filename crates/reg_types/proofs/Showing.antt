@@ -29,11 +29,11 @@ use Rattle.reg_types.specs.Effects.{Effect}
 use Rattle.reg_types.specs.declared.types.Flaw.{Flaw}
 use Rattle.reg_types.specs.declared.types.Flaw.TheVariants.{FallsOff, WriteR10, NotANumber, NotAPointer, OutOfRange, UnsetBytes, StoreToContext, StorePointer}
 use Rattle.reg_types.specs.declared.types.Flaw.TheVariants.{PointerArithmetic, NoSuchHelper, BadArgument, UndeclaredCounter}
-use Rattle.reg_types.specs.Rules.{type_at, is_unset, is_pointer, is_numeric, is_plain, one_number, two_numbers, ctx_at, sum_type, copied_type, alu_type}
-use Rattle.reg_types.specs.Rules.{operand_type, put_type, all_in, lowest, number_at, number_set, load_type, kept_type, loaded_type, marks, store_type}
-use Rattle.reg_types.specs.Rules.{keeps_pointer, fits_kind, is_declared, call_with, call_type, kind_at, unmarked, marks_record, record_at, after_call, effect}
-use Rattle.reg_types.specs.Rules.{falls_off, judged}
-use Rattle.reg_types.specs.Shown.{FallsOffEnd, IsOperand, NoHelper, HasArgument, UsesCounter, MayHave}
+use Rattle.reg_types.specs.Rules.{type_at, is_unset, is_pointer, is_numeric, is_zero_offset, one_number, two_numbers, ctx_at, sum_type, copied_type, alu_type}
+use Rattle.reg_types.specs.Rules.{operand_type, put_type, all_in, lowest, number_at, number_set, load_type, reload_type, loaded_type, marks, store_type}
+use Rattle.reg_types.specs.Rules.{stores_if_pointer, fits_kind, is_declared, call_with, call_type, kind_at, unmarked, marks_record, record_at, after_call, effect}
+use Rattle.reg_types.specs.Rules.{falls_off, checked_effect}
+use Rattle.reg_types.specs.RefusedPrograms.{FallsOffEnd, IsOperand, NoHelper, HasArgument, UsesCounter, MayHave}
 
 abbrev Typed : Type 0
 Typed = Result RegType Flaw
@@ -124,7 +124,7 @@ module _ (P : Flaw → Type 0) (flaw : Flaw) where
   loaded_shown : (layout : Layout) (set : List Bool) (spills : List ℕ) (base : RegType) (i : Inst) (size : ℕ) → P NotAPointer → P OutOfRange → P UnsetBytes
       → loaded_type layout set spills base i size ≡ bad flaw → P flaw
   loaded_shown layout set spills base i size p q r e =
-      kept_shown (is_unset (kept_type spills base i size)) (kept_type spills base i size) (load_type layout set base i size)
+      kept_shown (is_unset (reload_type spills base i size)) (reload_type spills base i size) (load_type layout set base i size)
       (λ h. load_shown layout set base i size p q r h) e
 
   marks_shown : (types : List RegType) (size : ℕ) (o : Option ℕ) → P OutOfRange → marks types size o ≡ wrong flaw → P flaw
@@ -144,9 +144,9 @@ module _ (P : Flaw → Type 0) (flaw : Flaw) where
   keeps_shown true false x y p e = this_effect StorePointer e p
   keeps_shown false whole x y p e = no_effect x e
 
-  pointer_shown : (value : RegType) (r : Effects) → P StorePointer → (r ≡ wrong flaw → P flaw) → keeps_pointer value r ≡ wrong flaw → P flaw
+  pointer_shown : (value : RegType) (r : Effects) → P StorePointer → (r ≡ wrong flaw → P flaw) → stores_if_pointer value r ≡ wrong flaw → P flaw
   pointer_shown value (Err f) p all e = all e
-  pointer_shown value (Ok x) p all e = keeps_shown (is_pointer value) (is_aligned x.len x.at) x (record x { kept = value }) p e
+  pointer_shown value (Ok x) p all e = keeps_shown (is_pointer value) (is_aligned x.len x.at) x (record x { spilled = value }) p e
 
   unset_shown : (b : Bool) (src : ℕ) (r : Effects) → P (NotANumber src) → (r ≡ wrong flaw → P flaw) → cond b (wrong (NotANumber src)) r ≡ wrong flaw → P flaw
   unset_shown true src r p all e = this_effect (NotANumber src) e p
@@ -173,8 +173,8 @@ never : {A : Type 0} (b : Bool) → b ≡ true → b ≡ false → A
 never true p q = absurd (cc)
 never false p q = absurd (cc)
 
-not_plain : (o : ℤ) → is_plain o ≡ false → ¬ (o ≡ pos 0)
-not_plain o h e = let t : is_plain o ≡ true = ap is_plain e in never (is_plain o) t h
+not_plain : (o : ℤ) → is_zero_offset o ≡ false → ¬ (o ≡ pos 0)
+not_plain o h e = let t : is_zero_offset o ≡ true = ap is_zero_offset e in never (is_zero_offset o) t h
 
 plain_or : (b : Bool) (x y : Typed) (flaw : Flaw) (P : Flaw → Type 0) → cond b x y ≡ bad flaw → (x ≡ bad flaw → P flaw)
     → (b ≡ false → y ≡ bad flaw → P flaw) → P flaw
@@ -231,7 +231,7 @@ module _ (count pc : ℕ) (i : Inst) (types : List RegType) (flaw : Flaw) where
   alu_shows layout Mov Bits32 Register a e =
       one_shown (MayHave count pc i (Arithmetic Mov Bits32 Register)) flaw i.src (is_unset (type_at types i.src)) (is_pointer (type_at types i.src)) refl tt e
   alu_shows layout Mov Bits64 Register a e =
-      plain_or (is_plain i.offset) (copied_type i.src (type_at types i.src)) (one_number i.src (type_at types i.src)) flaw
+      plain_or (is_zero_offset i.offset) (copied_type i.src (type_at types i.src)) (one_number i.src (type_at types i.src)) flaw
       (MayHave count pc i (Arithmetic Mov Bits64 Register)) e
       (λ g. copied_shown (MayHave count pc i (Arithmetic Mov Bits64 Register)) flaw i.src (is_unset (type_at types i.src)) (type_at types i.src) refl g)
       (λ no g. one_shown (MayHave count pc i (Arithmetic Mov Bits64 Register)) flaw i.src (is_unset (type_at types i.src)) (is_pointer (type_at types i.src))
@@ -306,7 +306,7 @@ effect_shows count pc options fact i upper (StoreImmediate size) flaw e =
     store_shown (MayHave count pc i (StoreImmediate size)) flaw fact.types (type_at fact.types i.dst) i (bytes_in size) (inr tt) (inl (inr tt)) tt e
 effect_shows count pc options fact i upper (StoreRegister size) flaw e =
     let stored = store_type fact.types (type_at fact.types i.dst) i (bytes_in size) in
-    unset_shown (MayHave count pc i (StoreRegister size)) flaw (is_unset (type_at fact.types i.src)) i.src (keeps_pointer (type_at fact.types i.src) stored)
+    unset_shown (MayHave count pc i (StoreRegister size)) flaw (is_unset (type_at fact.types i.src)) i.src (stores_if_pointer (type_at fact.types i.src) stored)
     refl
     (λ g. pointer_shown (MayHave count pc i (StoreRegister size)) flaw (type_at fact.types i.src) stored tt
     (λ h. store_shown (MayHave count pc i (StoreRegister size)) flaw fact.types (type_at fact.types i.dst) i (bytes_in size) (inr tt) (inl (inr tt)) tt h) g) e
@@ -332,8 +332,8 @@ judged_shown P true r flaw p q e = is_wrong P FallsOff flaw e (p refl)
 judged_shown P false r flaw p q e = q e
 
 -- a flaw that the typing rules find in an instruction is one that this instruction can have
-pub judged_shows : (count pc : ℕ) (options : LoadOptions) (fact : Fact) (i : Inst) (upper : ℤ) (form : Form) (flaw : Flaw)
-    → judged count pc options fact i upper form ≡ wrong flaw → MayHave count pc i form flaw
-judged_shows count pc options fact i upper form flaw e =
+pub checked_effect_shows : (count pc : ℕ) (options : LoadOptions) (fact : Fact) (i : Inst) (upper : ℤ) (form : Form) (flaw : Flaw)
+    → checked_effect count pc options fact i upper form ≡ wrong flaw → MayHave count pc i form flaw
+checked_effect_shows count pc options fact i upper form flaw e =
     judged_shown (MayHave count pc i form) (falls_off count pc form) (effect options fact i upper form) flaw (falls_shows count pc form)
     (effect_shows count pc options fact i upper form flaw) e

@@ -20,9 +20,9 @@ use Rattle.bpf_model.specs.declared.machine.State.{State}
 use Rattle.bpf_model.specs.Reading.{bytes_in}
 use Rattle.bpf_model.specs.Layouts.{context_len}
 use Rattle.bpf_model.specs.Arithmetic.{holds, extended}
-use Rattle.bpf_model.specs.Machine.{Next, Goes, Exits, Stuck, Place, InContext, InStack, where_some, shifted, number, map_option, mem, read, register, operand}
-use Rattle.bpf_model.specs.Machine.{alu_value, sets, jumps, branches, stores, stores_value, keeps as keeps_value, stack_at, aligned_place, is_aligned, cell_at}
-use Rattle.bpf_model.specs.Machine.{kept_at, kept_in, number_in, loaded, number_or, written, pieces_written, after_call as call_state, Answer, helper_of, act}
+use Rattle.bpf_model.specs.Machine.{Next, Continues, Exits, Stuck, Place, InContext, InStack, or_stuck, shifted, number, map_option, mem, read, register, operand}
+use Rattle.bpf_model.specs.Machine.{alu_value, sets, jumps, branches, stores, stores_value, stores_pointer as keeps_value, stack_at, aligned_place, is_aligned, cell_at}
+use Rattle.bpf_model.specs.Machine.{pointer_at, pointer_in, number_in, loaded, number_or, written, pieces_written, after_call as call_state, HelperResult, helper_of, form_step}
 use Rattle.reg_types.specs.declared.types.LoadOptions.{LoadOptions}
 use Rattle.reg_types.specs.declared.types.RegType.{RegType}
 use Rattle.reg_types.specs.declared.types.RegType.TheVariants.{Unset as Anything, Num, Const, Ctx, Stk}
@@ -31,10 +31,10 @@ use Rattle.reg_types.specs.Effects.{Effect}
 use Rattle.reg_types.specs.declared.types.Flaw.{Flaw}
 use Rattle.reg_types.specs.declared.types.Flaw.TheVariants.{WriteR10, NotANumber, UnsetBytes, StorePointer}
 use Rattle.reg_types.specs.Rules.{type_at, is_numeric, is_unset, is_pointer, operand_type, alu_type, unmarked, put_type, set_type, natural, lowest, number_at}
-use Rattle.reg_types.specs.Rules.{number_set, all_in, load_type, spilled_type, spill_in, kept_type, loaded_type, marks, store_type, keeps, keeps_pointer}
+use Rattle.reg_types.specs.Rules.{number_set, all_in, load_type, spilled_type, spill_in, reload_type, loaded_type, marks, store_type, stores_pointer, stores_if_pointer}
 use Rattle.reg_types.specs.Rules.{after_call, effect}
-use Rattle.reg_types.specs.Facts.{FitsType, HasByte, Covered, IsKept, Fits, Changes, HasAfter, IsAfter}
-use Rattle.reg_types.specs.Inference.{option_cons, leads}
+use Rattle.reg_types.specs.Facts.{FitsType, HasByte, Covered, FitsSpill, Fits, Changes, HasAfter, IsAfter}
+use Rattle.reg_types.specs.Inference.{option_cons, successor_units}
 use Rattle.reg_types.proofs.Values.{Gives, arithmetic}
 use Rattle.reg_types.proofs.Stack.{covered_load, keeps_bytes, sets_bytes, length-written, length-little, store_inside, size_small}
 use Rattle.reg_types.proofs.Calls.{Changes-refl, called}
@@ -48,7 +48,7 @@ IsIn x (y ∷ ys) = (x ≡ y) ⊎ IsIn x ys
 -- The step leads to one of the units `tos`, in a state that fits the fact `after`, or it ends the run. Only declared
 -- counters change.
 abbrev pub Follows : ℕ → Fact → List ℕ → State → Next → Type 0
-Follows declared after tos s (Goes t) = IsIn t.pc tos × Fits after t × Changes declared s.counters t.counters
+Follows declared after tos s (Continues t) = IsIn t.pc tos × Fits after t × Changes declared s.counters t.counters
 Follows declared after tos s (Exits r counters) = counters ≡ s.counters
 Follows declared after tos s Stuck = ⊥
 
@@ -132,25 +132,25 @@ mark_is : (types : List RegType) (size : ℕ) (o : Option ℕ) (e : Effect) → 
   types = types;
   at = at;
   len = size;
-  kept = Anything;
+  spilled = Anything;
 } ≡ e)
 mark_is types size None e h = absurd (cc)
 mark_is types size (Some at) e h = (at, refl, same_effect h)
 
--- the stored value isn't a pointer, or it is one and its place can keep it: eight bytes at a multiple of eight
-abbrev KeepsOrNot : RegType → Bool → Effect → Effect → Type 0
-KeepsOrNot value pointer x e = ((pointer ≡ false) × (x ≡ e)) ⊎ ((pointer ≡ true) × (is_aligned x.len x.at ≡ true) × (record x { kept = value } ≡ e))
+-- the stored value isn't a pointer, or it is one and its place can hold it: eight bytes at a multiple of eight
+abbrev StoresPointerOrNot : RegType → Bool → Effect → Effect → Type 0
+StoresPointerOrNot value pointer x e = ((pointer ≡ false) × (x ≡ e)) ⊎ ((pointer ≡ true) × (is_aligned x.len x.at ≡ true) × (record x { spilled = value } ≡ e))
 
 keeps_test : (b : Bool) (x e : Effect) → cond b (ok_of x) (Err StorePointer) ≡ ok_of e → (b ≡ true) × (x ≡ e)
 keeps_test true x e h = (refl, same_effect h)
 keeps_test false x e h = absurd (cc)
 
-by_pointer : (pointer : Bool) (value : RegType) (x e : Effect) → cond pointer (keeps value x) (ok_of x) ≡ ok_of e → KeepsOrNot value pointer x e
+by_pointer : (pointer : Bool) (value : RegType) (x e : Effect) → cond pointer (stores_pointer value x) (ok_of x) ≡ ok_of e → StoresPointerOrNot value pointer x e
 by_pointer false value x e h = inl (refl, same_effect h)
-by_pointer true value x e h = let t = keeps_test (is_aligned x.len x.at) (record x { kept = value }) e h in inr (refl, t.0, t.1)
+by_pointer true value x e h = let t = keeps_test (is_aligned x.len x.at) (record x { spilled = value }) e h in inr (refl, t.0, t.1)
 
-pointer_is : (value : RegType) (r : Effects) (e : Effect) → keeps_pointer value r ≡ ok_of e
-    → (x : Effect) × (r ≡ ok_of x) × KeepsOrNot value (is_pointer value) x e
+pointer_is : (value : RegType) (r : Effects) (e : Effect) → stores_if_pointer value r ≡ ok_of e
+    → (x : Effect) × (r ≡ ok_of x) × StoresPointerOrNot value (is_pointer value) x e
 pointer_is value (Err f) e h = absurd (cc)
 pointer_is value (Ok x) e h = (x, refl, by_pointer (is_pointer value) value x e h)
 
@@ -173,7 +173,7 @@ neither (Stk k) a b = absurd (cc)
 
 -- a well typed store goes through a pointer into the stack, and its bytes are inside
 pub store_is : (types : List RegType) (base : RegType) (v : Value) (i : Inst) (size : ℕ) (e : Effect) → FitsType base v → store_type types base i size ≡ ok_of e
-    → (at : ℕ) × (stack_at v i.offset size ≡ Some at) × (record { types = types; at = at; len = size; kept = Anything } ≡ e)
+    → (at : ℕ) × (stack_at v i.offset size ≡ Some at) × (record { types = types; at = at; len = size; spilled = Anything } ≡ e)
 store_is types (Stk k) (Stack n) i size e h g =
     let x = mark_is types size (shifted (lowest k) i.offset (512 - size)) e g in
     let there : lowest k ≡ n = ap natural (sym h) in
@@ -187,7 +187,7 @@ store_is types (Stk k) (Number n) i size e h g = absurd h
 store_is types (Stk k) (Context n) i size e h g = absurd h
 
 abbrev marked_by : List RegType → ℕ → ℕ → Effect
-marked_by types at len = record { types = types; at = at; len = len; kept = Anything }
+marked_by types at len = record { types = types; at = at; len = len; spilled = Anything }
 
 -- after a call the registers fit their types: R0 is a number, R1 to R5 are unset, and R6 to R10 are as before
 called_fits : (types : List RegType) (values : List Value) (n r : ℕ) → ((q : ℕ) → FitsType (type_at types q) (register values q))
@@ -216,7 +216,7 @@ module _ (options : LoadOptions) (fact after : Fact) (s : State) (fits : Fits fa
       record { bytes = λ p has. elim ((is.places p).0 has) [ inl old ↦ fits.stack.bytes p old | inr w ↦ absurd (omega (arith, w.0, w.1)) ] }
 
   spills_stay : (e : Effect) (types : List RegType) → IsAfter fact e after → unmarked types ≡ e → (k : ℕ)
-      → IsKept (spilled_type (slice_index after.spills k)) s.stack (8 * k)
+      → FitsSpill (spilled_type (slice_index after.spills k)) s.stack (8 * k)
   spills_stay e types h same =
       let is = as_effect e (unmarked types) h same in kept_after_bytes fact.spills after.spills s.stack 0 [] is.spills fits.spills
 
@@ -252,23 +252,23 @@ module _ (options : LoadOptions) (fact after : Fact) (s : State) (fits : Fits fa
       }
 
   sets_follow : (e : Effect) (dst : ℕ) (r : Result RegType Flaw) (o : Option Value) → IsAfter fact e after → dst ≤ 10 → set_type fact.types dst r ≡ ok_of e
-      → ((t : RegType) → r ≡ typed_as t → Gives o t) → Follows options.mask after ((s.pc + 1) ∷ []) s (where_some o (λ v. sets s dst v))
+      → ((t : RegType) → r ≡ typed_as t → Gives o t) → Follows options.mask after ((s.pc + 1) ∷ []) s (or_stuck o (λ v. sets s dst v))
   sets_follow e dst r None is small h g = let x = set_is fact.types dst r e h in absurd (g x.0 x.1)
   sets_follow e dst r (Some v) is small h g =
       let x = set_is fact.types dst r e h in
       let fit = fits_written e dst x.0 v (s.pc + 1) is x.3 small (g x.0 x.1) in
-      subst (λ b. Follows options.mask after ((s.pc + 1) ∷ []) s (cond b Stuck (Goes (record s { pc = s.pc + 1; registers = slice_set s.registers dst v }))))
+      subst (λ b. Follows options.mask after ((s.pc + 1) ∷ []) s (cond b Stuck (Continues (record s { pc = s.pc + 1; registers = slice_set s.registers dst v }))))
       (sym x.2)
       (inl refl, fit, Changes-refl options.mask s.counters)
 
   wide_follows : (e : Effect) (dst n : ℕ) → IsAfter fact e after → dst ≤ 10 → set_type fact.types dst (Ok (Const n)) ≡ ok_of e
       → Follows options.mask after ((s.pc + 2) ∷ []) s
-      (cond (dst == 10) Stuck (Goes (record s { pc = s.pc + 2; registers = slice_set s.registers dst (Number n) })))
+      (cond (dst == 10) Stuck (Continues (record s { pc = s.pc + 2; registers = slice_set s.registers dst (Number n) })))
   wide_follows e dst n is small h =
       let x = write_test (dst == 10) (put_type fact.types dst (Ok (Const n))) e h in
       let fit = fits_written e dst (Const n) (Number n) (s.pc + 2) is (same_effect x.1) small refl in
       subst (λ b. Follows options.mask after ((s.pc + 2) ∷ []) s
-      (cond b Stuck (Goes (record s { pc = s.pc + 2; registers = slice_set s.registers dst (Number n) })))) (sym x.0)
+      (cond b Stuck (Continues (record s { pc = s.pc + 2; registers = slice_set s.registers dst (Number n) })))) (sym x.0)
       (inl refl, fit, Changes-refl options.mask s.counters)
 
   operand_fits : (source : Source) (w : Width) (i : Inst) → FitsType (operand_type source w i fact.types) (operand source w i s.registers)
@@ -314,49 +314,49 @@ module _ (options : LoadOptions) (fact after : Fact) (s : State) (fits : Fits fa
 
   loads_follow : (context : List ℕ) → length context ≡ context_len options.layout → (f : ℕ → ℕ) (i : Inst) (size : ℕ) (e : Effect) → IsAfter fact e after
       → i.dst ≤ 10 → set_type fact.types i.dst (load_type options.layout fact.stack (type_at fact.types i.src) i size) ≡ ok_of e
-      → Follows options.mask after ((s.pc + 1) ∷ []) s (where_some (mem (length context) (register s.registers i.src) i.offset size)
-      (λ at. where_some (read at size context s.stack) (λ n. sets s i.dst (Number (f n)))))
+      → Follows options.mask after ((s.pc + 1) ∷ []) s (or_stuck (mem (length context) (register s.registers i.src) i.offset size)
+      (λ at. or_stuck (read at size context s.stack) (λ n. sets s i.dst (Number (f n)))))
   loads_follow context long f i size e is small h =
       let r = load_type options.layout fact.stack (type_at fact.types i.src) i size in
       let x = set_is fact.types i.dst r e h in
       let g = load_gives context long (type_at fact.types i.src) (register s.registers i.src) i size x.0 (fits.registers i.src) x.1 in
-      subst (λ o. Follows options.mask after ((s.pc + 1) ∷ []) s (where_some o
-      (λ at. where_some (read at size context s.stack) (λ n. sets s i.dst (Number (f n)))))) (sym g.2)
-      (subst (λ o. Follows options.mask after ((s.pc + 1) ∷ []) s (where_some o (λ n. sets s i.dst (Number (f n))))) (sym g.3)
+      subst (λ o. Follows options.mask after ((s.pc + 1) ∷ []) s (or_stuck o
+      (λ at. or_stuck (read at size context s.stack) (λ n. sets s i.dst (Number (f n)))))) (sym g.2)
+      (subst (λ o. Follows options.mask after ((s.pc + 1) ∷ []) s (or_stuck o (λ n. sets s i.dst (Number (f n))))) (sym g.3)
       (sets_follow e i.dst r (Some (Number (f g.0))) is small h (λ t k. subst (λ u. FitsType u (Number (f g.0))) (g.4 ∙ same_type x.0 t (sym x.1 ∙ k)) tt)))
 
-  -- if a fact has a spill for an aligned place, then the stack keeps a pointer of that type there
+  -- if a fact has a spill for an aligned place, then the stack holds a pointer of that type there
   spill_test : (size at : ℕ) (b : Bool) → is_aligned size at ≡ b → is_unset (cond b (spilled_type (slice_index fact.spills (at / 8))) Anything) ≡ false
-      → (w : Value) × (is_aligned size at ≡ true) × (kept_at s.stack at ≡ Some w) × FitsType (cond b (spilled_type (slice_index fact.spills (at / 8))) Anything) w
+      → (w : Value) × (is_aligned size at ≡ true) × (pointer_at s.stack at ≡ Some w) × FitsType (cond b (spilled_type (slice_index fact.spills (at / 8))) Anything) w
   spill_test size at true a u =
       let h = aligned size at a in
       let place : 8 * (at / 8) ≡ at = omega (arith, h.1) in
       let x = fits.spills (at / 8) u in
-      (x.0, a, ap (kept_at s.stack) (sym place) ∙ x.2, x.1)
+      (x.0, a, ap (pointer_at s.stack) (sym place) ∙ x.2, x.1)
   spill_test size at false a u = absurd (cc)
 
   spill_gives : (size : ℕ) (o : Option ℕ) → is_unset (spill_in fact.spills size o) ≡ false → (at : ℕ) × (w : Value) × (o ≡ Some at) × (is_aligned size at ≡ true)
-      × (kept_at s.stack at ≡ Some w) × FitsType (spill_in fact.spills size o) w
+      × (pointer_at s.stack at ≡ Some w) × FitsType (spill_in fact.spills size o) w
   spill_gives size None u = absurd (cc)
   spill_gives size (Some at) u = let x = spill_test size at (is_aligned size at) refl u in (at, x.0, refl, x.1, x.2, x.3)
 
-  number_none : (size at : ℕ) (w : Value) → is_aligned size at ≡ true → kept_at s.stack at ≡ Some w → number_in s.stack at size ≡ None
+  number_none : (size at : ℕ) (w : Value) → is_aligned size at ≡ true → pointer_at s.stack at ≡ Some w → number_in s.stack at size ≡ None
   number_none size at w a e =
       let h = aligned size at a in
       ap (number_in s.stack at) h.0 ∙ no_number (cell_at s.stack at) s.stack at w (number_in s.stack (suc at) 7) e
 
   -- a load through a pointer to a spill reads the spilled pointer
-  kept_gives : (context : List ℕ) (a : RegType) (v : Value) (i : Inst) (size : ℕ) → FitsType a v → is_unset (kept_type fact.spills a i size) ≡ false
+  kept_gives : (context : List ℕ) (a : RegType) (v : Value) (i : Inst) (size : ℕ) → FitsType a v → is_unset (reload_type fact.spills a i size) ≡ false
       → (at : Place) × (w : Value) × (mem (length context) v i.offset size ≡ Some at) × (loaded at size context s.stack ≡ Some w)
-      × FitsType (kept_type fact.spills a i size) w
+      × FitsType (reload_type fact.spills a i size) w
   kept_gives context (Stk k) (Stack n) i size h u =
       let x = spill_gives size (shifted (lowest k) i.offset (512 - size)) u in
       let there : lowest k ≡ n = ap natural (sym h) in
-      let kept : kept_in (InStack x.0) size s.stack ≡ Some x.1 = ap (λ b. cond b (kept_at s.stack x.0) None) x.3 ∙ x.4 in (
+      let spilled : pointer_in (InStack x.0) size s.stack ≡ Some x.1 = ap (λ b. cond b (pointer_at s.stack x.0) None) x.3 ∙ x.4 in (
         InStack x.0,
         x.1,
         ap (λ m. map_option InStack (shifted m i.offset (512 - size))) (sym there) ∙ ap (map_option InStack) x.2,
-        ap (λ o. number_or o (kept_in (InStack x.0) size s.stack)) (number_none size x.0 x.1 x.3 x.4) ∙ kept,
+        ap (λ o. number_or o (pointer_in (InStack x.0) size s.stack)) (number_none size x.0 x.1 x.3 x.4) ∙ spilled,
         x.5,
       )
   kept_gives context Anything v i size h u = absurd (cc)
@@ -369,28 +369,28 @@ module _ (options : LoadOptions) (fact after : Fact) (s : State) (fits : Fits fa
 
   loaded_follow : (context : List ℕ) → length context ≡ context_len options.layout → (i : Inst) (size : ℕ) (e : Effect) → IsAfter fact e after → i.dst ≤ 10
       → set_type fact.types i.dst (loaded_type options.layout fact.stack fact.spills (type_at fact.types i.src) i size) ≡ ok_of e
-      → Follows options.mask after ((s.pc + 1) ∷ []) s (where_some (mem (length context) (register s.registers i.src) i.offset size)
-      (λ at. where_some (loaded at size context s.stack) (λ v. sets s i.dst v)))
+      → Follows options.mask after ((s.pc + 1) ∷ []) s (or_stuck (mem (length context) (register s.registers i.src) i.offset size)
+      (λ at. or_stuck (loaded at size context s.stack) (λ v. sets s i.dst v)))
   loaded_follow context long i size e is small h =
       let base = type_at fact.types i.src in
       let value = register s.registers i.src in
-      let kept = kept_type fact.spills base i size in
+      let spilled = reload_type fact.spills base i size in
       let r = loaded_type options.layout fact.stack fact.spills base i size in
       let x = set_is fact.types i.dst r e h in
-      elim (kept_cases kept (is_unset kept) (load_type options.layout fact.stack base i size) x.0 refl x.1) [
+      elim (kept_cases spilled (is_unset spilled) (load_type options.layout fact.stack base i size) x.0 refl x.1) [
         | inl number ↦
             let g = load_gives context long base value i size x.0 (fits.registers i.src) number.1 in
-            let got : loaded g.1 size context s.stack ≡ Some (Number g.0) = ap (λ o. number_or o (kept_in g.1 size s.stack)) g.3 in
-            subst (λ o. Follows options.mask after ((s.pc + 1) ∷ []) s (where_some o (λ at. where_some (loaded at size context s.stack) (λ v. sets s i.dst v))))
+            let got : loaded g.1 size context s.stack ≡ Some (Number g.0) = ap (λ o. number_or o (pointer_in g.1 size s.stack)) g.3 in
+            subst (λ o. Follows options.mask after ((s.pc + 1) ∷ []) s (or_stuck o (λ at. or_stuck (loaded at size context s.stack) (λ v. sets s i.dst v))))
             (sym g.2)
-            (subst (λ o. Follows options.mask after ((s.pc + 1) ∷ []) s (where_some o (λ v. sets s i.dst v))) (sym got)
+            (subst (λ o. Follows options.mask after ((s.pc + 1) ∷ []) s (or_stuck o (λ v. sets s i.dst v))) (sym got)
             (sets_follow e i.dst r (Some (Number g.0)) is small h (λ t k. subst (λ u. FitsType u (Number g.0)) (g.4 ∙ same_type x.0 t (sym x.1 ∙ k)) tt)))
         | inr pointer ↦
             let g = kept_gives context base value i size (fits.registers i.src) pointer.0 in
-            subst (λ o. Follows options.mask after ((s.pc + 1) ∷ []) s (where_some o (λ at. where_some (loaded at size context s.stack) (λ v. sets s i.dst v))))
+            subst (λ o. Follows options.mask after ((s.pc + 1) ∷ []) s (or_stuck o (λ at. or_stuck (loaded at size context s.stack) (λ v. sets s i.dst v))))
             (sym g.2)
-            (subst (λ o. Follows options.mask after ((s.pc + 1) ∷ []) s (where_some o (λ v. sets s i.dst v))) (sym g.3)
-            (sets_follow e i.dst r (Some g.1) is small h (λ t k. subst (λ u. FitsType u g.1) (same_type kept t (pointer.1 ∙ sym x.1 ∙ k)) g.4)))
+            (subst (λ o. Follows options.mask after ((s.pc + 1) ∷ []) s (or_stuck o (λ v. sets s i.dst v))) (sym g.3)
+            (sets_follow e i.dst r (Some g.1) is small h (λ t k. subst (λ u. FitsType u g.1) (same_type spilled t (pointer.1 ∙ sym x.1 ∙ k)) g.4)))
       ]
 
   -- ---- stores
@@ -415,10 +415,10 @@ module _ (options : LoadOptions) (fact after : Fact) (s : State) (fits : Fits fa
       }
 
   abbrev keeping : RegType → Effect → Effect
-  keeping t x = record x { kept = t }
+  keeping t x = record x { spilled = t }
 
   abbrev kept_by : ℕ → RegType → Effect
-  kept_by at t = record { types = fact.types; at = at; len = 8; kept = t }
+  kept_by at t = record { types = fact.types; at = at; len = 8; spilled = t }
 
   fits_kept : (e : Effect) (at : ℕ) (t : RegType) (v : Value) (pc : ℕ) → IsAfter fact e after → kept_by at t ≡ e → at % 8 ≡ 0 → at + 8 ≤ 512
       → is_pointer t ≡ true → FitsType t v → Fits after (record s { pc = pc; stack = pieces_written s.stack at v 0 8 })
@@ -444,10 +444,10 @@ module _ (options : LoadOptions) (fact after : Fact) (s : State) (fits : Fits fa
   stored_pointer i size Unset p = absurd p
   stored_pointer i size (Number n) p = absurd p
 
-  -- a store of a pointer to an aligned place of eight bytes keeps the pointer, and the state after it fits the fact
-  -- after it
+  -- after a store of a pointer to an aligned place of eight bytes, the stack holds the pointer there, and the state
+  -- fits the fact after the store
   keeps_follow : (i : Inst) (size : ℕ) (x e : Effect) (t : RegType) (v : Value) → IsAfter fact e after → size ≤ 8
-      → store_type fact.types (type_at fact.types i.dst) i size ≡ ok_of x → is_aligned x.len x.at ≡ true → record x { kept = t } ≡ e → is_pointer t ≡ true
+      → store_type fact.types (type_at fact.types i.dst) i size ≡ ok_of x → is_aligned x.len x.at ≡ true → record x { spilled = t } ≡ e → is_pointer t ≡ true
       → FitsType t v → Follows options.mask after ((s.pc + 1) ∷ []) s (stores_value s i size v)
   keeps_follow i size x e t v is small h whole same pointer f =
       let y = store_is fact.types (type_at fact.types i.dst) (register s.registers i.dst) i size x (fits.registers i.dst) h in
@@ -458,8 +458,8 @@ module _ (options : LoadOptions) (fact after : Fact) (s : State) (fits : Fits fa
       let place : aligned_place size (stack_at (register s.registers i.dst) i.offset size) ≡ Some y.0 =
       ap (aligned_place size) y.1 ∙ ap (λ b. cond b (Some y.0) None) aligned_here in
       subst (Follows options.mask after ((s.pc + 1) ∷ []) s) (sym (stored_pointer i size v (pointer_of t v f pointer)))
-      (subst (λ o. Follows options.mask after ((s.pc + 1) ∷ []) s (where_some o
-      (λ at. Goes (record s { pc = s.pc + 1; stack = pieces_written s.stack at v 0 8 })))) (sym place)
+      (subst (λ o. Follows options.mask after ((s.pc + 1) ∷ []) s (or_stuck o
+      (λ at. Continues (record s { pc = s.pc + 1; stack = pieces_written s.stack at v 0 8 })))) (sym place)
       (inl refl, fits_kept e y.0 t v (s.pc + 1) is effect_is parts.1 (omega (arith, inside, parts.0)) pointer f, Changes-refl options.mask s.counters))
 
   stores_follow : (i : Inst) (size n : ℕ) (e : Effect) → IsAfter fact e after → size ≤ 8 → store_type fact.types (type_at fact.types i.dst) i size ≡ ok_of e
@@ -469,8 +469,8 @@ module _ (options : LoadOptions) (fact after : Fact) (s : State) (fits : Fits fa
       let long = length-little 0 size n in
       let inside : x.0 + size ≤ 512 = store_inside (register s.registers i.dst) i size x.0 small x.1 in
       let same : marked_by fact.types x.0 (length (little_bytes size n)) ≡ e = ap (λ l. marked_by fact.types x.0 l) long ∙ x.2 in
-      subst (λ o. Follows options.mask after ((s.pc + 1) ∷ []) s (where_some o
-      (λ at. Goes (record s { pc = s.pc + 1; stack = written s.stack at (little_bytes size n) })))) (sym x.1)
+      subst (λ o. Follows options.mask after ((s.pc + 1) ∷ []) s (or_stuck o
+      (λ at. Continues (record s { pc = s.pc + 1; stack = written s.stack at (little_bytes size n) })))) (sym x.1)
       (inl refl, fits_stored e x.0 (little_bytes size n) (s.pc + 1) is same (omega (arith, long, inside)), Changes-refl options.mask s.counters)
 
   -- ---- jumps
@@ -483,11 +483,11 @@ module _ (options : LoadOptions) (fact after : Fact) (s : State) (fits : Fits fa
       → option_cons (shifted (s.pc + 1) z 512) rest ≡ Some tos → Follows options.mask after tos s (jumps s z)
   jumps_follow e z rest tos is same h =
       let x = cons_is (shifted (s.pc + 1) z 512) rest tos h in
-      subst (λ o. Follows options.mask after tos s (where_some o (λ to. Goes (record s { pc = to })))) (sym x.1)
+      subst (λ o. Follows options.mask after tos s (or_stuck o (λ to. Continues (record s { pc = to })))) (sym x.1)
       (subst (IsIn x.0) x.2 (inl refl), fits_moved e x.0 is same, Changes-refl options.mask s.counters)
 
   falls_through : (e : Effect) (z : ℤ) (tos : List ℕ) → IsAfter fact e after → unmarked fact.types ≡ e
-      → option_cons (shifted (s.pc + 1) z 512) ((s.pc + 1) ∷ []) ≡ Some tos → Follows options.mask after tos s (Goes (record s { pc = s.pc + 1 }))
+      → option_cons (shifted (s.pc + 1) z 512) ((s.pc + 1) ∷ []) ≡ Some tos → Follows options.mask after tos s (Continues (record s { pc = s.pc + 1 }))
   falls_through e z tos is same h =
       let x = cons_is (shifted (s.pc + 1) z 512) ((s.pc + 1) ∷ []) tos h in
       (subst (IsIn (s.pc + 1)) x.2 (inr (inl refl)), fits_moved e (s.pc + 1) is same, Changes-refl options.mask s.counters)
@@ -502,7 +502,7 @@ module _ (options : LoadOptions) (fact after : Fact) (s : State) (fits : Fits fa
 
   -- ---- calls
 
-  call_fits : (e : Effect) → IsAfter fact e after → (a : Answer) (at : ℕ) (bytes : List ℕ) → marked_by (after_call fact.types) at (length bytes) ≡ e
+  call_fits : (e : Effect) → IsAfter fact e after → (a : HelperResult) (at : ℕ) (bytes : List ℕ) → marked_by (after_call fact.types) at (length bytes) ≡ e
       → a.stack ≡ written s.stack at bytes → at + length bytes ≤ 512
       → Fits after (record s {
         pc = s.pc + 1;
@@ -526,38 +526,38 @@ module _ (options : LoadOptions) (fact after : Fact) (s : State) (fits : Fits fa
                   ]);
             };
         long = ap length stack ∙ length-written s.stack at bytes ∙ fits.long;
-        spills = λ k. subst (λ st. IsKept (spilled_type (slice_index after.spills k)) st (8 * k)) (sym stack)
+        spills = λ k. subst (λ st. FitsSpill (spilled_type (slice_index after.spills k)) st (8 * k)) (sym stack)
             (kept_after_bytes fact.spills after.spills s.stack at bytes now.spills fits.spills k);
       }
 
   -- a well typed instruction leads to one of its units, in a state that fits the fact after it, or it ends the run
   pub step_follows : (context : List ℕ) → length context ≡ context_len options.layout
       → (view : View) (i : Inst) (upper : ℤ) (form : Form) (e : Effect) (tos : List ℕ) → i.dst ≤ 10 → IsAfter fact e after
-      → effect options fact i upper form ≡ ok_of e → leads s.pc i form ≡ Some tos → Follows options.mask after tos s (act options.mask context view s i upper form)
+      → effect options fact i upper form ≡ ok_of e → successor_units s.pc i form ≡ Some tos → Follows options.mask after tos s (form_step options.mask context view s i upper form)
   step_follows context long view i upper (Arithmetic op w source) e tos small is h l =
-      subst (λ ts. Follows options.mask after ts s (act options.mask context view s i upper (Arithmetic op w source))) (some_list _ tos l)
+      subst (λ ts. Follows options.mask after ts s (form_step options.mask context view s i upper (Arithmetic op w source))) (some_list _ tos l)
       (sets_follow e i.dst (alu_type options.layout op w source i (type_at fact.types i.dst) (operand_type source w i fact.types))
       (alu_value (length context) op w source i (register s.registers i.dst) (operand source w i s.registers)) is small h
       (λ t g. arithmetic options.layout (length context) long op w source i s.registers (type_at fact.types i.dst) (operand_type source w i fact.types)
       (register s.registers i.dst) t (fits.registers i.dst) (operand_fits source w i) g))
   step_follows context long view i upper Wide e tos small is h l =
-      subst (λ ts. Follows options.mask after ts s (act options.mask context view s i upper Wide)) (some_list _ tos l)
+      subst (λ ts. Follows options.mask after ts s (form_step options.mask context view s i upper Wide)) (some_list _ tos l)
       (wide_follows e i.dst (cast_unsigned w32 upper * 2 ^ 32 + cast_unsigned w32 i.imm) is small h)
   step_follows context long view i upper (Load size) e tos small is h l =
-      subst (λ ts. Follows options.mask after ts s (act options.mask context view s i upper (Load size))) (some_list _ tos l)
+      subst (λ ts. Follows options.mask after ts s (form_step options.mask context view s i upper (Load size))) (some_list _ tos l)
       (loaded_follow context long i (bytes_in size) e is small h)
   step_follows context long view i upper (LoadSigned size) e tos small is h l =
-      subst (λ ts. Follows options.mask after ts s (act options.mask context view s i upper (LoadSigned size))) (some_list _ tos l)
+      subst (λ ts. Follows options.mask after ts s (form_step options.mask context view s i upper (LoadSigned size))) (some_list _ tos l)
       (loads_follow context long (λ n. cast_unsigned w64 (extended (8 * bytes_in size) n)) i (bytes_in size) e is small h)
   step_follows context long view i upper (StoreImmediate size) e tos small is h l =
-      subst (λ ts. Follows options.mask after ts s (act options.mask context view s i upper (StoreImmediate size))) (some_list _ tos l)
+      subst (λ ts. Follows options.mask after ts s (form_step options.mask context view s i upper (StoreImmediate size))) (some_list _ tos l)
       (stores_follow i (bytes_in size) (cast_unsigned w64 i.imm) e is (size_small size) h)
   step_follows context long view i upper (StoreRegister size) e tos small is h l =
       let stored = store_type fact.types (type_at fact.types i.dst) i (bytes_in size) in
       let value = type_at fact.types i.src in
-      let u = unset_test (is_unset value) (NotANumber i.src) (keeps_pointer value stored) e h in
+      let u = unset_test (is_unset value) (NotANumber i.src) (stores_if_pointer value stored) e h in
       let p = pointer_is value stored e u.1 in
-      subst (λ ts. Follows options.mask after ts s (act options.mask context view s i upper (StoreRegister size))) (some_list _ tos l)
+      subst (λ ts. Follows options.mask after ts s (form_step options.mask context view s i upper (StoreRegister size))) (some_list _ tos l)
       (elim p.2 [
         | inl plain ↦
             let n = numeric value (register s.registers i.src) (fits.registers i.src) (neither value u.0 plain.0) in
@@ -574,17 +574,17 @@ module _ (options : LoadOptions) (fact after : Fact) (s : State) (fits : Fits fa
       let x = compare_test (is_numeric a) (is_numeric b) (NotANumber i.dst) (NotANumber i.src) (unmarked fact.types) e h in
       let m = numeric a (register s.registers i.dst) (fits.registers i.dst) x.0 in
       let n = numeric b (operand source w i s.registers) (operand_fits source w i) x.1 in
-      subst (λ v. Follows options.mask after tos s (where_some (number v)
-      (λ a. where_some (number (operand source w i s.registers)) (λ b. branches s (holds c w a b) i.offset)))) (sym m.1)
-      (subst (λ v. Follows options.mask after tos s (where_some (number v) (λ b. branches s (holds c w m.0 b) i.offset))) (sym n.1)
+      subst (λ v. Follows options.mask after tos s (or_stuck (number v)
+      (λ a. or_stuck (number (operand source w i s.registers)) (λ b. branches s (holds c w a b) i.offset)))) (sym m.1)
+      (subst (λ v. Follows options.mask after tos s (or_stuck (number v) (λ b. branches s (holds c w m.0 b) i.offset))) (sym n.1)
       (branches_follow (holds c w m.0 n.0) e i.offset tos is x.2 l))
   step_follows context long view i upper Exit e tos small is h l =
       let t = exit_test (is_numeric (type_at fact.types 0)) (NotANumber 0) (unmarked fact.types) e h in
       let n = numeric (type_at fact.types 0) (register s.registers 0) (fits.registers 0) t in
-      subst (λ v. Follows options.mask after tos s (where_some (number v) (λ r. Exits r s.counters))) (sym n.1) refl
+      subst (λ v. Follows options.mask after tos s (or_stuck (number v) (λ r. Exits r s.counters))) (sym n.1) refl
   step_follows context long view i upper Call e tos small is h l =
       let x = called options.mask fact.types view (register s.registers 1) (register s.registers 2) s.counters s.stack (type_at fact.types 1)
       (type_at fact.types 2) (fits.registers 1) (fits.registers 2) (helper_of i.imm) e refl refl h in
-      subst (λ ts. Follows options.mask after ts s (act options.mask context view s i upper Call)) (some_list _ tos l)
-      (subst (λ o. Follows options.mask after ((s.pc + 1) ∷ []) s (where_some o (λ a. call_state s a))) (sym x.there)
+      subst (λ ts. Follows options.mask after ts s (form_step options.mask context view s i upper Call)) (some_list _ tos l)
+      (subst (λ o. Follows options.mask after ((s.pc + 1) ∷ []) s (or_stuck o (λ a. call_state s a))) (sym x.there)
       (inl refl, call_fits e is x.reply x.at x.bytes x.marks x.stack_is x.inside, x.changes))

@@ -29,12 +29,6 @@ nothing_twice = tt
 abbrev pub stored_fact : ℕ → Fact → StoredFact
 stored_fact at fact = record { at = at; fact = fact }
 
-pub stored_none : (facts : List StoredFact) (at : ℕ) → ((j : ℕ) (d : StoredFact) → j < length facts → (slice_index_or facts j d).at ≢ at) → stored facts at ≡ None
-stored_none [] at h = refl
-stored_none (s ∷ rest) at h =
-    cond-false (at == s.at) (Some s.fact) (stored rest at) (ne_eqb at s.at (λ e. h 0 s (omega arith) (sym e)))
-    ∙ stored_none rest at (λ j d l. h (suc j) d (omega (arith, l)))
-
 later : (s : StoredFact) (rest : List StoredFact) (at k : ℕ) → IsPlace (s ∷ rest) at (suc k) → IsPlace rest at k
 later s rest at k p =
     record {
@@ -129,7 +123,7 @@ module _ (facts : List StoredFact) (at k : ℕ) (d : StoredFact) (f fact : Fact)
   joined_is =
       record {
         each = joined_each;
-        kept = λ q. elim (cases_eq q at) [ inl e ↦ ap is_some (set_here q e) ∙ sym (ap is_some (held_here q e)) | inr n ↦ ap is_some (set_elsewhere q n) ];
+        occupied = λ q. elim (cases_eq q at) [ inl e ↦ ap is_some (set_here q e) ∙ sym (ap is_some (held_here q e)) | inr n ↦ ap is_some (set_elsewhere q n) ];
       }
 
 -- a fact that a jump brings to a unit with a stored fact is joined with that one

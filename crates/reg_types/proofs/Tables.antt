@@ -1,4 +1,4 @@
--- The order of facts, and tables of them.
+-- The order of facts (which fact allows more states), and tables of facts.
 use Rattle.std.proofs.Common.{◌≡◌, ◌≢◌, ℕ, ◌+◌, ◌<◌, ◌≤◌, List, Bool, true, false, refl, sym, ap, ◌∙◌, subst, inl, inr, arith, length}
 use Rattle.std.specs.Prelude.{◌==◌, ◌*◌, cond, slice_set, slice_index}
 use Rattle.std.specs.Ordering.{int_eq}
@@ -14,9 +14,9 @@ use Rattle.reg_types.specs.declared.types.RegType.{RegType}
 use Rattle.reg_types.specs.declared.types.RegType.TheVariants.{Unset as Anything, Num, Const, Ctx, Stk}
 use Rattle.reg_types.specs.declared.types.Fact.{Fact}
 use Rattle.reg_types.specs.Rules.{type_at, join_type, spilled_type}
-use Rattle.reg_types.specs.Facts.{FitsType, IsKept, IsBelow}
+use Rattle.reg_types.specs.Facts.{FitsType, FitsSpill, IsBelow}
 use Rattle.reg_types.specs.Inference.{join_spills}
-use Rattle.reg_types.proofs.Keeping.{joined_spill, nothing_kept}
+use Rattle.reg_types.proofs.Keeping.{joined_spill, no_spill_fits}
 
 -- ---- the order
 
@@ -69,21 +69,21 @@ join_right (Ctx k) (Ctx m) v h = kept_right (k == m) (Ctx k) (Ctx m) v (λ e. ap
 join_right (Stk k) (Stk m) v h = kept_right (int_eq k m) (Stk k) (Stk m) v (λ e. ap Stk ((Decides-int_eq k m).0 e)) h
 join_right a b v h = tt
 
--- if the stack keeps the pointer of a fact's spill k, then it also keeps that of spill k of a join with this fact
-spills_left : (a b j : List ℕ) (stack : List Cell) (k : ℕ) → j ≡ join_spills a b → IsKept (spilled_type (slice_index a k)) stack (8 * k)
-    → IsKept (spilled_type (slice_index j k)) stack (8 * k)
+-- if the stack holds the pointer of a fact's spill k, then it also holds that of spill k of a join with this fact
+spills_left : (a b j : List ℕ) (stack : List Cell) (k : ℕ) → j ≡ join_spills a b → FitsSpill (spilled_type (slice_index a k)) stack (8 * k)
+    → FitsSpill (spilled_type (slice_index j k)) stack (8 * k)
 spills_left a b j stack k e h =
-    subst (λ ns. IsKept (spilled_type (slice_index ns k)) stack (8 * k)) (sym e) (elim (joined_spill a b k) [
-      | inl same ↦ subst (λ m. IsKept (spilled_type m) stack (8 * k)) (sym same.0) h
-      | inr none ↦ nothing_kept (slice_index (join_spills a b) k) stack (8 * k) none
+    subst (λ ns. FitsSpill (spilled_type (slice_index ns k)) stack (8 * k)) (sym e) (elim (joined_spill a b k) [
+      | inl same ↦ subst (λ m. FitsSpill (spilled_type m) stack (8 * k)) (sym same.0) h
+      | inr none ↦ no_spill_fits (slice_index (join_spills a b) k) stack (8 * k) none
     ])
 
-spills_right : (a b j : List ℕ) (stack : List Cell) (k : ℕ) → j ≡ join_spills a b → IsKept (spilled_type (slice_index b k)) stack (8 * k)
-    → IsKept (spilled_type (slice_index j k)) stack (8 * k)
+spills_right : (a b j : List ℕ) (stack : List Cell) (k : ℕ) → j ≡ join_spills a b → FitsSpill (spilled_type (slice_index b k)) stack (8 * k)
+    → FitsSpill (spilled_type (slice_index j k)) stack (8 * k)
 spills_right a b j stack k e h =
-    subst (λ ns. IsKept (spilled_type (slice_index ns k)) stack (8 * k)) (sym e) (elim (joined_spill a b k) [
-      | inl same ↦ subst (λ m. IsKept (spilled_type m) stack (8 * k)) (sym same.1) h
-      | inr none ↦ nothing_kept (slice_index (join_spills a b) k) stack (8 * k) none
+    subst (λ ns. FitsSpill (spilled_type (slice_index ns k)) stack (8 * k)) (sym e) (elim (joined_spill a b k) [
+      | inl same ↦ subst (λ m. FitsSpill (spilled_type m) stack (8 * k)) (sym same.1) h
+      | inr none ↦ no_spill_fits (slice_index (join_spills a b) k) stack (8 * k) none
     ])
 
 -- each state that fits one of two facts fits their join; the join is given register by register and place by place

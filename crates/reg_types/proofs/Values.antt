@@ -21,7 +21,7 @@ use Rattle.reg_types.specs.declared.types.RegType.{RegType}
 use Rattle.reg_types.specs.declared.types.RegType.TheVariants.{Unset as Anything, Num, Const, Ctx, Stk}
 use Rattle.reg_types.specs.declared.types.Flaw.{Flaw}
 use Rattle.reg_types.specs.declared.types.Flaw.TheVariants.{NotANumber, OutOfRange, PointerArithmetic}
-use Rattle.reg_types.specs.Rules.{is_unset, is_pointer, one_number, two_numbers, ctx_at, stk_at, sum_type, copied_type, is_plain, alu_type}
+use Rattle.reg_types.specs.Rules.{is_unset, is_pointer, one_number, two_numbers, ctx_at, stk_at, sum_type, copied_type, is_zero_offset, alu_type}
 use Rattle.reg_types.specs.Facts.{FitsType}
 
 -- the result is a value that fits the type, and not None
@@ -180,7 +180,7 @@ copied src b vb t g e =
     let x = copy_test (is_unset b) src b t e in
     subst (λ u. Gives (set_value vb) u) x.1 (set_fits b vb x.0 g)
 
-move_fits : (w : Width) (i : Inst) (o : ℤ) (t : RegType) → ok_of (cond (is_plain o) (Const (low w (immediate w i.imm))) Num) ≡ ok_of t
+move_fits : (w : Width) (i : Inst) (o : ℤ) (t : RegType) → ok_of (cond (is_zero_offset o) (Const (low w (immediate w i.imm))) Num) ≡ ok_of t
     → Gives (move_value w Immediate o (Number (immediate w i.imm))) t
 move_fits Bits32 i (pos zero) t e = subst (λ u. Gives (move_value Bits32 Immediate (pos zero) (Number (immediate Bits32 i.imm))) u) (ok_inj e) refl
 move_fits Bits32 i (pos (suc n)) t e = subst (λ u. Gives (move_value Bits32 Immediate (pos (suc n)) (Number (immediate Bits32 i.imm))) u) (ok_inj e) tt
@@ -189,7 +189,7 @@ move_fits Bits64 i (pos zero) t e = subst (λ u. Gives (move_value Bits64 Immedi
 move_fits Bits64 i (pos (suc n)) t e = subst (λ u. Gives (move_value Bits64 Immediate (pos (suc n)) (Number (immediate Bits64 i.imm))) u) (ok_inj e) tt
 move_fits Bits64 i (negsuc n) t e = subst (λ u. Gives (move_value Bits64 Immediate (negsuc n) (Number (immediate Bits64 i.imm))) u) (ok_inj e) tt
 
-moved : (o : ℤ) (src : ℕ) (b : RegType) (vb : Value) (t : RegType) → FitsType b vb → cond (is_plain o) (copied_type src b) (one_number src b) ≡ Ok t
+moved : (o : ℤ) (src : ℕ) (b : RegType) (vb : Value) (t : RegType) → FitsType b vb → cond (is_zero_offset o) (copied_type src b) (one_number src b) ≡ Ok t
     → Gives (move_value Bits64 Register o vb) t
 moved (pos zero) src b vb t g e = copied src b vb t g e
 moved (pos (suc n)) src b vb t g e = on_one (alu Mov Bits64 (pos (suc n)) 0) src b vb t g e

@@ -23,12 +23,12 @@ use Rattle.reg_types.specs.declared.refusal.TypeFault.{TypeFault}
 use Rattle.reg_types.specs.declared.refusal.Refusal.{Refusal}
 use Rattle.reg_types.specs.declared.refusal.Refusal.TheVariants.{Decode, Flow as FlowRefusal, «Type» as TypeRefusal, OutOfMemory}
 use Rattle.reg_types.specs.Refusals.{located}
-use Rattle.reg_types.specs.Rules.{judged}
+use Rattle.reg_types.specs.Rules.{checked_effect}
 use Rattle.reg_types.specs.Facts.{Facts, IsSound, IsAfter, IsEntry, IsNext, stored, list_of, jumps_of, jump_of, carried_of}
-use Rattle.reg_types.specs.Inference.{leads, entry_fact, fact_after, instruction_of, instruction_at, flaw_in, flaw_of, flaw_under, taken_in, arrived}
+use Rattle.reg_types.specs.Inference.{successor_units, entry_fact, fact_after, instruction_of, instruction_at, flaw_in, flaw_of, flaw_under, taken_in, arrived}
 use Rattle.reg_types.specs.Inference.{arrived_all, passed_by, passed_from, passed, known, inferred, or_else, first_flaw_below, first_flaw, goes, is_entered}
 use Rattle.operations.specs.Operations.{upper_of}
-use Rattle.reg_types.specs.Passing.{IsSame, AreSame, AreStored, IsCarriedTo, IsCarriedAt, IsJoined, IsSettled, IsVisited, IsPassed, IsUnitRefused}
+use Rattle.reg_types.specs.Passing.{IsSame, AreSame, AreStored, IsCarriedTo, IsCarriedAt, IsJoined, IsMerged, IsVisited, IsPassed, IsUnitRefused}
 use Rattle.reg_types.specs.Passing.{IsPassRefused, AreInferred, brought, seen}
 use Rattle.operations.specs.Operations.{target_by}
 use Rattle.reg_types.proofs.Good.{judged_is}
@@ -52,9 +52,6 @@ never_none o tos a b = cc
 
 same_tos : (o : Option (List ℕ)) (x y : List ℕ) → some_of x ≡ o → o ≡ some_of y → y ≡ x
 same_tos o x y a b = cc
-
-abbrev err_of : Flaw → Result Effect Flaw
-err_of flaw = Err flaw
 
 -- ---- units that have a stored fact
 
@@ -103,39 +100,39 @@ entry_by false f h = tt
 
 module _ (us : List ProgramUnit) (options : LoadOptions) (pc : ℕ) (i : Inst) (fact : Fact) (form : Form) (upper : ℤ) (sound : IsSound us)
     (at : slice_get us pc ≡ Some (First i)) (is : form_of i.opcode ≡ Some form) where
-  ahead_of : (e : Effect) → ok_of e ≡ judged (length us) pc options fact i upper form → (tos : List ℕ) × (leads pc i form ≡ Some tos)
+  ahead_of : (e : Effect) → ok_of e ≡ checked_effect (length us) pc options fact i upper form → (tos : List ℕ) × (successor_units pc i form ≡ Some tos)
       × AllByRecursion (IsAhead us pc) tos
   ahead_of e j = leads_ahead sound.bytes us sound.reads pc i at sound.forward form is (judged_is (length us) pc options fact i upper form e (sym j)).0
 
-  -- an accepted instruction has defined successors: `leads` isn't None
-  pub leads_somewhere : (e : Effect) → ok_of e ≡ judged (length us) pc options fact i upper form → None ≡ leads pc i form → ⊥
-  leads_somewhere e j none = let a = ahead_of e j in never_none (leads pc i form) a.0 none a.1
+  -- an accepted instruction has defined successors: `successor_units` isn't None
+  pub leads_somewhere : (e : Effect) → ok_of e ≡ checked_effect (length us) pc options fact i upper form → None ≡ successor_units pc i form → ⊥
+  leads_somewhere e j none = let a = ahead_of e j in never_none (successor_units pc i form) a.0 none a.1
 
-  pub next_ahead : (e : Effect) (next : Successors) → ok_of e ≡ judged (length us) pc options fact i upper form → some_of (list_of next) ≡ leads pc i form
+  pub next_ahead : (e : Effect) (next : Successors) → ok_of e ≡ checked_effect (length us) pc options fact i upper form → some_of (list_of next) ≡ successor_units pc i form
       → AllByRecursion (IsAhead us pc) (list_of next)
-  next_ahead e next j to = let a = ahead_of e j in subst (AllByRecursion (IsAhead us pc)) (same_tos (leads pc i form) (list_of next) a.0 to a.1) a.2
+  next_ahead e next j to = let a = ahead_of e j in subst (AllByRecursion (IsAhead us pc)) (same_tos (successor_units pc i form) (list_of next) a.0 to a.1) a.2
 
-  passed_is : (e : Effect) (next : Successors) → upper ≡ upper_of us pc → ok_of e ≡ judged (length us) pc options fact i upper form
-      → some_of (list_of next) ≡ leads pc i form → (q : ℕ) (old : Option Fact)
+  passed_is : (e : Effect) (next : Successors) → upper ≡ upper_of us pc → ok_of e ≡ checked_effect (length us) pc options fact i upper form
+      → some_of (list_of next) ≡ successor_units pc i form → (q : ℕ) (old : Option Fact)
       → passed us options pc (Some fact) q old ≡ arrived_all q (fact_after fact e) (list_of next) old
   passed_is e next up j to q old =
       ap (λ o. passed_from us options pc fact o q old) (instruction_from us pc i form at is)
-      ∙ ap (λ r. passed_by q fact r (leads pc i form) old) (sym (j ∙ ap (λ u. judged (length us) pc options fact i u form) up))
+      ∙ ap (λ r. passed_by q fact r (successor_units pc i form) old) (sym (j ∙ ap (λ u. checked_effect (length us) pc options fact i u form) up))
       ∙ ap (λ o. passed_by q fact (Ok e) o old) (sym to)
 
   -- joining the fact after an accepted instruction into each unit that it leads to is what `passed` defines
-  passed_to : (e : Effect) (after : Fact) (next : Successors) → upper ≡ upper_of us pc → ok_of e ≡ judged (length us) pc options fact i upper form
-      → IsAfter fact e after → some_of (list_of next) ≡ leads pc i form → (q : ℕ) (old new : Option Fact) → AreSame new (arrived_all q after (list_of next) old)
+  passed_to : (e : Effect) (after : Fact) (next : Successors) → upper ≡ upper_of us pc → ok_of e ≡ checked_effect (length us) pc options fact i upper form
+      → IsAfter fact e after → some_of (list_of next) ≡ successor_units pc i form → (q : ℕ) (old new : Option Fact) → AreSame new (arrived_all q after (list_of next) old)
       → AreSame new (passed us options pc (Some fact) q old)
   passed_to e after next up j after_is to q old new same =
       subst (AreSame new) (sym (passed_is e next up j to q old))
       (AreSame-trans new (arrived_all q after (list_of next) old) (arrived_all q (fact_after fact e) (list_of next) old) same
       (arrived_all_same q (list_of next) old old after (fact_after fact e) (AreSame-refl old) (same_after fact e after after_is)))
 
-  flaw_is : (r : Result Effect Flaw) → upper ≡ upper_of us pc → r ≡ judged (length us) pc options fact i upper form
+  flaw_is : (r : Result Effect Flaw) → upper ≡ upper_of us pc → r ≡ checked_effect (length us) pc options fact i upper form
       → flaw_under us options pc (Some fact) ≡ flaw_in pc r
   flaw_is r up j =
-      ap (flaw_of us options pc fact) (instruction_from us pc i form at is) ∙ ap (flaw_in pc) (sym (j ∙ ap (λ u. judged (length us) pc options fact i u form) up))
+      ap (flaw_of us options pc fact) (instruction_from us pc i form at is) ∙ ap (flaw_in pc) (sym (j ∙ ap (λ u. checked_effect (length us) pc options fact i u form) up))
 
   jumps_ahead : (next : Successors) → AllByRecursion (IsAhead us pc) (list_of next) → AllByRecursion (IsAhead us pc) (jumps_of next)
   jumps_ahead End h = tt
@@ -169,14 +166,14 @@ module _ (us : List ProgramUnit) (options : LoadOptions) (pc : ℕ) (i : Inst) (
   small_jump (Jump to) h = let l = h.0.inside in let n = (count_of_units sound.bytes us sound.reads).1 in omega (arith, l, n)
   small_jump (Either to next) h = let l = h.0.inside in let n = (count_of_units sound.bytes us sound.reads).1 in omega (arith, l, n)
 
-  pub jump_small : (e : Effect) (next : Successors) → ok_of e ≡ judged (length us) pc options fact i upper form → some_of (list_of next) ≡ leads pc i form
+  pub jump_small : (e : Effect) (next : Successors) → ok_of e ≡ checked_effect (length us) pc options fact i upper form → some_of (list_of next) ≡ successor_units pc i form
       → IfSome (jump_of next) (λ to. to ≤ 512)
   jump_small e next j to = small_jump next (jumps_ahead next (next_ahead e next j to))
 
   -- `IsVisited` holds if an instruction is accepted, and the fact after it is joined into its jump's target (if it has
-  -- a jump) and carried to the next instruction (if a run can go on there)
+  -- a jump) and carried to the next instruction (if a run can continue there)
   pub visited : (e : Effect) (after : Fact) (next : Successors) (carried : Option StoredFact) (old new : Facts) → upper ≡ upper_of us pc
-      → ok_of e ≡ judged (length us) pc options fact i upper form → IsAfter fact e after → some_of (list_of next) ≡ leads pc i form → IsNext pc form next
+      → ok_of e ≡ checked_effect (length us) pc options fact i upper form → IsAfter fact e after → some_of (list_of next) ≡ successor_units pc i form → IsNext pc form next
       → jump_of next ≡ target_by pc form i → carried ≡ carried_of after next → ((q : ℕ) → AreSame (new q) (arrived_all q after (jumps_of next) (old q)))
       → IsVisited us options pc fact carried old new
   visited e after next carried old new up j after_is to n jump is_carried same =
@@ -186,18 +183,14 @@ module _ (us : List ProgramUnit) (options : LoadOptions) (pc : ℕ) (i : Inst) (
         ahead = λ q l. passed_to e after next up j after_is to q (old q) (seen (carried_of after next) new q) (seen_led q after next (old q) (new q) (same q));
         behind = λ q l. subst (AreSame (new q)) (behind us pc q after l (jumps_of next) (jumps_ahead next ahead) (old q)) (same q);
         goes_on = goes_to after next n ahead;
-        kept =
+        occupied =
             λ q. same_some (new q) (arrived_all q after (jumps_of next) (old q)) (same q)
             ∙ jumped_some q after next (old q)
             ∙ ap (λ o. is_some (old q) || goes o q) (jump ∙ sym target_is);
       })
 
-  pub refused_here : (flaw : Flaw) → upper ≡ upper_of us pc → err_of flaw ≡ judged (length us) pc options fact i upper form
-      → flaw_under us options pc (Some fact) ≡ Some (located pc flaw)
-  refused_here flaw up j = flaw_is (Err flaw) up j
-
   -- `OutOfMemory` is a refusal that a unit with an accepted jump can get
-  pub ran_out : (e : Effect) (next : Successors) → upper ≡ upper_of us pc → ok_of e ≡ judged (length us) pc options fact i upper form
+  pub ran_out : (e : Effect) (next : Successors) → upper ≡ upper_of us pc → ok_of e ≡ checked_effect (length us) pc options fact i upper form
       → jump_of next ≡ target_by pc form i → (jump_of next ≡ None → ⊥) → IsUnitRefused us options pc (Some fact) OutOfMemory
   ran_out e next up j jump some = (flaw_is (Ok e) up j, λ none. some (jump ∙ sym target_is ∙ none))
 
@@ -229,29 +222,29 @@ at_first us pc i None first c = tt
 at_first us pc i (Some s) first c = elim c.1 [ inl e ↦ e | inr w ↦ absurd (no_two i w.1.0 (slice_get us pc) first w.1.1) ]
 
 module _ (us : List ProgramUnit) (options : LoadOptions) (pc : ℕ) (carried : Option StoredFact) (old : Facts) where
-  pub passes : (fact : Fact) (next : Option StoredFact) (settled new : Facts) → IsCarriedAt pc carried → IsSettled pc carried (Some fact) old settled
-      → IsVisited us options pc fact next settled new → IsPassed us options pc carried next old new
-  passes fact next settled new at s v =
+  pub passes : (fact : Fact) (next : Option StoredFact) (merged new : Facts) → IsCarriedAt pc carried → IsMerged pc carried (Some fact) old merged
+      → IsVisited us options pc fact next merged new → IsPassed us options pc carried next old new
+  passes fact next merged new at s v =
       record {
         flawless = sym (flaw_same us options pc (Some fact) (seen carried old pc) s.is) ∙ v.flawless;
         ahead = λ q l. let other : q ≢ pc = omega (arith, l) in
-            AreSame-trans (seen next new q) (passed us options pc (Some fact) q (settled q)) (passed us options pc (seen carried old pc) q (seen carried old q))
+            AreSame-trans (seen next new q) (passed us options pc (Some fact) q (merged q)) (passed us options pc (seen carried old pc) q (seen carried old q))
             (v.ahead q l)
-            (passed_same us options pc (Some fact) (seen carried old pc) q (settled q) (seen carried old q) s.is
-            (subst (AreSame (settled q)) (sym (brought_elsewhere q pc carried at other (old q))) (s.others q other)));
-        behind = λ q l. AreSame-trans (new q) (settled q) (old q) (v.behind q (omega (arith, l))) (s.others q (omega (arith, l)));
-        here = stored_trans (new pc) (settled pc) (Some fact) (seen carried old pc) (v.behind pc (omega arith)) s.here s.is;
+            (passed_same us options pc (Some fact) (seen carried old pc) q (merged q) (seen carried old q) s.is
+            (subst (AreSame (merged q)) (sym (brought_elsewhere q pc carried at other (old q))) (s.others q other)));
+        behind = λ q l. AreSame-trans (new q) (merged q) (old q) (v.behind q (omega (arith, l))) (s.others q (omega (arith, l)));
+        here = stored_trans (new pc) (merged pc) (Some fact) (seen carried old pc) (v.behind pc (omega arith)) s.here s.is;
         goes_on = v.goes_on;
-        kept =
-            λ q. v.kept q
-            ∙ ap (λ b. b || goes (target us pc) q) (s.kept q)
+        occupied =
+            λ q. v.occupied q
+            ∙ ap (λ b. b || goes (target us pc) q) (s.occupied q)
             ∙ ap (λ b. is_some (old q) || (b && goes (target us pc) q)) (same_some (Some fact) (seen carried old pc) s.is);
       }
 
-  pub passes_if : (r : Result Unit Refusal) (fact : Fact) (next : Option StoredFact) (settled new : Facts) → IsCarriedAt pc carried
-      → IsSettled pc carried (Some fact) old settled → OnOk r (IsVisited us options pc fact next settled new) → OnOk r (IsPassed us options pc carried next old new)
-  passes_if (Ok done) fact next settled new at s v = passes fact next settled new at s v
-  passes_if (Err refusal) fact next settled new at s v = tt
+  pub passes_if : (r : Result Unit Refusal) (fact : Fact) (next : Option StoredFact) (merged new : Facts) → IsCarriedAt pc carried
+      → IsMerged pc carried (Some fact) old merged → OnOk r (IsVisited us options pc fact next merged new) → OnOk r (IsPassed us options pc carried next old new)
+  passes_if (Ok done) fact next merged new at s v = passes fact next merged new at s v
+  passes_if (Err refusal) fact next merged new at s v = tt
 
   refused_as : (refusal : Refusal) (fact : Fact) → AreSame (Some fact) (seen carried old pc) → IsUnitRefused us options pc (Some fact) refusal
       → IsUnitRefused us options pc (seen carried old pc) refusal
@@ -265,7 +258,7 @@ module _ (us : List ProgramUnit) (options : LoadOptions) (pc : ℕ) (carried : O
   refused_if (Ok next) fact same h = tt
   refused_if (Err refusal) fact same h = refused_as refusal fact same h
 
-  pub unreached : (new : Facts) → IsCarriedAt pc carried → IsSettled pc carried None old new → IsPassed us options pc carried None old new
+  pub unreached : (new : Facts) → IsCarriedAt pc carried → IsMerged pc carried None old new → IsPassed us options pc carried None old new
   unreached new at s =
       let none = same_none (seen carried old pc) s.is in
       record {
@@ -276,7 +269,7 @@ module _ (us : List ProgramUnit) (options : LoadOptions) (pc : ℕ) (carried : O
         behind = λ q l. s.others q (omega (arith, l));
         here = stored_trans (new pc) (new pc) None (seen carried old pc) (AreSame-refl (new pc)) s.here s.is;
         goes_on = tt;
-        kept = λ q. s.kept q ∙ or_no (is_some (old q)) ∙ ap (λ o. is_some (old q) || (is_some o && goes (target us pc) q)) (sym none);
+        occupied = λ q. s.occupied q ∙ or_no (is_some (old q)) ∙ ap (λ o. is_some (old q) || (is_some o && goes (target us pc) q)) (sym none);
       }
 
   module _ (v : ℤ) (second : slice_get us pc ≡ Some (Second v)) where
@@ -301,7 +294,7 @@ module _ (us : List ProgramUnit) (options : LoadOptions) (pc : ℕ) (carried : O
       | inr w ↦ ((c.0, inl w.0), λ x. not_arrived pc s.at s.fact x (let e = w.0 in omega (arith, e)))
     ]
 
-    -- at the second unit of a wide load the pass changes nothing
+    -- at the second unit of a wide load, the verifier's pass over the units changes no fact
     pub stays : IsCarriedTo us pc carried → IsPassed us options pc carried carried old old
     stays c =
         let f = further carried c in
@@ -312,43 +305,13 @@ module _ (us : List ProgramUnit) (options : LoadOptions) (pc : ℕ) (carried : O
           behind = λ q l. AreSame-refl (old q);
           here = subst (AreStored (old pc)) (sym (f.1 (old pc))) (AreStored-refl (old pc));
           goes_on = f.0;
-          kept =
+          occupied =
               λ q. or_no (is_some (old q))
               ∙ ap (λ b. is_some (old q) || b) (no_and (is_some (seen carried old pc)))
               ∙ ap (λ o. is_some (old q) || (is_some (seen carried old pc) && goes o q)) (sym no_jump);
         }
 
 -- ---- the fact before a unit: the stored and the carried one joined
-
-pub settled_by : (pc : ℕ) (s : StoredFact) (joined : Fact) (old new : Facts) → s.at ≡ pc → new pc ≡ Some joined → IsJoined pc s.fact old new
-    → IsSettled pc (Some s) (Some joined) old new
-settled_by pc s joined old new at is j =
-    record {
-      is = subst (λ o. AreSame o (brought pc (Some s) (old pc))) is (subst (λ k. AreSame (new pc) (arrived pc s.fact k (old pc))) (sym at) (j.each pc));
-      others = λ q n. subst (AreSame (new q)) (not_arrived q pc s.fact (old q) n) (j.each q);
-      here = subst (λ o. AreStored o (Some joined)) (sym is) (AreStored-refl (Some joined));
-      kept = j.kept;
-    }
-
-pub settled_new : (pc : ℕ) (s : StoredFact) (old : Facts) → s.at ≡ pc → old pc ≡ None → IsSettled pc (Some s) (Some s.fact) old old
-settled_new pc s old at none =
-    let to : arrived pc s.fact s.at (old pc) ≡ Some (taken_in (old pc) s.fact) =
-    cond-true (pc == s.at) (Some (taken_in (old pc) s.fact)) (old pc) (eq-eqb pc s.at (sym at)) in
-    record {
-      is = same_by (Some s.fact) (brought pc (Some s) (old pc)) (sym (to ∙ ap (λ o. Some (taken_in o s.fact)) none));
-      others = λ q n. AreSame-refl (old q);
-      here = subst (λ o. AreStored o (Some s.fact)) (sym none) tt;
-      kept = λ q. refl;
-    }
-
-pub settled_as : (pc : ℕ) (fact : Option Fact) (old : Facts) → old pc ≡ fact → IsSettled pc None fact old old
-settled_as pc fact old e =
-    record {
-      is = same_by fact (old pc) (sym e);
-      others = λ q n. AreSame-refl (old q);
-      here = subst (AreStored (old pc)) e (AreStored-refl (old pc));
-      kept = λ q. refl;
-    }
 
 -- ---- the pass
 
@@ -357,15 +320,15 @@ pub start_same : (us : List ProgramUnit) (options : LoadOptions) (f : Fact) → 
 unfolding known
 start_same us options f entry q = entry_by (q == 0) f (same_entry f entry)
 
--- The invariant of the pass before unit pc. No unit below pc has a flaw, and a fact that is stored for one says the
--- same as the inferred fact. For each unit from pc on, the stored and the carried fact say what the edges from the
--- units below pc bring to it.
+-- The invariant of the pass before unit pc. No unit below pc has a flaw, and a fact that is stored for one is the same
+-- as the inferred fact. For each unit from pc on, the stored and the carried fact together are what is known of it from
+-- the entry and from the edges of the units below pc.
 pub record IsReached (us : List ProgramUnit) (options : LoadOptions) (carried : Option StoredFact) (facts : Facts) (pc : ℕ) : Type 0 where
   pub behind : (q : ℕ) → q < pc → AreStored (facts q) (inferred us options q)
   pub ahead : (q : ℕ) → pc ≤ q → AreSame (seen carried facts q) (known us options pc q)
   pub flawless : first_flaw_below us options pc ≡ None
   pub goes_on : IsCarriedTo us pc carried
-  pub kept : (q : ℕ) → is_some (facts q) ≡ is_entered us options pc q
+  pub occupied : (q : ℕ) → is_some (facts q) ≡ is_entered us options pc q
 
 first_if : (t : Bool) → is_some (cond t (Some entry_fact) None) ≡ t
 first_if true = refl
@@ -387,7 +350,7 @@ module _ (us : List ProgramUnit) (options : LoadOptions) where
         ahead = λ q l. same q;
         flawless = no_flaw_yet;
         goes_on = tt;
-        kept = λ q. same_some (facts q) (known us options 0 q) (same q) ∙ known_first q;
+        occupied = λ q. same_some (facts q) (known us options 0 q) (same q) ∙ known_first q;
       }
 
   entered_more : (pc q : ℕ) (o : Option Fact) → is_some o ≡ is_some (inferred us options pc) → (is_entered us options pc q || (is_some o && goes (target us pc) q))
@@ -431,9 +394,9 @@ module _ (us : List ProgramUnit) (options : LoadOptions) where
         ahead = λ q l. known_more pc q carried next old new r (omega arith) (p.ahead q (omega arith));
         flawless = still_none pc r.flawless (sym (flaw_here carried old pc r) ∙ p.flawless);
         goes_on = subst (λ k. IsCarriedTo us k next) (add-one pc) p.goes_on;
-        kept =
-            λ q. p.kept q
-            ∙ ap (λ b. b || (is_some (seen carried old pc) && goes (target us pc) q)) (r.kept q)
+        occupied =
+            λ q. p.occupied q
+            ∙ ap (λ b. b || (is_some (seen carried old pc) && goes (target us pc) q)) (r.occupied q)
             ∙ entered_more pc q (seen carried old pc) (same_some (seen carried old pc) (inferred us options pc) (r.ahead pc (omega arith)));
       }
 
@@ -452,10 +415,3 @@ module _ (us : List ProgramUnit) (options : LoadOptions) where
   refused_at carried facts pc (FlowRefusal fault) l r h = h
   refused_at carried facts pc (TypeRefusal fault) l r h = flaw_found carried facts pc fault l r h
   refused_at carried facts pc OutOfMemory l r h = tt
-
-  pub reached_all : (carried : Option StoredFact) (facts : Facts) (pc : ℕ) → length us ≡ pc → IsReached us options carried facts pc → AreInferred us options facts
-  reached_all carried facts pc l r =
-      record { each = λ q inside. r.behind q (omega (arith, inside, l)); kept = λ q. r.kept q ∙ ap (λ n. is_entered us options n q) (sym l) }
-
-  pub flawless_all : (carried : Option StoredFact) (facts : Facts) (pc : ℕ) → length us ≡ pc → IsReached us options carried facts pc → first_flaw us options ≡ None
-  flawless_all carried facts pc l r = ap (first_flaw_below us options) l ∙ r.flawless

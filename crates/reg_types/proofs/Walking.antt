@@ -16,7 +16,7 @@ use Rattle.reg_types.specs.declared.types.LoadOptions.{LoadOptions}
 use Rattle.reg_types.specs.declared.types.Fact.{Fact}
 use Rattle.reg_types.specs.Effects.{Effect}
 use Rattle.reg_types.specs.declared.types.Flaw.{Flaw}
-use Rattle.reg_types.specs.Inference.{known, inferred, entry_fact, leads, option_cons, instruction_of, instruction_at, ruled, arrived_all, fact_after}
+use Rattle.reg_types.specs.Inference.{known, inferred, entry_fact, successor_units, option_cons, instruction_of, instruction_at, ruled, arrived_all, fact_after}
 use Rattle.reg_types.specs.Inference.{passed_by, passed_from, passed, goes, is_entered}
 use Rattle.reg_types.specs.Passing.{following, IsBrought, AreWalked}
 use Rattle.operations.specs.Operations.{target_by}
@@ -43,7 +43,7 @@ jump_elsewhere q fact (Some to) tos o n rest =
     let other : q ≢ to = λ e. n (ap Some (sym e)) in
     ap (arrived_all q fact tos) (not_arrived q to fact o other) ∙ rest o
 
-elsewhere : (pc q : ℕ) (i : Inst) (form : Form) (fact : Fact) (o : Option Fact) → IsElsewhere pc q i form → led q fact (leads pc i form) o ≡ o
+elsewhere : (pc q : ℕ) (i : Inst) (form : Form) (fact : Fact) (o : Option Fact) → IsElsewhere pc q i form → led q fact (successor_units pc i form) o ≡ o
 elsewhere pc q i Exit fact o e = refl
 elsewhere pc q i Ja fact o e = jump_elsewhere q fact (shifted (pc + 1) i.offset 512) [] o e.jump (λ p. refl)
 elsewhere pc q i Ja32 fact o e = jump_elsewhere q fact (shifted (pc + 1) i.imm 512) [] o e.jump (λ p. refl)
@@ -134,9 +134,6 @@ module _ (us : List ProgramUnit) (options : LoadOptions) (q : ℕ) where
   unfolding known
   known_is n = refl
 
-  no_units : (o : Option ProgramUnit) → o ≡ None → instruction_of o ≡ None
-  no_units o e = ap instruction_of e
-
   not_both : (x : Inst × Form) (o : Option (Inst × Form)) → o ≡ Some x → o ≡ None → ⊥
   not_both x o a b = cc
 
@@ -207,6 +204,7 @@ module _ (us : List ProgramUnit) (options : LoadOptions) (q : ℕ) where
           | inr is ↦ inr (record { before = is.before; instruction = is.instruction; stands = is.stands; next = is.next; is = is.is })
         ]
 
--- a unit without a stored fact isn't reached, or its fact is the one after the instruction before it
+-- a unit without a stored fact isn't reached, or the only thing known of it is the fact after the instruction that
+-- comes just before it
 pub walked : (bytes : List ℕ) (us : List ProgramUnit) (options : LoadOptions) → units bytes ≡ Some us → AreWalked us options
 walked bytes us options reads q e l = walks us options q bytes reads e l

@@ -1,4 +1,4 @@
--- Promises: the verifier accepts each instruction of a plain program.
+-- Promises: the verifier accepts each instruction of a plain program (one that works on R0 and the context only).
 use Rattle.std.specs.Prelude.{◌≡◌, ℕ, ◌≤◌, ◌⊎◌, true, ℤ, List, length, Option, Some, None, Ok, slice_get, ⊤}
 use Rattle.bpf_model.specs.declared.instruction.Inst.{Inst}
 use Rattle.bpf_model.specs.declared.instruction.Form.{Form}
@@ -10,7 +10,7 @@ use Rattle.reg_types.specs.declared.types.RegType.{RegType}
 use Rattle.reg_types.specs.declared.types.RegType.TheVariants.{Ctx}
 use Rattle.reg_types.specs.declared.types.Fact.{Fact}
 use Rattle.reg_types.specs.Effects.{Effect}
-use Rattle.reg_types.specs.Rules.{type_at, is_numeric, judged}
+use Rattle.reg_types.specs.Rules.{type_at, is_numeric, checked_effect}
 use Rattle.reg_types.specs.Inference.{entry_types}
 
 -- R1 points to the context, and R0 holds a number
@@ -23,11 +23,11 @@ abbrev pub PlainOption : Option Fact → Type 0
 PlainOption None = ⊤
 PlainOption (Some fact) = ArePlain fact.types
 
--- if `fact` is known before the instruction, it is accepted, and after it R1 points to the context and R0 holds a
--- number
+-- if `fact` is known before instruction i at unit pc, then the typing rules accept i, and after it R1 points to the
+-- context and R0 holds a number
 abbrev pub PlainAt : List ProgramUnit → ℕ → LoadOptions → Inst → Fact → Type 0
 PlainAt us pc options i fact =
-    (upper : ℤ) (form : Form) → form_of i.opcode ≡ Some form → (e : Effect) × (judged (length us) pc options fact i upper form ≡ Ok e) × ArePlain e.types
+    (upper : ℤ) (form : Form) → form_of i.opcode ≡ Some form → (e : Effect) × (checked_effect (length us) pc options fact i upper form ≡ Ok e) × ArePlain e.types
 
 -- The types that a plain program can have at a unit. At unit 0 they are those on entry; or else R1 points to the
 -- context and R0 holds a number.

@@ -4,17 +4,17 @@ use Rattle.reg_types.specs.declared.types.RegType.{RegType}
 use Rattle.reg_types.specs.declared.types.StackWrite.{StackWrite}
 use Rattle.reg_types.specs.declared.types.Flaw.{Flaw}
 
--- The types after an instruction, and the bytes of the stack that it writes: `len` of them from `at` on. `kept` is the
--- type of the pointer that it spills there, or `Unset` if it writes a number's bytes.
+-- The types after an instruction, and the bytes of the stack that it writes: `len` of them from `at` on. `spilled` is
+-- the type of the pointer that it spills there, or `Unset` if it writes a number's bytes.
 pub record Effect : Type 0 where
   pub types : List RegType
   pub at : ℕ
   pub len : ℕ
-  pub kept : RegType
+  pub spilled : RegType
 
 -- the effect with these types and this write to the stack
 abbrev pub effect_of : List RegType → StackWrite → Effect
-effect_of types m = record { types = types; at = m.at; len = m.len; kept = m.kept }
+effect_of types m = record { types = types; at = m.at; len = m.len; spilled = m.spilled }
 
 abbrev pub effect_with : List RegType → Result StackWrite Flaw → Result Effect Flaw
 effect_with types (Ok m) = Ok (effect_of types m)

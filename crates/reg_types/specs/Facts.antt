@@ -1,4 +1,4 @@
--- Promises: what facts mean, and when they cover a program.
+-- Promises: what facts (what is known before a unit) mean, and when they cover a program.
 use Rattle.std.specs.Prelude.{◌≡◌, ◌≢◌, ℕ, suc, ◌≤◌, slice_index, ◌+◌, ◌*◌, ◌<◌, ◌==◌, if◌then◌else◌, ◌/◌, ◌%◌, ◌^◌, ◌⊎◌, ◌↔◌, Bool, true, false, pos, ◌+ℤ◌}
 use Rattle.std.specs.Prelude.{List, [], ◌∷◌, length, Option, Some, None, Ok, slice_get, slice_index_or, ⊤}
 use Rattle.std.specs.List.{AllByRecursion}
@@ -14,7 +14,7 @@ use Rattle.bpf_model.specs.declared.machine.Cell.TheVariants.{Byte}
 use Rattle.bpf_model.specs.declared.machine.State.{State}
 use Rattle.bpf_model.specs.Reading.{form_of, units}
 use Rattle.bpf_model.specs.Flow.{IsAhead, GoesForward}
-use Rattle.bpf_model.specs.Machine.{Counters, counter, register, cell_at, kept_at}
+use Rattle.bpf_model.specs.Machine.{Counters, counter, register, cell_at, pointer_at}
 use Rattle.bpf_model.specs.Runs.{AreCounters}
 use Rattle.stack_map.specs.Places.{Has, Within}
 use Rattle.reg_types.specs.declared.types.LoadOptions.{LoadOptions}
@@ -26,8 +26,8 @@ use Rattle.reg_types.specs.declared.types.CarriedFact.{CarriedFact}
 use Rattle.reg_types.specs.Effects.{Effect}
 use Rattle.reg_types.specs.declared.types.Successors.{Successors}
 use Rattle.reg_types.specs.declared.types.Successors.TheVariants.{End, Next, Jump, Either}
-use Rattle.reg_types.specs.Rules.{type_at, is_unset, spill_of, spilled_type, judged}
-use Rattle.reg_types.specs.Inference.{leads, entry_types, no_spills, respilled}
+use Rattle.reg_types.specs.Rules.{type_at, is_unset, spill_of, spilled_type, checked_effect}
+use Rattle.reg_types.specs.Inference.{successor_units, entry_types, no_spills, respilled}
 use Rattle.operations.specs.Operations.{upper_of}
 
 -- ---- states that fit
@@ -49,22 +49,22 @@ HasByte c = (b : ℕ) × (c ≡ Byte b)
 pub record Covered (set : List Bool) (stack : List Cell) : Type 0 where
   pub bytes : (p : ℕ) → Has set p → HasByte (cell_at stack p)
 
--- if the type isn't Unset, the stack keeps a pointer that fits the type in the eight cells from `at` on
-abbrev pub IsKept : RegType → List Cell → ℕ → Type 0
-IsKept t stack at = is_unset t ≡ false → (v : Value) × FitsType t v × (kept_at stack at ≡ Some v)
+-- if the type isn't Unset, the eight cells of the stack from `at` on hold a pointer that fits the type
+abbrev pub FitsSpill : RegType → List Cell → ℕ → Type 0
+FitsSpill t stack at = is_unset t ≡ false → (v : Value) × FitsType t v × (pointer_at stack at ≡ Some v)
 
 pub record Fits (fact : Fact) (s : State) : Type 0 where
   pub registers : (r : ℕ) → FitsType (type_at fact.types r) (register s.registers r)
   pub many : length s.registers ≡ 11
   pub stack : Covered fact.stack s.stack
   pub long : length s.stack ≡ 512
-  pub spills : (k : ℕ) → IsKept (spilled_type (slice_index fact.spills k)) s.stack (8 * k)
+  pub spills : (k : ℕ) → FitsSpill (spilled_type (slice_index fact.spills k)) s.stack (8 * k)
 
--- every state that fits `fact` also fits `wider`, which says less
+-- every state that fits `fact` also fits `wider`
 pub record IsBelow (fact wider : Fact) : Type 0 where
   pub weakens : (s : State) → Fits fact s → Fits wider s
 
--- only declared counters change, and within their bounds
+-- from `old` to `new` only declared counters change; no bound changes, and no value comes to be above its bound
 pub record Changes (declared : ℕ) (old new : Counters) : Type 0 where
   pub right : AreCounters old → AreCounters new
   pub undeclared : (c : ℕ) → declared / 2 ^ c % 2 ≡ 0 → counter new c ≡ counter old c
@@ -72,35 +72,35 @@ pub record Changes (declared : ℕ) (old new : Counters) : Type 0 where
 
 -- ---- where instructions lead
 
--- all units that the instruction can lead to: none, one or two
+-- the units at which a run can continue after the instruction: none, one or two
 abbrev pub list_of : Successors → List ℕ
 list_of End = []
 list_of (Next to) = to ∷ []
 list_of (Jump to) = to ∷ []
 list_of (Either to next) = to ∷ next ∷ []
 
--- the units that the instruction can lead to by a jump: none or one
+-- the units at which a run can continue by a jump of the instruction: none or one
 abbrev pub jumps_of : Successors → List ℕ
 jumps_of End = []
 jumps_of (Next to) = []
 jumps_of (Jump to) = to ∷ []
 jumps_of (Either to next) = to ∷ []
 
--- the unit that the instruction's jump goes to, if it has one
+-- the unit that the instruction's jump goes to; None if it isn't a jump
 abbrev pub jump_of : Successors → Option ℕ
 jump_of End = None
 jump_of (Next to) = None
 jump_of (Jump to) = Some to
 jump_of (Either to next) = Some to
 
--- the unit of the next instruction, if a run can go on there
+-- the unit of the next instruction; None if a run can't continue there
 abbrev pub next_of : Successors → Option ℕ
 next_of End = None
 next_of (Next to) = Some to
 next_of (Jump to) = None
 next_of (Either to next) = Some next
 
--- the fact after an instruction, with the unit of the next one that it is carried to; None if a run can't go on there
+-- The fact after an instruction, with the number of the unit after it. None if a run can't continue at that unit.
 abbrev pub carried_of : Fact → Successors → Option StoredFact
 carried_of fact End = None
 carried_of fact (Next to) = Some (record { at = to; fact = fact })
@@ -116,16 +116,16 @@ IsNext pc form (Either to next) = next ≡ pc + 1
 
 -- ---- tables of facts
 
--- for each unit the fact before it, if there is one
+-- a table of facts: for each unit what is known before it, or None
 abbrev pub Facts : Type 0
 Facts = ℕ → Option Fact
 
--- the facts of a list as a table: each is found by its unit
+-- the stored facts of a list, found by their units: the first one of unit q, or None if q has none
 abbrev pub stored : List StoredFact → Facts
 stored [] q = None
 stored (s ∷ rest) q = if q == s.at then Some s.fact else stored rest q
 
--- k is the first place in the list at which a fact of unit `at` is stored
+-- k is the first index in the list at which a fact of unit `at` is stored
 pub record IsPlace (facts : List StoredFact) (at k : ℕ) : Type 0 where
   pub inside : k < length facts
   pub earlier : (j : ℕ) (d : StoredFact) → j < k → (slice_index_or facts j d).at ≢ at
@@ -136,7 +136,8 @@ unfoldable pub AreDistinct : List StoredFact → Type 0
 AreDistinct [] = ⊤
 AreDistinct (s ∷ rest) = (stored rest s.at ≡ None) × AreDistinct rest
 
--- `places` has for each unit one more than the place of its fact, or 0 where none is stored
+-- `places` has for each of the units 0 to 512 one more than the index of its fact, or 0 if it has none; no unit has two
+-- facts
 pub record IsIndexed (facts : List StoredFact) (places : List ℕ) : Type 0 where
   pub many : length places ≡ 513
   pub none : (q : ℕ) → q ≤ 512 → slice_index places q ≡ 0 → stored facts q ≡ None
@@ -149,7 +150,7 @@ carried_to None fact = None
 carried_to (Some at) fact = Some (record { at = at; fact = fact })
 
 abbrev pub carried_in : CarriedFact → Option StoredFact
-carried_in running = carried_to running.at running.fact
+carried_in carried_fact = carried_to carried_fact.at carried_fact.fact
 
 -- Place p is in the set after a write of `len` bytes from `at` on. The bytes of a number (true) are added to the set,
 -- and those of a pointer (false) are removed.
@@ -157,41 +158,43 @@ abbrev pub HasAfter : Bool → List Bool → ℕ → ℕ → ℕ → Type 0
 HasAfter true set at len p = Has set p ⊎ Within at len p
 HasAfter false set at len p = Has set p × ¬ (Within at len p)
 
--- `after` is the fact after an instruction with this effect, if `fact` is the one before: it has the types of the
--- effect, the set of stack bytes with those of a written number added or those of a pointer removed, and the new spills
+-- If `fact` is known before an instruction with this effect, then `after` is the fact after it. It has the types of the
+-- effect and the new spills. Its set of stack bytes gains those of a written number, or loses those of a written
+-- pointer.
 pub record IsAfter (fact : Fact) (effect : Effect) (after : Fact) : Type 0 where
   pub types : after.types ≡ effect.types
-  pub places : (p : ℕ) → Has after.stack p ↔ HasAfter (is_unset effect.kept) fact.stack effect.at effect.len p
-  pub spills : after.spills ≡ respilled (spill_of effect.kept) effect.at effect.len 0 fact.spills
+  pub places : (p : ℕ) → Has after.stack p ↔ HasAfter (is_unset effect.spilled) fact.stack effect.at effect.len p
+  pub spills : after.spills ≡ respilled (spill_of effect.spilled) effect.at effect.len 0 fact.spills
 
--- unit `to` has a fact, and every state that fits `fact` fits that fact too
+-- unit `to` has a fact, and every state that fits `fact` also fits the fact of `to`
 pub record Enters (facts : Facts) (fact : Fact) (to : ℕ) : Type 0 where
   pub wider : Fact
   pub is : facts to ≡ Some wider
   pub below : IsBelow fact wider
 
--- the instruction is well typed, and each state that fits the fact after it fits the facts of the units that it leads
--- to
+-- The instruction is well typed: the typing rules give it an effect. It leads only to later units at which instructions
+-- begin. Each state that fits the fact after it also fits the facts of these units.
 pub record IsTyped (us : List ProgramUnit) (options : LoadOptions) (facts : Facts) (pc : ℕ) (i : Inst) (fact : Fact) : Type 0 where
   pub form : Form
   pub form_is : form_of i.opcode ≡ Some form
   pub effect : Effect
-  pub typed : judged (length us) pc options fact i (upper_of us pc) form ≡ Ok effect
+  pub typed : checked_effect (length us) pc options fact i (upper_of us pc) form ≡ Ok effect
   pub after : Fact
   pub after_is : IsAfter fact effect after
   pub tos : List ℕ
-  pub leads_to : leads pc i form ≡ Some tos
+  pub leads_to : successor_units pc i form ≡ Some tos
   pub ahead : AllByRecursion (IsAhead us pc) tos
   pub enters : AllByRecursion (Enters facts after) tos
 
--- the fact on entry: R1 and R10 have the types of pointers, and nothing is known of the stack
+-- `fact` is known when a run begins: R1 and R10 have the types of pointers, and nothing is known of the other registers
+-- and of the stack
 pub record IsEntry (fact : Fact) : Type 0 where
   pub types : fact.types ≡ entry_types
   pub places : (p : ℕ) → Has fact.stack p → ⊥
   pub spills : fact.spills ≡ no_spills
 
--- each state that fits the fact on entry fits the first unit's fact, and the instruction of each reached unit is well
--- typed
+-- The facts cover the units. Each state that fits the fact on entry fits the fact of unit 0, and the instruction of
+-- each unit with a fact is well typed.
 pub record Covers (us : List ProgramUnit) (options : LoadOptions) (facts : Facts) : Type 0 where
   pub unit : Inst
   pub begins : slice_get us 0 ≡ Some (First unit)

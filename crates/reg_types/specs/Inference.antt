@@ -19,7 +19,7 @@ use Rattle.reg_types.specs.Effects.{Effect}
 use Rattle.reg_types.specs.declared.types.Flaw.{Flaw}
 use Rattle.reg_types.specs.declared.refusal.TypeFault.{TypeFault}
 use Rattle.reg_types.specs.Refusals.{located}
-use Rattle.reg_types.specs.Rules.{join_type, is_unset, spill_of, judged}
+use Rattle.reg_types.specs.Rules.{join_type, is_unset, spill_of, checked_effect}
 
 -- ---- sets of stack bytes: a list of truth values, the lowest byte's first; bytes beyond its end aren't in the set
 
@@ -49,7 +49,8 @@ join_spills [] bs = []
 join_spills (a ∷ rest) [] = []
 join_spills (a ∷ rest) (b ∷ bs) = (if a == b then a else 0) ∷ join_spills rest bs
 
--- a store of `len` bytes from `at` on writes a byte of aligned place k
+-- whether a store of `len` bytes, at least one, from `at` on writes a byte of aligned place k (the eight bytes from 8 k
+-- on)
 abbrev pub touches : ℕ → ℕ → ℕ → Bool
 touches at len k = nat_lt at (8 * k + 8) && nat_lt (8 * k) (at + len)
 
@@ -71,7 +72,7 @@ abbrev pub join_fact : Fact → Fact → Fact
 join_fact a b =
     record { types = join_types a.types b.types; stack = common a.stack b.stack; spills = join_spills a.spills b.spills }
 
--- the types on entry
+-- the types of the registers when a run begins: R1 and R10 are pointers, and nothing is known of the others
 abbrev pub entry_types : List RegType
 entry_types =
     Anything ∷ Ctx 0 ∷ Anything ∷ Anything ∷ Anything ∷ Anything ∷ Anything ∷ Anything ∷ Anything ∷ Anything ∷ Stk (pos 0) ∷ []
@@ -79,13 +80,13 @@ entry_types =
 abbrev pub no_spills : List ℕ
 no_spills = replicate 64 0
 
--- the fact on entry: no byte is set, and no pointer is spilled
+-- the fact when a run begins: it has the types on entry, no byte of the stack is set, and no pointer is spilled
 abbrev pub entry_fact : Fact
 entry_fact = record { types = entry_types; stack = []; spills = no_spills }
 
 -- the set after an instruction: the bytes of a number that it writes are set, and those of a pointer aren't
 abbrev pub set_after : Effect → List Bool → List Bool
-set_after effect set = if is_unset effect.kept then marked effect.at effect.len set else cleared effect.at effect.len set
+set_after effect set = if is_unset effect.spilled then marked effect.at effect.len set else cleared effect.at effect.len set
 
 -- what is known after an instruction with this effect
 abbrev pub fact_after : Fact → Effect → Fact
@@ -93,7 +94,7 @@ fact_after fact effect =
     record {
       types = effect.types;
       stack = set_after effect fact.stack;
-      spills = respilled (spill_of effect.kept) effect.at effect.len 0 fact.spills;
+      spills = respilled (spill_of effect.spilled) effect.at effect.len 0 fact.spills;
     }
 
 -- ---- one unit
@@ -102,16 +103,17 @@ abbrev pub option_cons : Option ℕ → List ℕ → Option (List ℕ)
 option_cons None tos = None
 option_cons (Some to) tos = Some (to ∷ tos)
 
--- the units that an instruction can lead to; None where its jump goes outside the units 0 to 512
-abbrev pub leads : ℕ → Inst → Form → Option (List ℕ)
-leads pc i Wide = Some ((pc + 2) ∷ [])
-leads pc i Ja = option_cons (shifted (pc + 1) i.offset 512) []
-leads pc i Ja32 = option_cons (shifted (pc + 1) i.imm 512) []
-leads pc i (Branch c w s) = option_cons (shifted (pc + 1) i.offset 512) ((pc + 1) ∷ [])
-leads pc i Exit = Some []
-leads pc i form = Some ((pc + 1) ∷ [])
+-- the units at which a run can continue after the instruction at unit pc; None if its jump goes outside the units 0 to
+-- 512
+abbrev pub successor_units : ℕ → Inst → Form → Option (List ℕ)
+successor_units pc i Wide = Some ((pc + 2) ∷ [])
+successor_units pc i Ja = option_cons (shifted (pc + 1) i.offset 512) []
+successor_units pc i Ja32 = option_cons (shifted (pc + 1) i.imm 512) []
+successor_units pc i (Branch c w s) = option_cons (shifted (pc + 1) i.offset 512) ((pc + 1) ∷ [])
+successor_units pc i Exit = Some []
+successor_units pc i form = Some ((pc + 1) ∷ [])
 
--- an instruction with its form, if its opcode has one
+-- an instruction with its form; None if its opcode has no form
 abbrev pub form_with : Inst → Option Form → Option (Inst × Form)
 form_with i None = None
 form_with i (Some form) = Some (i, form)
@@ -126,7 +128,7 @@ instruction_at us pc = instruction_of (slice_get us pc)
 
 -- the effect of the instruction at unit pc by the typing rules, if `fact` is known before it; or its flaw
 abbrev pub ruled : List ProgramUnit → LoadOptions → ℕ → Fact → Inst × Form → Result Effect Flaw
-ruled us options pc fact x = judged (length us) pc options fact x.0 (upper_of us pc) x.1
+ruled us options pc fact x = checked_effect (length us) pc options fact x.0 (upper_of us pc) x.1
 
 -- the flaw of the instruction at unit pc, as a fault that names the unit; None if the instruction has an effect
 abbrev pub flaw_in : ℕ → Result Effect Flaw → Option TypeFault
@@ -143,7 +145,8 @@ flaw_under us options pc (Some fact) = flaw_of us options pc fact (instruction_a
 
 -- ---- edges
 
--- a unit's fact after an edge has brought it `fact`: the join of both if the unit had a fact before, else `fact`
+-- a unit's fact after an edge (the way from an instruction to one that can follow it in a run) has brought it `fact`:
+-- the join of both if the unit had a fact before, else `fact`
 abbrev pub taken_in : Option Fact → Fact → Fact
 taken_in None fact = fact
 taken_in (Some old) fact = join_fact old fact
@@ -165,9 +168,9 @@ passed_by q fact (Ok effect) (Some tos) old = arrived_all q (fact_after fact eff
 
 abbrev pub passed_from : List ProgramUnit → LoadOptions → ℕ → Fact → Option (Inst × Form) → ℕ → Option Fact → Option Fact
 passed_from us options pc fact None q old = old
-passed_from us options pc fact (Some x) q old = passed_by q fact (ruled us options pc fact x) (leads pc x.0 x.1) old
+passed_from us options pc fact (Some x) q old = passed_by q fact (ruled us options pc fact x) (successor_units pc x.0 x.1) old
 
--- what is known of unit q after unit pc has been passed; `old` is what was known of q before
+-- what is known of unit q after the pass over unit pc; `old` is what was known of q before
 abbrev pub passed : List ProgramUnit → LoadOptions → ℕ → Option Fact → ℕ → Option Fact → Option Fact
 passed us options pc None q old = old
 passed us options pc (Some fact) q old = passed_from us options pc fact (instruction_at us pc) q old
@@ -179,7 +182,8 @@ unfoldable pub known : List ProgramUnit → LoadOptions → ℕ → ℕ → Opti
 known us options zero q = if q == 0 then Some entry_fact else None
 known us options (suc n) q = passed us options n (known us options n n) q (known us options n q)
 
--- the fact of a unit: the join over the edges from the reached units before it
+-- what is known before unit q: the join of the facts that the edges from earlier reached units bring to it, and at unit
+-- 0 the fact on entry; None if the unit isn't reached
 abbrev pub inferred : List ProgramUnit → LoadOptions → ℕ → Option Fact
 inferred us options q = known us options q q
 
@@ -188,7 +192,7 @@ or_else None b = b
 or_else (Some fault) b = Some fault
 
 -- The first fault among the first n units. It is that of the lowest unit that is reached and refused, and there the one
--- with the lowest V number.
+-- with the lowest fault number (V1 to V20). It is None if no reached unit is refused.
 unfoldable pub first_flaw_below : List ProgramUnit → LoadOptions → ℕ → Option TypeFault
 first_flaw_below us options zero = None
 first_flaw_below us options (suc n) = or_else (first_flaw_below us options n) (flaw_under us options n (inferred us options n))
@@ -198,7 +202,7 @@ first_flaw us options = first_flaw_below us options (length us)
 
 -- ---- where facts are stored: at the first unit, and where the jumps of reached units go
 
--- whether a jump goes to unit q; None stands for an instruction that isn't a jump
+-- whether a jump with this target goes to unit q; the target is None for an instruction that isn't a jump
 abbrev pub goes : Option ℕ → ℕ → Bool
 goes None q = false
 goes (Some to) q = q == to

@@ -7,5 +7,5 @@ pub mod Passing
 pub mod Plain
 pub mod Accepting
 pub mod Refusals
-pub mod Shown
+pub mod RefusedPrograms
 pub mod Words

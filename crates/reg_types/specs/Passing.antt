@@ -23,7 +23,7 @@ use Rattle.operations.specs.declared.operation.Operation.{Operation}
 use Rattle.operations.specs.Operations.{AreOperations}
 use Rattle.reg_types.specs.Inference.{flaw_under, arrived, passed, inferred, first_flaw, instruction_at, goes, is_entered, facts_in, targets_in}
 
--- ---- facts that say the same
+-- ---- facts that are the same
 
 -- the two facts have the same types, the same set of stack bytes and the same spills
 pub record IsSame (a b : Fact) : Type 0 where
@@ -37,14 +37,15 @@ AreSame (Some a) (Some b) = IsSame a b
 AreSame None (Some b) = ⊥
 AreSame (Some a) None = ⊥
 
--- if a fact is stored for the unit, it says the same as `fact`
+-- if a fact is stored for the unit, it is the same as `fact`
 abbrev pub AreStored : Option Fact → Option Fact → Type 0
 AreStored None fact = ⊤
 AreStored (Some a) fact = AreSame (Some a) fact
 
 -- ---- the facts stored, and the one that is carried along
 
--- what is known of unit q after the carried fact, if there is one, was joined into its unit
+-- what is known of unit q after the carried fact, if there is one, was joined into the fact of the unit that it is
+-- carried to
 abbrev pub brought : ℕ → Option StoredFact → Option Fact → Option Fact
 brought q None old = old
 brought q (Some s) old = arrived q s.fact s.at old
@@ -63,7 +64,7 @@ abbrev pub IsCarriedAt : ℕ → Option StoredFact → Type 0
 IsCarriedAt pc None = ⊤
 IsCarriedAt pc (Some s) = s.at ≡ pc
 
--- the fact as an Option: None if the Bool is false, since no run reaches the unit
+-- the fact, if the Bool is true; None if it is false, which means that no run reaches the unit
 abbrev pub fact_if : Bool → Fact → Option Fact
 fact_if false fact = None
 fact_if true fact = Some fact
@@ -71,23 +72,24 @@ fact_if true fact = Some fact
 -- `fact` was joined into the stored fact of unit `at`; no other fact changed
 pub record IsJoined (at : ℕ) (fact : Fact) (old new : Facts) : Type 0 where
   pub each : (q : ℕ) → AreSame (new q) (arrived q fact at (old q))
-  pub kept : (q : ℕ) → is_some (new q) ≡ is_some (old q)
+  pub occupied : (q : ℕ) → is_some (new q) ≡ is_some (old q)
 
--- `fact` is what is known before unit pc, and it is stored there if a fact was stored before
-pub record IsSettled (pc : ℕ) (carried : Option StoredFact) (fact : Option Fact) (old new : Facts) : Type 0 where
+-- `fact` is what is known before unit pc: the stored fact, the carried fact, or the join of both; None if there is
+-- neither. If a fact was stored for the unit, `fact` is stored for it now. No other stored fact has changed.
+pub record IsMerged (pc : ℕ) (carried : Option StoredFact) (fact : Option Fact) (old new : Facts) : Type 0 where
   pub is : AreSame fact (seen carried old pc)
   pub others : (q : ℕ) → q ≢ pc → AreSame (new q) (old q)
   pub here : AreStored (new pc) fact
-  pub kept : (q : ℕ) → is_some (new q) ≡ is_some (old q)
+  pub occupied : (q : ℕ) → is_some (new q) ≡ is_some (old q)
 
 -- The instruction at pc has no flaw if `fact` is known before it. The fact after it was joined with that of its jump's
--- target, if it has a jump. The fact after it is also carried to the next instruction, if a run can go on there.
+-- target, if it has a jump. The fact after it is also carried to the next instruction, if a run can continue there.
 pub record IsVisited (us : List ProgramUnit) (options : LoadOptions) (pc : ℕ) (fact : Fact) (next : Option StoredFact) (old new : Facts) : Type 0 where
   pub flawless : flaw_under us options pc (Some fact) ≡ None
   pub ahead : (q : ℕ) → pc < q → AreSame (seen next new q) (passed us options pc (Some fact) q (old q))
   pub behind : (q : ℕ) → q ≤ pc → AreSame (new q) (old q)
   pub goes_on : IsCarriedTo us (pc + 1) next
-  pub kept : (q : ℕ) → is_some (new q) ≡ (is_some (old q) || goes (target us pc) q)
+  pub occupied : (q : ℕ) → is_some (new q) ≡ (is_some (old q) || goes (target us pc) q)
 
 -- The instruction of unit pc, if one begins there, has no flaw. The facts of the units that it leads to were joined
 -- with the fact after it.
@@ -97,19 +99,20 @@ pub record IsPassed (us : List ProgramUnit) (options : LoadOptions) (pc : ℕ) (
   pub behind : (q : ℕ) → q < pc → AreSame (new q) (old q)
   pub here : AreStored (new pc) (seen carried old pc)
   pub goes_on : IsCarriedTo us (pc + 1) next
-  pub kept : (q : ℕ) → is_some (new q) ≡ (is_some (old q) || (is_some (seen carried old pc) && goes (target us pc) q))
+  pub occupied : (q : ℕ) → is_some (new q) ≡ (is_some (old q) || (is_some (seen carried old pc) && goes (target us pc) q))
 
--- facts are stored for the first unit and for the targets of reached jumps, and each is what is inferred of its unit
+-- facts are stored for the first unit and for the targets of reached jumps; each is the fact that is inferred for its
+-- unit
 pub record AreInferred (us : List ProgramUnit) (options : LoadOptions) (facts : Facts) : Type 0 where
   pub each : (q : ℕ) → q < length us → AreStored (facts q) (inferred us options q)
-  pub kept : (q : ℕ) → is_some (facts q) ≡ is_entered us options (length us) q
+  pub occupied : (q : ℕ) → is_some (facts q) ≡ is_entered us options (length us) q
 
 -- the unit where the next instruction begins
 abbrev pub following : ℕ → Form → ℕ
 following pc Wide = pc + 2
 following pc form = pc + 1
 
--- all that is known of unit q is the fact after the instruction before it
+-- the only thing known of unit q is the fact after the instruction that comes just before q
 pub record IsBrought (us : List ProgramUnit) (options : LoadOptions) (q : ℕ) : Type 0 where
   pub before : ℕ
   pub instruction : Inst × Form
@@ -117,13 +120,14 @@ pub record IsBrought (us : List ProgramUnit) (options : LoadOptions) (q : ℕ) :
   pub next : q ≡ following before instruction.1
   pub is : inferred us options q ≡ passed us options before (inferred us options before) q None
 
--- a unit without a stored fact isn't reached, or its fact is the one after the instruction before it
+-- a unit without a stored fact isn't reached, or the only thing known of it is the fact after the instruction that
+-- comes just before it
 abbrev pub AreWalked : List ProgramUnit → LoadOptions → Type 0
 AreWalked us options =
     (q : ℕ) → is_entered us options (length us) q ≡ false → q < length us → (inferred us options q ≡ None) ⊎ IsBrought us options q
 
--- The bytes are decoded as the units `us`, no jump of which has a fault, and no reached unit a flaw. `facts` are the
--- stored facts, and the facts of all other units follow from them.
+-- The bytes are decoded as the units `us`. No jump among them has a fault, and no reached unit has a flaw. `facts` are
+-- the stored facts, and the facts of all other units follow from them.
 pub record IsAccepted (bytes : List ℕ) (options : LoadOptions) (us : List ProgramUnit) (facts : List StoredFact) : Type 0 where
   pub reads : units bytes ≡ Some us
   pub forward : GoesForward us
@@ -135,7 +139,7 @@ pub record IsAccepted (bytes : List ℕ) (options : LoadOptions) (us : List Prog
 
 -- the bytes are accepted, `facts` are the facts stored for them, and `ops` are the operations that their units are
 -- decoded to
-pub record IsKept (bytes : List ℕ) (options : LoadOptions) (facts : List StoredFact) (ops : List Operation) : Type 0 where
+pub record IsVerified (bytes : List ℕ) (options : LoadOptions) (facts : List StoredFact) (ops : List Operation) : Type 0 where
   pub us : List ProgramUnit
   pub accepted : IsAccepted bytes options us facts
   pub decoded : AreOperations us ops
@@ -151,31 +155,33 @@ abbrev pub IsFactCount : ProgramText → ℕ → Type 0
 IsFactCount p n = (us : List ProgramUnit) → units p.bytes ≡ Some us → n ≡ facts_in us (options_of p)
 
 -- n is at most one more than the number of different targets of jumps
-abbrev pub IsFew : List ℕ → ℕ → Type 0
-IsFew bytes n = (us : List ProgramUnit) → units bytes ≡ Some us → n ≤ 1 + targets_in us
+abbrev pub IsBoundedByTargets : List ℕ → ℕ → Type 0
+IsBoundedByTargets bytes n = (us : List ProgramUnit) → units bytes ≡ Some us → n ≤ 1 + targets_in us
 
 -- ---- refusals
 
 -- the refusal for a fault of decoding; that memory ran out becomes the refusal `OutOfMemory`
-abbrev pub decode_told : DecodeFault → Refusal
-decode_told NoMemoryToDecode = OutOfMemory
-decode_told fault = Decode fault
+abbrev pub decode_fault_refusal : DecodeFault → Refusal
+decode_fault_refusal NoMemoryToDecode = OutOfMemory
+decode_fault_refusal fault = Decode fault
 
--- The refusals that a unit can get if `fact` is known before it: its flaw, or that memory ran out. Memory is taken only
--- for a unit without a flaw whose instruction is a jump: the fact after it is stored for the jump's target.
+-- The pass can return this refusal at unit pc if `fact` is known before it: the flaw of the unit, or that memory ran
+-- out. Memory is taken only for a unit without a flaw whose instruction is a jump: the fact after it is stored for the
+-- jump's target.
 abbrev pub IsUnitRefused : List ProgramUnit → LoadOptions → ℕ → Option Fact → Refusal → Type 0
 IsUnitRefused us options pc fact (Decode fault) = ⊥
 IsUnitRefused us options pc fact (Flow fault) = ⊥
 IsUnitRefused us options pc fact (TypeRefusal fault) = flaw_under us options pc fact ≡ Some fault
 IsUnitRefused us options pc fact OutOfMemory = (flaw_under us options pc fact ≡ None) × (target us pc ≢ None)
 
--- the refusals that the pass over the units can return: the program's first flaw, or that memory ran out
+-- the pass over the units can return this refusal: the program's first flaw, or that memory ran out
 abbrev pub IsPassRefused : List ProgramUnit → LoadOptions → Refusal → Type 0
 IsPassRefused us options (Decode fault) = ⊥
 IsPassRefused us options (Flow fault) = ⊥
 IsPassRefused us options (TypeRefusal fault) = first_flaw us options ≡ Some fault
 IsPassRefused us options OutOfMemory = ⊤
 
--- if memory ran out, the refusal is `OutOfMemory`: never a fault of decoding or of a jump that says so
-abbrev pub IsToldAlone : Refusal → Type 0
-IsToldAlone refusal = (refusal ≢ Decode NoMemoryToDecode) × (refusal ≢ Flow NoMemoryForFlow)
+-- the refusal isn't an `OutOfMemory` inside a fault of decoding or of a jump; if memory runs out, it is the refusal
+-- `OutOfMemory` itself
+abbrev pub WrapsNoOutOfMemory : Refusal → Type 0
+WrapsNoOutOfMemory refusal = (refusal ≢ Decode NoMemoryToDecode) × (refusal ≢ Flow NoMemoryForFlow)

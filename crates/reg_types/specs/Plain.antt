@@ -1,4 +1,5 @@
--- Definitions: plain programs, which are always accepted unless memory runs out (this profile).
+-- Definitions: plain programs, which work on R0 and the context only. They are always accepted unless memory runs out
+-- (this profile).
 use Rattle.std.specs.Prelude.{◌≡◌, ℕ, ◌-◌, List, length, Some, None, IsSome, slice_get, ⊤}
 use Rattle.bpf_model.specs.declared.instruction.Inst.{Inst}
 use Rattle.bpf_model.specs.declared.instruction.Source.TheVariants.{Immediate, Register}
@@ -20,7 +21,7 @@ use Rattle.bpf_model.specs.Layouts.{context_len}
 abbrev pub LoadsArgument : Layout → Inst → Size → Type 0
 LoadsArgument layout i size = (i.dst ≡ 0) × (i.src ≡ 1) × IsSome (shifted 0 i.offset (context_len layout - bytes_in size))
 
--- EXIT, a jump without condition, or a form that works on R0 alone or loads into it from the context
+-- the form is plain: it is EXIT or a jump without condition, or it works on R0 alone or loads into it from the context
 abbrev pub IsPlainForm : Layout → Inst → Form → Type 0
 IsPlainForm layout i Exit = ⊤
 IsPlainForm layout i Ja = ⊤

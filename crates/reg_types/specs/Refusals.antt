@@ -1,4 +1,5 @@
--- Definitions: the numbers, units and registers that refusals show (this profile, V faults).
+-- Definitions: the numbers that a refusal has: of its fault (V1 to V20), of its unit, and of its register or argument
+-- (this profile).
 use Rattle.std.specs.Prelude.{ℕ, Option, Some, None}
 use Rattle.bpf_decode.specs.declared.DecodeFault.{DecodeFault}
 use Rattle.bpf_decode.specs.declared.DecodeFault.TheVariants.{Length, BadOpcode, BadField, BadRegister, HalfWide, OutOfMemory as NoMemoryToDecode}
@@ -12,46 +13,47 @@ use Rattle.reg_types.specs.declared.refusal.TypeFault.TheVariants.{StorePointer,
 use Rattle.reg_types.specs.declared.refusal.Refusal.{Refusal}
 use Rattle.reg_types.specs.declared.refusal.Refusal.TheVariants.{Decode, Flow, «Type» as TypeRefusal, OutOfMemory}
 
--- what is shown: the V number, the unit, and the register or argument
+-- the numbers of a refusal: its fault number (1 for V1, to 20 for V20), its unit, and its register or argument; None
+-- where it has none
 abbrev pub Numbers : Type 0
 Numbers = ℕ × (Option ℕ) × (Option ℕ)
 
 abbrev pub at_unit : ℕ → ℕ → Numbers
 at_unit v pc = (v, Some pc, None)
 
-abbrev pub decode_shown : DecodeFault → Option Numbers
-decode_shown Length = Some (1, None, None)
-decode_shown (BadOpcode pc) = Some (at_unit 2 pc)
-decode_shown (BadField pc) = Some (at_unit 3 pc)
-decode_shown (BadRegister pc) = Some (at_unit 4 pc)
-decode_shown (HalfWide pc) = Some (at_unit 5 pc)
-decode_shown NoMemoryToDecode = None
+abbrev pub decode_numbers : DecodeFault → Option Numbers
+decode_numbers Length = Some (1, None, None)
+decode_numbers (BadOpcode pc) = Some (at_unit 2 pc)
+decode_numbers (BadField pc) = Some (at_unit 3 pc)
+decode_numbers (BadRegister pc) = Some (at_unit 4 pc)
+decode_numbers (HalfWide pc) = Some (at_unit 5 pc)
+decode_numbers NoMemoryToDecode = None
 
-abbrev pub flow_shown : FlowFault → Option Numbers
-flow_shown (BackwardJump pc) = Some (at_unit 6 pc)
-flow_shown (JumpOut pc) = Some (at_unit 7 pc)
-flow_shown (JumpIntoWide pc) = Some (at_unit 8 pc)
-flow_shown NoMemoryForFlow = None
+abbrev pub flow_numbers : FlowFault → Option Numbers
+flow_numbers (BackwardJump pc) = Some (at_unit 6 pc)
+flow_numbers (JumpOut pc) = Some (at_unit 7 pc)
+flow_numbers (JumpIntoWide pc) = Some (at_unit 8 pc)
+flow_numbers NoMemoryForFlow = None
 
-abbrev pub type_shown : TypeFault → Numbers
-type_shown (FallsOff pc) = at_unit 9 pc
-type_shown (WriteR10 pc) = at_unit 10 pc
-type_shown (NotANumber pc r) = (11, Some pc, Some r)
-type_shown (NotAPointer pc) = at_unit 12 pc
-type_shown (OutOfRange pc) = at_unit 13 pc
-type_shown (UnsetBytes pc) = at_unit 14 pc
-type_shown (StoreToContext pc) = at_unit 15 pc
-type_shown (StorePointer pc) = at_unit 16 pc
-type_shown (PointerArithmetic pc) = at_unit 17 pc
-type_shown (NoSuchHelper pc) = at_unit 18 pc
-type_shown (BadArgument pc n) = (19, Some pc, Some n)
-type_shown (UndeclaredCounter pc) = at_unit 20 pc
+abbrev pub type_numbers : TypeFault → Numbers
+type_numbers (FallsOff pc) = at_unit 9 pc
+type_numbers (WriteR10 pc) = at_unit 10 pc
+type_numbers (NotANumber pc r) = (11, Some pc, Some r)
+type_numbers (NotAPointer pc) = at_unit 12 pc
+type_numbers (OutOfRange pc) = at_unit 13 pc
+type_numbers (UnsetBytes pc) = at_unit 14 pc
+type_numbers (StoreToContext pc) = at_unit 15 pc
+type_numbers (StorePointer pc) = at_unit 16 pc
+type_numbers (PointerArithmetic pc) = at_unit 17 pc
+type_numbers (NoSuchHelper pc) = at_unit 18 pc
+type_numbers (BadArgument pc n) = (19, Some pc, Some n)
+type_numbers (UndeclaredCounter pc) = at_unit 20 pc
 
-abbrev pub shown_by : Refusal → Option Numbers
-shown_by (Decode fault) = decode_shown fault
-shown_by (Flow fault) = flow_shown fault
-shown_by (TypeRefusal fault) = Some (type_shown fault)
-shown_by OutOfMemory = None
+abbrev pub refusal_numbers : Refusal → Option Numbers
+refusal_numbers (Decode fault) = decode_numbers fault
+refusal_numbers (Flow fault) = flow_numbers fault
+refusal_numbers (TypeRefusal fault) = Some (type_numbers fault)
+refusal_numbers OutOfMemory = None
 
 -- the refusal of bytes that aren't 1 to 512 whole units
 abbrev pub wrong_length : Refusal

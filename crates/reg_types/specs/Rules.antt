@@ -1,4 +1,5 @@
--- Definitions: the typing rules, as functions (this profile, type rules). A program that they accept is good.
+-- Definitions: the typing rules, as functions (this profile, type rules). No run of a program that they accept gets
+-- stuck.
 use Rattle.std.specs.Prelude.{ℕ, zero, suc, ◌+◌, ◌*◌, ◌/◌, ◌%◌, ◌-◌, ◌^◌, ◌==◌, nat_le, Bool, true, false, ◌&&◌, ◌||◌, if◌then◌else◌, ℤ, pos, negsuc, neg_ℤ}
 use Rattle.std.specs.Prelude.{◌+ℤ◌, int_le, List, ◌∷◌, drop, slice_set, slice_index, slice_index_or, Option, Some, None, is_some, Result, Ok, Err}
 use Rattle.std.specs.Ordering.{int_eq}
@@ -83,8 +84,8 @@ ctx_at (Some k) = Ok (Ctx k)
 abbrev pub stk_at : ℤ → Result RegType Flaw
 stk_at k = if int_le (negsuc 511) k && int_le k (pos 0) then Ok (Stk k) else Err OutOfRange
 
--- the type after ADD or SUB: with 64 bits and an immediate, a pointer moves by z bytes; otherwise both operands must be
--- numbers
+-- The type of the result of ADD or SUB, or the flaw. With 64 bits and an immediate, a pointer moves by z bytes.
+-- Otherwise both operands must be numbers.
 abbrev pub sum_type : Layout → Width → Source → Inst → ℤ → RegType → RegType → Result RegType Flaw
 sum_type layout Bits64 Immediate i z (Ctx k) b = ctx_at (shifted k z (context_len layout))
 sum_type layout Bits64 Immediate i z (Stk k) b = stk_at (k +ℤ z)
@@ -93,14 +94,14 @@ sum_type layout w s i z a b = two_numbers i.dst i.src a b
 abbrev pub copied_type : ℕ → RegType → Result RegType Flaw
 copied_type src b = if is_unset b then Err (NotANumber src) else Ok b
 
-abbrev pub is_plain : ℤ → Bool
-is_plain (pos zero) = true
-is_plain (pos (suc n)) = false
-is_plain (negsuc n) = false
+abbrev pub is_zero_offset : ℤ → Bool
+is_zero_offset (pos zero) = true
+is_zero_offset (pos (suc n)) = false
+is_zero_offset (negsuc n) = false
 
 abbrev pub move_type : Width → Source → Inst → RegType → Result RegType Flaw
-move_type w Immediate i b = Ok (if is_plain i.offset then Const (low w (immediate w i.imm)) else Num)
-move_type Bits64 Register i b = if is_plain i.offset then copied_type i.src b else one_number i.src b
+move_type w Immediate i b = Ok (if is_zero_offset i.offset then Const (low w (immediate w i.imm)) else Num)
+move_type Bits64 Register i b = if is_zero_offset i.offset then copied_type i.src b else one_number i.src b
 move_type Bits32 Register i b = one_number i.src b
 
 abbrev pub alu_type : Layout → Operator → Width → Source → Inst → RegType → RegType → Result RegType Flaw
@@ -118,19 +119,20 @@ operand_type Register w i types = type_at types i.src
 -- ---- the effect of writing a register
 
 abbrev pub unmarked : List RegType → Effect
-unmarked types = record { types = types; at = 0; len = 0; kept = Unset }
+unmarked types = record { types = types; at = 0; len = 0; spilled = Unset }
 
 abbrev pub put_type : List RegType → ℕ → Result RegType Flaw → Result Effect Flaw
 put_type types dst (Err e) = Err e
 put_type types dst (Ok t) = Ok (unmarked (slice_set types dst t))
 
--- the effect of an instruction that writes register dst, by the type of the result; R10 can't be written
+-- The effect of an instruction that writes a result of this type to register dst. It is the flaw `WriteR10` if dst is
+-- R10, which can't be written; else, if there is a flaw instead of the type, it is that flaw.
 abbrev pub set_type : List RegType → ℕ → Result RegType Flaw → Result Effect Flaw
 set_type types dst r = if dst == 10 then Err WriteR10 else put_type types dst r
 
 -- ---- places
 
--- `lowest` is where a stack pointer points, counted from the stack's lowest byte; 0 for one that is below it
+-- `lowest` is where a stack pointer points, counted from the stack's lowest byte; 0 for a pointer below that byte
 abbrev pub natural : ℤ → ℕ
 natural (pos n) = n
 natural (negsuc n) = 0
@@ -158,8 +160,8 @@ load_type layout set (Const c) i size = Err NotAPointer
 load_type layout set (Ctx k) i size = number_at (shifted k i.offset (context_len layout - size))
 load_type layout set (Stk k) i size = number_set set size (shifted (lowest k) i.offset (512 - size))
 
--- A spill is the type of a pointer that is kept in the stack, as a number. 0 stands for none, 1 to 81 for Ctx 0 to 80,
--- and 82 to 594 for Stk -512 to 0. These are all the types that pointers have.
+-- A spill is the type of a pointer that is stored in the stack, as a number. 0 stands for none, 1 to 81 for Ctx 0 to
+-- 80, and 82 to 594 for Stk -512 to 0. These are all the types that pointers have.
 abbrev pub spill_of : RegType → ℕ
 spill_of (Ctx k) = if nat_le k 80 then k + 1 else 0
 spill_of (Stk k) = if nat_le (lowest k) 512 then 82 + lowest k else 0
@@ -170,28 +172,28 @@ spill_of (Const c) = 0
 abbrev pub spilled_type : ℕ → RegType
 spilled_type n = if n == 0 then Unset else (if nat_le n 81 then Ctx (n - 1) else Stk (pos (n - 82) +ℤ negsuc 511))
 
--- the type of the pointer that is spilled at the place, or Unset
+-- the type of the pointer that is spilled in the `size` bytes at the place; Unset if none is spilled there
 abbrev pub spill_in : List ℕ → ℕ → Option ℕ → RegType
 spill_in spills size None = Unset
 spill_in spills size (Some at) = if is_aligned size at then spilled_type (slice_index spills (at / 8)) else Unset
 
-abbrev pub kept_type : List ℕ → RegType → Inst → ℕ → RegType
-kept_type spills (Stk k) i size = spill_in spills size (shifted (lowest k) i.offset (512 - size))
-kept_type spills (Ctx k) i size = Unset
-kept_type spills (Const c) i size = Unset
-kept_type spills Num i size = Unset
-kept_type spills Unset i size = Unset
+abbrev pub reload_type : List ℕ → RegType → Inst → ℕ → RegType
+reload_type spills (Stk k) i size = spill_in spills size (shifted (lowest k) i.offset (512 - size))
+reload_type spills (Ctx k) i size = Unset
+reload_type spills (Const c) i size = Unset
+reload_type spills Num i size = Unset
+reload_type spills Unset i size = Unset
 
-abbrev pub kept_or : RegType → Result RegType Flaw → Result RegType Flaw
-kept_or t r = if is_unset t then r else Ok t
+abbrev pub reload_or : RegType → Result RegType Flaw → Result RegType Flaw
+reload_or t r = if is_unset t then r else Ok t
 
 -- the type that a load gives: that of the pointer spilled there, or without one a number's, or a flaw
 abbrev pub loaded_type : Layout → List Bool → List ℕ → RegType → Inst → ℕ → Result RegType Flaw
-loaded_type layout set spills base i size = kept_or (kept_type spills base i size) (load_type layout set base i size)
+loaded_type layout set spills base i size = reload_or (reload_type spills base i size) (load_type layout set base i size)
 
 abbrev pub marks : List RegType → ℕ → Option ℕ → Result Effect Flaw
 marks types size None = Err OutOfRange
-marks types size (Some at) = Ok (record { types = types; at = at; len = size; kept = Unset })
+marks types size (Some at) = Ok (record { types = types; at = at; len = size; spilled = Unset })
 
 abbrev pub store_type : List RegType → RegType → Inst → ℕ → Result Effect Flaw
 store_type types Unset i size = Err NotAPointer
@@ -200,19 +202,20 @@ store_type types (Const c) i size = Err NotAPointer
 store_type types (Ctx k) i size = Err StoreToContext
 store_type types (Stk k) i size = marks types size (shifted (lowest k) i.offset (512 - size))
 
--- a pointer can be stored only in eight bytes at a multiple of eight
-abbrev pub keeps : RegType → Effect → Result Effect Flaw
-keeps value e = if is_aligned e.len e.at then Ok (record e { kept = value }) else Err StorePointer
+-- the effect of a store of a pointer, from that of a store of a number to the same place; it is a flaw unless the place
+-- is eight bytes at a multiple of eight
+abbrev pub stores_pointer : RegType → Effect → Result Effect Flaw
+stores_pointer value e = if is_aligned e.len e.at then Ok (record e { spilled = value }) else Err StorePointer
 
 -- The effect or the flaw of a store of a value of this type, from that of a store of a number to the same place. A flaw
--- stays. An effect stays too, unless the value is a pointer: it is then kept there, or it is a flaw that it can't be.
-abbrev pub keeps_pointer : RegType → Result Effect Flaw → Result Effect Flaw
-keeps_pointer value (Err e) = Err e
-keeps_pointer value (Ok e) = if is_pointer value then keeps value e else Ok e
+-- stays. An effect stays too, unless the value is a pointer: then `stores_pointer` gives the result.
+abbrev pub stores_if_pointer : RegType → Result Effect Flaw → Result Effect Flaw
+stores_if_pointer value (Err e) = Err e
+stores_if_pointer value (Ok e) = if is_pointer value then stores_pointer value e else Ok e
 
 abbrev pub store_register : List RegType → RegType → RegType → Inst → ℕ → Result Effect Flaw
 store_register types base value i size =
-    if is_unset value then Err (NotANumber i.src) else keeps_pointer value (store_type types base i size)
+    if is_unset value then Err (NotANumber i.src) else stores_if_pointer value (store_type types base i size)
 
 -- ---- comparisons and exits
 
@@ -225,7 +228,7 @@ exited types a = if is_numeric a then Ok (unmarked types) else Err (NotANumber 0
 
 -- ---- calls
 
--- where a helper puts a record of 16 bytes, if the argument is a stack pointer with room for it
+-- the place where a helper writes a record of 16 bytes, if the argument is a stack pointer with room for it; else None
 abbrev pub place_by : RegType → Option ℕ
 place_by (Stk k) = shifted (lowest k) (pos 0) 496
 place_by Unset = None
@@ -265,7 +268,7 @@ after_call types = Num ∷ Unset ∷ Unset ∷ Unset ∷ Unset ∷ Unset ∷ dro
 
 abbrev pub marks_record : List RegType → Option ℕ → Effect
 marks_record types None = unmarked types
-marks_record types (Some at) = record { types = types; at = at; len = 16; kept = Unset }
+marks_record types (Some at) = record { types = types; at = at; len = 16; spilled = Unset }
 
 abbrev pub record_at : Kind → RegType → Option ℕ
 record_at Place t = place_by t
@@ -308,7 +311,7 @@ effect options f i upper (Branch c w s) =
 effect options f i upper Call = call_type options.mask f.types (signature i.imm)
 effect options f i upper Exit = exited f.types (type_at f.types 0)
 
--- a run would go on behind this instruction, but the program ends there
+-- whether a run would continue after this instruction, but the program has no unit there
 abbrev pub falls_off : ℕ → ℕ → Form → Bool
 falls_off count pc Exit = false
 falls_off count pc Ja = false
@@ -317,6 +320,6 @@ falls_off count pc Wide = nat_le count (pc + 2)
 falls_off count pc form = nat_le count (pc + 1)
 
 -- the effect of the instruction at unit pc of a program of `count` units, or its first flaw
-abbrev pub judged : ℕ → ℕ → LoadOptions → Fact → Inst → ℤ → Form → Result Effect Flaw
-judged count pc options f i upper form =
+abbrev pub checked_effect : ℕ → ℕ → LoadOptions → Fact → Inst → ℤ → Form → Result Effect Flaw
+checked_effect count pc options f i upper form =
     if falls_off count pc form then Err FallsOff else effect options f i upper form

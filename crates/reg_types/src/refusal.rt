@@ -1,7 +1,7 @@
 // The reasons for which the verifier refuses a program.
 
 ghost use Rattle.std.specs.Prelude.{◌≡◌};
-ghost use Rattle.reg_types.specs.Refusals.{located, shown_by, decode_shown, flow_shown, type_shown};
+ghost use Rattle.reg_types.specs.Refusals.{located, refusal_numbers, decode_numbers, flow_numbers, type_numbers};
 
 use crate::types::Flaw;
 use bpf_decode::DecodeFault;
@@ -84,8 +84,8 @@ impl fmt::Display for Refusal {
     }
 }
 
-fn show_decode(fault: DecodeFault) -> Option<(u32, Option<u32>, Option<u32>)>
-    ensures { result ≡ decode_shown fault }
+fn numbers_of_decode(fault: DecodeFault) -> Option<(u32, Option<u32>, Option<u32>)>
+    ensures { result ≡ decode_numbers fault }
 {
     match fault {
         DecodeFault::Length => Some((1, None, None)),
@@ -97,8 +97,8 @@ fn show_decode(fault: DecodeFault) -> Option<(u32, Option<u32>, Option<u32>)>
     }
 }
 
-fn show_flow(fault: FlowFault) -> Option<(u32, Option<u32>, Option<u32>)>
-    ensures { result ≡ flow_shown fault }
+fn numbers_of_flow(fault: FlowFault) -> Option<(u32, Option<u32>, Option<u32>)>
+    ensures { result ≡ flow_numbers fault }
 {
     match fault {
         FlowFault::BackwardJump(pc) => Some((6, Some(pc), None)),
@@ -108,8 +108,8 @@ fn show_flow(fault: FlowFault) -> Option<(u32, Option<u32>, Option<u32>)>
     }
 }
 
-fn show_type(fault: TypeFault) -> (u32, Option<u32>, Option<u32>)
-    ensures { result ≡ type_shown fault }
+fn numbers_of_type(fault: TypeFault) -> (u32, Option<u32>, Option<u32>)
+    ensures { result ≡ type_numbers fault }
 {
     match fault {
         TypeFault::FallsOff(pc) => (9, Some(pc), None),
@@ -130,14 +130,14 @@ fn show_type(fault: TypeFault) -> (u32, Option<u32>, Option<u32>)
 impl Refusal {
     /// Returns the number of the fault (1 for V1, to 20 for V20), then its unit, counted from 0, and then its register
     /// or argument. The unit is `None` for V1 only, and the register or argument is `None` except for V11 and V19.
-    /// Returns `None` if the refusal is that memory ran out while the program was verified.
-    pub fn shown(self) -> Option<(u32, Option<u32>, Option<u32>)>
-        ensures { result ≡ shown_by self }
+    /// Returns `None` if the refusal is that memory ran out.
+    pub fn fault_numbers(self) -> Option<(u32, Option<u32>, Option<u32>)>
+        ensures { result ≡ refusal_numbers self }
     {
         match self {
-            Refusal::Decode(fault) => show_decode(fault),
-            Refusal::Flow(fault) => show_flow(fault),
-            Refusal::Type(fault) => Some(show_type(fault)),
+            Refusal::Decode(fault) => numbers_of_decode(fault),
+            Refusal::Flow(fault) => numbers_of_flow(fault),
+            Refusal::Type(fault) => Some(numbers_of_type(fault)),
             Refusal::OutOfMemory => None,
         }
     }

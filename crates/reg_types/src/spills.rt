@@ -1,4 +1,5 @@
-// Spills: pointers that are stored in the stack. The verifier has a number for each aligned place of eight bytes.
+// Spills: pointers that are stored in the stack. For each aligned place of eight bytes, the verifier has a number that
+// says which pointer is spilled there; 0 means none.
 
 ghost use Rattle.std.specs.Prelude.{◌≡◌, ◌==◌, if◌then◌else◌, ◌≤◌, ◌+◌};
 ghost use Rattle.reg_types.specs.Rules.{spill_of as spill_by, spilled_type as spilled_by};

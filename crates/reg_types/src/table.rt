@@ -1,4 +1,5 @@
-// The table of the facts that the verifier stores, each found by its unit without a search.
+// The table of the facts that the verifier stores (what is known before a unit). A fact is found by its unit without a
+// search.
 
 ghost use Rattle.std.specs.Prelude.{◌≡◌, ℕ, ◌≤◌, ◌+◌, ◌∷◌, [], IfOk, IfSome, OnOk, IsTrue};
 ghost use Rattle.std.specs.Prelude.{false, Some, None, replicate};
@@ -12,7 +13,7 @@ use crate::types::{Fact, StoredFact};
 use std::alloc::{AllocError, Global};
 use std::marker::Model;
 
-/// The stored facts, at most one for each of the units 0 to 512.
+/// A table of stored facts (what is known before a unit), with at most one fact for each of the units 0 to 512.
 #[derive(Drop)]
 pub struct Table {
     facts: Vec<StoredFact>,
@@ -32,7 +33,7 @@ impl Model for Table {
     ghost invariant = { λ t. IsIndexed t.facts.items t.places };
 }
 
-// Returns the `places` of a table that has a fact for unit 0 only, at index 0.
+// Returns the field `places` of a table whose only fact is that of unit 0, at index 0.
 fn first_alone() -> [usize; 513]
     ensures { result ≡ slice_set (replicate (UNITS + 1) 0) 0 1 }
 {

@@ -58,13 +58,13 @@ pub struct CarriedFact {
 }
 
 /// What an instruction writes to the stack: `len` bytes from byte `at` on, counted from the stack's lowest byte. If it
-/// writes nothing, both are 0. `kept` is the type of a pointer that is spilled there, or `Unset` if the bytes become
+/// writes nothing, both are 0. `spilled` is the type of a pointer that is spilled there, or `Unset` if the bytes become
 /// those of a number.
 #[derive(Clone, Copy)]
 pub struct StackWrite {
     pub at: u32,
     pub len: u32,
-    pub kept: RegType,
+    pub spilled: RegType,
 }
 
 /// What is wrong with an instruction, given the fact before it: a `TypeFault` without its unit. The number of
@@ -96,7 +96,7 @@ pub enum Successors {
 }
 
 impl Successors {
-    /// Returns the target of the jump, if the instruction is a jump.
+    /// Returns the target of the jump; `None` if the instruction isn't a jump.
     pub fn jump(self) -> Option<u32>
         ensures { result ≡ jump_of self }
     {
@@ -106,7 +106,7 @@ impl Successors {
         }
     }
 
-    /// Returns the unit of the next instruction, if a run can continue there.
+    /// Returns the unit of the next instruction; `None` if a run can't continue there.
     pub fn next(self) -> Option<u32>
         ensures { result ≡ next_of self }
     {
@@ -119,21 +119,21 @@ impl Successors {
 
 impl RegType {
     /// Returns whether nothing is known of the register.
-    pub fn is_nothing(self) -> bool
+    pub fn is_unknown(self) -> bool
         ensures { result ≡ is_unset self }
     {
         matches!(self, RegType::Unset)
     }
 
     /// Returns whether the register holds a pointer.
-    pub fn points(self) -> bool
+    pub fn holds_pointer(self) -> bool
         ensures { result ≡ is_pointer self }
     {
         matches!(self, RegType::Ctx(_) | RegType::Stk(_))
     }
 
     /// Returns whether the register holds a number, known or not.
-    pub fn counts(self) -> bool
+    pub fn holds_number(self) -> bool
         ensures { result ≡ is_numeric self }
     {
         matches!(self, RegType::Num | RegType::Const(_))
@@ -145,11 +145,11 @@ impl RegType {
         ensures joined { self.new ≡ join_type self.old other.old }
         ensures both { other.new ≡ self.new }
     {
-        if self.is_nothing() && other.is_nothing() {
+        if self.is_unknown() && other.is_unknown() {
             return;
         }
         if *self != *other {
-            *self = if self.counts() && other.counts() {
+            *self = if self.holds_number() && other.holds_number() {
                 RegType::Num
             } else {
                 RegType::Unset
@@ -207,14 +207,14 @@ impl Fact {
         requires { mark.at + mark.len ≤ STACK_BYTES }
         ensures types { self.new.types ≡ self.old.types }
         ensures places { (p : ℕ)
-            → Has self.new.stack p ↔ HasAfter (is_unset mark.kept) self.old.stack mark.at mark.len p }
-        ensures spills { self.new.spills ≡ respilled (spill_by mark.kept) mark.at mark.len 0 self.old.spills }
+            → Has self.new.stack p ↔ HasAfter (is_unset mark.spilled) self.old.stack mark.at mark.len p }
+        ensures spills { self.new.spills ≡ respilled (spill_by mark.spilled) mark.at mark.len 0 self.old.spills }
     {
-        if mark.kept.is_nothing() {
+        if mark.spilled.is_unknown() {
             self.stack.mark(mark.at, mark.len);
         } else {
             self.stack.clear(mark.at, mark.len);
         }
-        put_spill(&mut self.spills, spill_of(mark.kept), mark.at, mark.len);
+        put_spill(&mut self.spills, spill_of(mark.spilled), mark.at, mark.len);
     }
 }

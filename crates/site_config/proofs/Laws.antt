@@ -1,5 +1,5 @@
--- By the configuration a door takes a line of a till, or a line that names a point, exactly if a session of its role
--- may send it.
+-- By the configuration a door takes a line of a till, or a line that names a point, exactly if a session of its role is
+-- allowed to send it.
 use Rattle.std.proofs.Common.{◌≡◌, ℕ, ◌+◌, ◌-◌, ◌/◌, ◌%◌, ◌^◌, ◌≤◌, ◌==◌, ◌&&◌, ◌||◌, nat_le, not, length, ℤ, pos, negsuc, List, [], ◌∷◌, Bool, true, false, cond}
 use Rattle.std.proofs.Common.{Result, Ok, Err, refl, sym, subst, ap, ◌∙◌, arith}
 use Rattle.std.specs.Prelude.{bit_or}

@@ -9,7 +9,8 @@ use Rattle.site_config.specs.Document.{document_of}
 use Rattle.site_config.specs.Typed.{typed_of}
 use Rattle.site_config.specs.Memory.{MakesFirst, TakesTyped, TakesDocument}
 
--- If an item is made, then the first item of the list is made.
+-- If `one` finds no flaw in the item at place i, then it finds none in the first item: for i = 0 that is the same item,
+-- and otherwise it is given.
 pub made : {A B : Type 0} (one : ℕ → A → Result B ConfigFlaw) (xs : List A) (i : ℕ) (x : A) (rest : List A)
     → drop i xs ≡ x ∷ rest → (1 ≤ i → MakesFirst (one 0) xs) → IsOk (one i x) → MakesFirst (one 0) xs
 made one xs zero x rest split before now = subst (MakesFirst (one 0)) (sym split) now

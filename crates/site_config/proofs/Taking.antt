@@ -5,7 +5,7 @@ use Rattle.site_config.specs.declared.flaw.ConfigFlaw.TheVariants.{WithoutDoor}
 use Rattle.site_config.specs.declared.flaw.Side.{Side}
 use Rattle.site_config.specs.declared.raw.RawDoor.{RawDoor}
 use Rattle.site_config.specs.Document.{first_of}
-use Rattle.site_config.specs.Doors.{is_taken, first_left}
+use Rattle.site_config.specs.Doors.{is_taken, first_without_door}
 
 found_before : (o other : Option ConfigFlaw) (flaw : ConfigFlaw) → o ≡ Some flaw → first_of o other ≡ Some flaw
 found_before o other flaw e = rw e
@@ -23,23 +23,23 @@ none_and n = omega arith
 one_and : (j n : ℕ) → suc j + n ≡ suc (j + n)
 one_and j n = omega arith
 
-left_above : (side : Side) (ds : List RawDoor) (n : ℕ) (flaw : ConfigFlaw) (j : ℕ) → first_left side ds n ≡ Some flaw → first_left side ds (j + n) ≡ Some flaw
+left_above : (side : Side) (ds : List RawDoor) (n : ℕ) (flaw : ConfigFlaw) (j : ℕ) → first_without_door side ds n ≡ Some flaw → first_without_door side ds (j + n) ≡ Some flaw
 left_above side ds n flaw zero found = rw (none_and n) found
-left_above side ds n flaw (suc j) found = rw (one_and j n) (found_before (first_left side ds (j + n)) _ flaw (left_above side ds n flaw j found))
+left_above side ds n flaw (suc j) found = rw (one_and j n) (found_before (first_without_door side ds (j + n)) _ flaw (left_above side ds n flaw j found))
 
 -- If each number below m has a door that takes its lines, and m has one too, then each number up to m has one.
-pub none_left : (side : Side) (ds : List RawDoor) (n m : ℕ) → m ≡ n + 1 → None ≡ first_left side ds n → is_taken side ds m ≡ true
-    → None ≡ first_left side ds m
+pub none_left : (side : Side) (ds : List RawDoor) (n m : ℕ) → m ≡ n + 1 → None ≡ first_without_door side ds n → is_taken side ds m ≡ true
+    → None ≡ first_without_door side ds m
 none_left side ds n m is none taken =
     let e : m ≡ suc n = omega (arith, is) in
-    rw e (sym (found_none (first_left side ds n) (is_taken side ds (suc n)) (WithoutDoor side (suc n)) (sym none) (rw e at taken)))
+    rw e (sym (found_none (first_without_door side ds n) (is_taken side ds (suc n)) (WithoutDoor side (suc n)) (sym none) (rw e at taken)))
 
 -- If each number below m has a door that takes its lines, and m lacks one, then m is the lowest number that lacks one.
-pub one_left : (side : Side) (ds : List RawDoor) (n m most : ℕ) → m ≡ n + 1 → m ≤ most → None ≡ first_left side ds n → is_taken side ds m ≡ false
-    → Some (WithoutDoor side m) ≡ first_left side ds most
+pub one_left : (side : Side) (ds : List RawDoor) (n m most : ℕ) → m ≡ n + 1 → m ≤ most → None ≡ first_without_door side ds n → is_taken side ds m ≡ false
+    → Some (WithoutDoor side m) ≡ first_without_door side ds most
 one_left side ds n m most is le none taken =
     let e : m ≡ suc n = omega (arith, is) in
-    let here : first_left side ds m ≡ Some (WithoutDoor side m) =
-    rw e (found_here (first_left side ds n) (is_taken side ds (suc n)) (WithoutDoor side (suc n)) (sym none) (rw e at taken)) in
+    let here : first_without_door side ds m ≡ Some (WithoutDoor side m) =
+    rw e (found_here (first_without_door side ds n) (is_taken side ds (suc n)) (WithoutDoor side (suc n)) (sym none) (rw e at taken)) in
     let k : most - m + m ≡ most = omega (arith, le) in
-    sym (subst (λ q. first_left side ds q ≡ Some (WithoutDoor side m)) k (left_above side ds m (WithoutDoor side m) (most - m) here))
+    sym (subst (λ q. first_without_door side ds q ≡ Some (WithoutDoor side m)) k (left_above side ds m (WithoutDoor side m) (most - m) here))

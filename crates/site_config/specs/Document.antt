@@ -33,14 +33,14 @@ abbrev pub first_of : Option ConfigFlaw → Option ConfigFlaw → Option ConfigF
 first_of (Some flaw) other = Some flaw
 first_of None other = other
 
--- `Finds`: what a function returned, once `view` is applied to its value, is what reading gives by its definition: the
--- same value, or the same flaw. If memory ran out, nothing is claimed.
+-- The result is what `read`, a definition, gives: the same value, once `view` is applied to it, or the same flaw. If
+-- the flaw is that memory ran out, nothing is claimed.
 abbrev pub Finds : {X Y : Type 0} → (X → Y) → Result X ConfigFlaw → Result Y ConfigFlaw → Type 0
 Finds view (Ok x) read = read ≡ Ok (view x)
 Finds view (Err flaw) read = flaw ≢ OutOfMemory → read ≡ Err flaw
 
--- `Fails`: reading, by its definition, fails with this fault. `Gives`: what a function returned, once `view` is applied
--- to its value, is what reading gives. Both claim nothing if memory ran out.
+-- `read`, a definition, fails with this fault. If the fault is that memory ran out, nothing is claimed. Below, `Gives`:
+-- the result is what `read` gives, as in `Finds`, but with a fault instead of a flaw.
 abbrev pub Fails : {Y : Type 0} → ConfigFault → Result Y ConfigFault → Type 0
 Fails fault.OutOfMemory read = Unit {0}
 Fails f read = read ≡ Err f
@@ -53,7 +53,7 @@ Gives view (Err e) read = Fails e read
 unfoldable pub document_of : List ℕ → Option Members
 document_of bytes = if is_utf8 bytes then parse_document bytes else None
 
--- The items that were read before, followed by those of the rest. If the rest can't be read, the result is its flaw.
+-- The items in `front`, followed by those in `rest`. If `rest` is a flaw, the result is this flaw.
 abbrev pub with_front : {A : Type 0} → List A → Result (List A) ConfigFlaw → Result (List A) ConfigFlaw
 with_front front rest = rest >>= (λ xs. Ok (front ++ xs))
 

@@ -69,8 +69,8 @@ address_of place (Socket path) = do
   some ← demand (Empty place) (not (length path == 0))
   Ok (socket path)
 
--- Adds the point `z` to points that are given as bits: point p is bit p - 1. It must be one of the site's points, and
--- not be among them already. `place` is its place in the list at `list`, counted from 0.
+-- Adds the point `z` to the points in `bits`: point p is bit p - 1. The result is a flaw if the point isn't from 1 to
+-- `points`, or is in `bits` already. `place` is its place in the list at `list`, counted from 0.
 unfoldable pub with_point : Place → ℕ → ℕ → ℕ → ℤ → Result ℕ ConfigFlaw
 with_point list place points bits z = do
   p ← ranged (item_of list place) 1 points z
@@ -103,13 +103,13 @@ role_of tills points place (SomePoints zs) = do
   Ok (roles.SomePoints bits)
 role_of tills points place Owner = Ok roles.Owner
 
--- Ok if the address is in its range, or else the flaw.
+-- Ok if the address is a port of 1 to 65,535 or a path that isn't empty, or else the flaw.
 unfoldable pub address_fits : Place → RawAddress → Result (Unit {0}) ConfigFlaw
 address_fits place address = do
   a ← address_of place address
   Ok tt
 
--- Ok if the address and the role of the door are in their ranges, or else the flaw.
+-- Ok if `address_of` finds no flaw in the door's address, and `role_of` none in its role, or else the first flaw.
 unfoldable pub door_fits : ℕ → ℕ → RawDoor → Result (Unit {0}) ConfigFlaw
 door_fits tills points d = do
   a ← address_of d.place d.address
@@ -201,16 +201,16 @@ is_taken side ds n = list_any (λ d. takes side n d.role) ds
 
 -- The flaw of the lowest number, from 1 to the given one, of a till or a point whose lines no door takes. None if each
 -- of these numbers has a door.
-abbrev pub first_left : Side → List RawDoor → ℕ → Option ConfigFlaw
-first_left side ds zero = None
-first_left side ds (suc n) = first_of (first_left side ds n) (if is_taken side ds (suc n) then None else Some (WithoutDoor side (suc n)))
+abbrev pub first_without_door : Side → List RawDoor → ℕ → Option ConfigFlaw
+first_without_door side ds zero = None
+first_without_door side ds (suc n) = first_of (first_without_door side ds n) (if is_taken side ds (suc n) then None else Some (WithoutDoor side (suc n)))
 
 -- Checks one side: tills or dispensers. The shared door's workers and the doors of single tills, or of some points,
 -- must be at most `most` in all. Each till or point, from 1 to `n`, must have a door that takes its lines.
 unfoldable pub side_fits : Side → ℕ → ℕ → ℕ → List RawDoor → Result (Unit {0}) ConfigFlaw
 side_fits side shared most n ds = do
   few ← demand (TooManyWorkers side (shared + count_single side ds) most) (nat_le (shared + count_single side ds) most)
-  without (first_left side ds n)
+  without (first_without_door side ds n)
 
 unfoldable pub door_of : ℕ → ℕ → ℕ → ℕ → RawDoor → Result DoorValue ConfigFlaw
 door_of tills points till_workers dispenser_workers d = do
@@ -242,7 +242,8 @@ serve_of tills points s = do
   doors ← each_door (door_of tills points t w) s.doors
   Ok (record { doors = doors; connections = n; idle_seconds = i; page_port = p })
 
--- Converts a value of the code to the value that these definitions have for it.
+-- The address of the code as an `AddressValue`. Below: a door as a `DoorValue`, and the settings of `[serve]` as a
+-- `ServeValue`.
 abbrev pub address_seen : Address → AddressValue
 address_seen (addresses.Port n) = port n
 address_seen (addresses.Socket path) = socket (string_bytes path)

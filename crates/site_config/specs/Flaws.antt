@@ -39,16 +39,16 @@ position_of flaw = None
 -- The flaw's position is right for this text. For `NotUtf8` it is where the text stops being UTF-8. For `NotToml` the
 -- text is UTF-8, and the position is that of some byte of the text, or its end. For `OutOfMemory` the text is UTF-8. Of
 -- other flaws nothing is claimed.
-abbrev pub StandsAt : List ℕ → ConfigFlaw → Type 0
-StandsAt bytes (NotUtf8 line column) = (is_utf8 bytes ≡ false) × ((line, column) ≡ position_at bytes (utf8_valid_len bytes))
-StandsAt bytes (NotToml line column message) =
+abbrev pub HasRightPosition : List ℕ → ConfigFlaw → Type 0
+HasRightPosition bytes (NotUtf8 line column) = (is_utf8 bytes ≡ false) × ((line, column) ≡ position_at bytes (utf8_valid_len bytes))
+HasRightPosition bytes (NotToml line column message) =
     (is_utf8 bytes ≡ true) × ((index : ℕ) × (index ≤ length bytes) × ((line, column) ≡ position_at bytes index))
-StandsAt bytes OutOfMemory = is_utf8 bytes ≡ true
-StandsAt bytes flaw = Unit {0}
+HasRightPosition bytes OutOfMemory = is_utf8 bytes ≡ true
+HasRightPosition bytes flaw = Unit {0}
 
--- If the flaw is `NotToml`, its message is this one. Other flaws have no message, and nothing is claimed of them.
+-- If the flaw is `NotToml`, its message is `message`. Other flaws have no message, and nothing is claimed of them.
 abbrev pub HasMessage : List ℕ → ConfigFlaw → Type 0
-HasMessage message (NotToml line column told) = string_bytes told ≡ message
+HasMessage message (NotToml line column actual) = string_bytes actual ≡ message
 HasMessage message flaw = Unit {0}
 
 -- Replaces a flaw by its fault number.

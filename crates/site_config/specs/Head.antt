@@ -16,15 +16,16 @@ before_end bytes = if ends_head bytes then take (length bytes - 4) bytes else by
 abbrev pub head_part : List ℕ → Option (List ℕ)
 head_part bytes = if nat_le (length (before_end bytes)) 65536 then Some (before_end bytes) else None
 
--- The bytes `bytes` were taken from the input. They end with the first line `---`, or the input has ended behind them,
--- or there are 65,541 of them, which is the most.
+-- The bytes `bytes` were taken from the input. They end with the first line `---`, or the input ends after them, or
+-- there are 65,541 of them, which is the most.
 pub record IsHead (old new : Option (List ℕ)) (bytes : List ℕ) : Type 0 where
   pub taken : Consumes old new bytes
   pub first : (k : ℕ) → k < length bytes → ends_head (take k bytes) ≡ false
   pub few : length bytes ≤ 65541
   pub ended : (ends_head bytes ≡ true) ⊎ IsAtEnd new ⊎ (65540 < length bytes)
 
--- These bytes are no whole head yet: they are at most 65,540, and no line `---` has ended among them or with them.
+-- These bytes are no whole head (a configuration and its line `---`) yet: they are at most 65,540, and no line `---`
+-- has ended among them or with them.
 abbrev pub IsOpen : List ℕ → Type 0
 IsOpen bytes = ((k : ℕ) → k ≤ length bytes → ends_head (take k bytes) ≡ false) × (length bytes ≤ 65540)
 
@@ -38,7 +39,7 @@ abbrev pub TakesByReads : Option (List ℕ) → Option (List ℕ) → ℕ → �
 TakesByReads old new before after =
     (bytes : List ℕ) × (byte : ℕ) × Consumes old new (bytes ++ byte ∷ []) × IsOpen bytes × (length bytes + 1 + after ≡ before)
 
--- `count` bytes were read, each by a read of its own. If the input is at its end, one more read may have found this.
+-- `count` bytes were read, each by a read of its own. If the input is at its end, perhaps one more read found this.
 -- `before` reads were allowed, and `after` of them are left.
 abbrev pub TakesReads : Option (List ℕ) → ℕ → ℕ → ℕ → Type 0
 TakesReads new count before after = (count + after ≡ before) ⊎ ((count + after + 1 ≡ before) × IsAtEnd new)

@@ -1,25 +1,25 @@
 -- Promises: by the configuration a door takes a line of a till, or a line that names a point, exactly if a session of
--- its role may send it.
+-- its role is allowed to send it.
 use Rattle.std.specs.Prelude.{◌≡◌, ◌≤◌, ◌&&◌, ℕ, Ok}
 use Rattle.fuelling_point.specs.declared.kinds.DispenserEvent.{DispenserEvent}
 use Rattle.till_request.specs.declared.act.Act.TheVariants as acts
 use Rattle.till_request.specs.declared.act.Request.{Request}
 use Rattle.till_request.specs.declared.act.Role.{Role}
 use Rattle.till_request.specs.declared.act.Role.TheVariants as roles
-use Rattle.till_request.specs.Grammar.{allows, is_own}
+use Rattle.till_request.specs.Grammar.{allows, is_within_role}
 use Rattle.site_config.specs.declared.flaw.Place.{Place}
 use Rattle.site_config.specs.declared.flaw.Side.TheVariants as sides
 use Rattle.site_config.specs.declared.raw.RawRole.{RawRole}
 use Rattle.site_config.specs.Doors.{role_of, takes}
 
--- `raw` is a door's role in the configuration, and `role` the role of its sessions. The door takes a till's lines
--- exactly if `role` may send tills' lines and isn't limited to another till. The door takes the lines that name a point
--- exactly if `role` may send dispensers' lines and isn't limited to other points.
+-- `raw` is a door's role in the configuration, and `role` is the role of its sessions. The door takes a till's lines
+-- exactly if `role` is allowed to send tills' lines and isn't limited to another till. The door takes the lines that
+-- name a point exactly if `role` is allowed to send dispensers' lines and isn't limited to other points.
 pub record TakesOwnLines (raw : RawRole) (role : Role) : Type 0 where
   pub of_tills : (number : ℕ) (request : Request)
-      → takes sides.Tills number raw ≡ (allows role roles.Till && is_own role (acts.Till number request))
+      → takes sides.Tills number raw ≡ (allows role roles.Till && is_within_role role (acts.Till number request))
   pub of_points : (point : ℕ) (event : DispenserEvent) → 1 ≤ point → point ≤ 32
-      → takes sides.Dispensers point raw ≡ (allows role roles.Dispenser && is_own role (acts.Dispenser point event))
+      → takes sides.Dispensers point raw ≡ (allows role roles.Dispenser && is_within_role role (acts.Dispenser point event))
 
 abbrev pub DoorsTakeOwnLines : Type 0
 DoorsTakeOwnLines =

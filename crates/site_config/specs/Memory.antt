@@ -30,16 +30,17 @@ use Rattle.site_config.specs.Typed.{point_in, counter_in, points_at, counters_at
 abbrev pub Then : {A : Type 0} → Type 0 → Result A ConfigFlaw → Type 0 → Type 0
 Then takes step rest = takes ⊎ (IsOk step × rest)
 
--- The first key that a table of this section may not have is copied, since its name isn't empty.
+-- The table has a key that a table of this section isn't allowed to have. The name of the first such key isn't empty,
+-- and so it is copied.
 abbrev pub CopiesKey : Section → Members → Type 0
 CopiesKey section ms = IsSomeAnd (other_key (is_key_of section) ms) (λ name. 0 < length name)
 
--- The first item of a list takes memory by itself, or it is read and then kept.
+-- The list has a first item. Reading it takes memory, or succeeds: then keeping the item takes memory.
 abbrev pub KeepsFirst : {A : Type 0} → (ℕ → Data → Result A ConfigFlaw) → (ℕ → Data → Type 0) → Items → Type 0
 KeepsFirst one takes no_items = ⊥
 KeepsFirst one takes (item d ds) = takes 0 d ⊎ IsOk (one 0 d)
 
--- A number takes no memory by itself.
+-- Reading a number takes no memory, so this never holds.
 abbrev pub TakesNone : ℕ → Data → Type 0
 TakesNone place d = ⊥
 
@@ -71,7 +72,7 @@ CopiesPath place (Some x) socket = ⊥
 unfoldable pub TakesDoor : Section → Key × Key → Members → Type 0
 TakesDoor section keys ms = CopiesPath (At section keys.1) (get_member (name_of keys.0) ms) (get_member (name_of keys.1) ms)
 
--- A door of `[serve]` takes memory by itself, or it is read and then kept.
+-- Reading a door of `[serve]` takes memory, or succeeds: then keeping the door takes memory.
 unfoldable pub TakesShared : Key × Key → RawRole → Members → Type 0
 TakesShared keys role ms = TakesDoor Serve keys ms ⊎ IsOk (door_at Serve keys role ms)
 
@@ -121,16 +122,16 @@ abbrev pub HasPath : RawAddress → Type 0
 HasPath (Port z) = ⊥
 HasPath (Socket path) = 0 < length path
 
--- The first item of a list is in its range, and so it is kept.
+-- The list has a first item, and `one` finds no flaw in it. Then keeping the item takes memory.
 abbrev pub MakesFirst : {A B : Type 0} → (A → Result B ConfigFlaw) → List A → Type 0
 MakesFirst one [] = ⊥
 MakesFirst one (x ∷ xs) = IsOk (one x)
 
--- There are 8 prices, and the first one is in its range.
+-- There are 8 prices, and the first one is in its range. Then keeping it takes memory.
 unfoldable pub TakesPrices : List ℤ → Type 0
 TakesPrices zs = (length zs ≡ 8) × MakesFirst (price_of 0) zs
 
--- There are doors. They take memory when they are made, which is only once none of them has a flaw.
+-- There is at least one door. Making the doors takes memory, once all of them were checked.
 abbrev pub HasDoors : ServeValue → Type 0
 HasDoors s = 0 < length s.doors
 

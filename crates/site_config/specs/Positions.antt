@@ -17,6 +17,6 @@ position_from at (byte ∷ bytes) = position_from (past at byte) bytes
 unfoldable pub position_behind : List ℕ → ℕ × ℕ
 position_behind text = position_from (1, 1) text
 
--- the position of the byte at this index
+-- the position of the byte at this index, or that of the end if the text has no such index
 abbrev pub position_at : List ℕ → ℕ → ℕ × ℕ
 position_at bytes index = position_behind (take index bytes)

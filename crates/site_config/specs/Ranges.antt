@@ -61,13 +61,13 @@ serve_from tills points (Some s) = do
   r ← serve_of tills points s
   Ok (Some r)
 
--- The values in a configuration.
-pub record Told : Type 0 where
+-- The settings in a configuration: the site, and where and how it is served, if `[serve]` is given.
+pub record SettingsValue : Type 0 where
   pub config : ConfigValue
   pub serve : Option ServeValue
 
-unfoldable pub told_of : Typed → Result Told ConfigFlaw
-told_of d = do
+unfoldable pub settings_of_typed : Typed → Result SettingsValue ConfigFlaw
+settings_of_typed d = do
   tills ← ranged (At Top key.Tills) 1 64 d.tills
   slot ← ranged (At Top key.PriceSlot) 0 15 d.price_slot
   prices ← prices_of d.prices
@@ -76,17 +76,17 @@ told_of d = do
   serve ← serve_from tills (length points) d.serve
   Ok (record { config = record { tills = tills; price_slot = slot; prices = prices; points = points; counters = counters; opening = None }; serve = serve })
 
-abbrev pub told : Settings → Told
-told s = record { config = s.config; serve = option_map serve_seen s.serve }
+abbrev pub settings_view : Settings → SettingsValue
+settings_view s = record { config = s.config; serve = option_map serve_seen s.serve }
 
--- The values in a document, or its first flaw: any K2 comes before any K3.
-unfoldable pub settings_of : Members → Result Told ConfigFlaw
-settings_of ms = typed_of ms >>= told_of
+-- The settings in a document, or its first flaw: any flaw with the fault K2 comes before any with K3.
+unfoldable pub settings_of : Members → Result SettingsValue ConfigFlaw
+settings_of ms = typed_of ms >>= settings_of_typed
 
-abbrev pub config_in : Option Members → Result Told ConfigFault
+abbrev pub config_in : Option Members → Result SettingsValue ConfigFault
 config_in None = Err K1
 config_in (Some ms) = numbered (settings_of ms)
 
--- The values in the text of a configuration, or its fault: K1 comes before K2, and K2 before K3.
-unfoldable pub config_of : List ℕ → Result Told ConfigFault
+-- The settings in the text of a configuration, or its fault: K1 comes before K2, and K2 before K3.
+unfoldable pub config_of : List ℕ → Result SettingsValue ConfigFault
 config_of bytes = config_in (document_of bytes)

@@ -25,7 +25,8 @@ use Rattle.site_config.specs.declared.raw.RawRole.TheVariants.{Tills, OneTill, D
 use Rattle.site_config.specs.Document.{or_flaw, demand, ◌>>=◌, with_front}
 use Rattle.site_config.specs.Keys.{name_of}
 
--- The keys that a table may have, for each kind of table.
+-- The document is allowed to have a key of this name. Below: the same for the other kinds of tables. The names of the
+-- keys of `[serve]` are tested in groups.
 unfoldable pub is_top_key : List ℕ → Bool
 is_top_key k =
     bytes_eq k (codes "tills")
@@ -61,7 +62,7 @@ is_till_key k = bytes_eq k (codes "number") || (bytes_eq k (codes "port") || byt
 unfoldable pub is_dispenser_key : List ℕ → Bool
 is_dispenser_key k = bytes_eq k (codes "points") || (bytes_eq k (codes "port") || bytes_eq k (codes "socket"))
 
--- A table of this section may have a key of this name.
+-- A table of this section is allowed to have a key of this name.
 abbrev pub is_key_of : Section → List ℕ → Bool
 is_key_of Top name = is_top_key name
 is_key_of (Point place) name = is_point_key name
@@ -79,11 +80,13 @@ abbrev pub known_or : Section → Option (List ℕ) → Result (Unit {0}) Config
 known_or section None = Ok tt
 known_or section (Some name) = Err (UnknownKey section name)
 
--- Ok if a table of this section may have each key of `ms`, or else the flaw of the first key that it may not have.
+-- Ok if a table of this section is allowed to have each key of `ms`, or else the flaw of the first key that it isn't
+-- allowed to have.
 abbrev pub known_in : Section → Members → Result (Unit {0}) ConfigFlaw
 known_in section ms = known_or section (other_key (is_key_of section) ms)
 
--- The value `d` as a number, a text, a table or an array. If it has another type, the flaw `WrongType` names its place.
+-- The value `d` as a whole number, or the flaw `WrongType` with its place. Below: the same for a text, a table and an
+-- array.
 abbrev pub integer_of : Place → Data → Result ℤ ConfigFlaw
 integer_of place d = or_flaw (WrongType place types.Integer) (as_integer d)
 
@@ -96,7 +99,7 @@ table_of place d = or_flaw (WrongType place types.Table) (as_table d)
 abbrev pub array_of : Place → Data → Result Items ConfigFlaw
 array_of place d = or_flaw (WrongType place types.Array) (as_array d)
 
--- The value of a key of a section. The key must be given.
+-- The value of a key of a section, or the flaw `Missing` if the key isn't given.
 abbrev pub value_at : Section → Key → Members → Result Data ConfigFlaw
 value_at section key ms = or_flaw (Missing (At section key)) (get_member (name_of key) ms)
 
@@ -122,8 +125,8 @@ integer_in section key place d = integer_of (Item section key place) d
 unfoldable pub integers_at : Section → Key → Members → Result (List ℤ) ConfigFlaw
 integers_at section key ms = array_at section key ms >>= each_in (integer_in section key) 0
 
--- Reads the numbers of two keys from the table `d`, which is the value at `place`. The table may have only keys of
--- `section`.
+-- Reads the numbers of two keys from `d`, the value at `place`. The result is a flaw if `d` isn't a table, has a key
+-- that isn't one of `section`, or lacks one of the two keys, or if the value of one of them isn't a whole number.
 unfoldable pub pair_in : Place → Section → Key × Key → Data → Result (ℤ × ℤ) ConfigFlaw
 pair_in place section keys d = do
   ms ← table_of place d
@@ -308,7 +311,7 @@ typed_of ms = do
   serve ← served_at ms
   Ok (record { tills = tills; price_slot = slot; prices = prices; points = points; counters = counters; serve = serve })
 
--- Converts a value of the code to the value that these definitions have for it.
+-- The values of `[serve]` in the code as a `TypedServe`. Below: those of a document as a `Typed`.
 abbrev pub seen_serve : Served → TypedServe
 seen_serve s = record {
   doors = s.doors.items;

@@ -3,7 +3,7 @@ ghost use Rattle.std.specs.Prelude.{◌≡◌, ◌≢◌, ◌<◌, ◌≤◌, Er
 ghost use Rattle.toml.specs.Errors.{IsBlank};
 ghost use Rattle.toml.specs.View.{table_view};
 ghost use Rattle.site_config.specs.Document.{document_of};
-ghost use Rattle.site_config.specs.Flaws.{HasMessage, IsOfText, StandsAt, position_of};
+ghost use Rattle.site_config.specs.Flaws.{HasMessage, IsOfText, HasRightPosition, position_of};
 ghost use Rattle.site_config.specs.Positions.{past, position_behind, position_at};
 
 use crate::flaw::ConfigFlaw;
@@ -50,7 +50,7 @@ fn position_at(bytes: &[u8], at: usize) -> (usize, usize)
 fn not_toml(alloc: Global, text: &str, at: usize, message: &str) -> ConfigFlaw
     requires { at ≤ length text.now }
     ensures fault { result ≢ ConfigFlaw.OutOfMemory → IsOfText result }
-    ensures position { StandsAt text.now result }
+    ensures position { HasRightPosition text.now result }
     ensures at { result ≢ ConfigFlaw.OutOfMemory → position_of result ≡ Some (position_at text.now at) }
     ensures message { HasMessage message.now result }
 {
@@ -65,13 +65,14 @@ fn not_toml(alloc: Global, text: &str, at: usize, message: &str) -> ConfigFlaw
     }
 }
 
-/// Reads the bytes as a document. The error is `NotUtf8` or `NotToml` with its position (K1), or that memory ran out.
+/// Reads the bytes as a TOML document. The error is `NotUtf8` or `NotToml` with its position (K1), or that memory ran
+/// out.
 #[tactic(auto, using(crate::proofs::Memory::not_blank), unfolding(crate::specs::Document::document_of))]
 pub fn read_document(alloc: Global, bytes: &[u8]) -> Result<Table, ConfigFlaw>
     ensures read { IfOk result (λ table. document_of bytes.now ≡ Some (table_view table)) }
     ensures none { IfErr result (λ flaw. flaw ≢ ConfigFlaw.OutOfMemory → document_of bytes.now ≡ None) }
     ensures fault { IfErr result (λ flaw. flaw ≢ ConfigFlaw.OutOfMemory → IsOfText flaw) }
-    ensures position { IfErr result (StandsAt bytes.now) }
+    ensures position { IfErr result (HasRightPosition bytes.now) }
     ensures memory { result ≡ Err ConfigFlaw.OutOfMemory → ¬ IsBlank bytes.now }
 {
     match str::from_utf8(bytes) {

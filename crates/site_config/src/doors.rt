@@ -1,4 +1,4 @@
-//! Checks the doors of `[serve]`, and makes them (K3).
+//! Checks and makes the doors of `[serve]`. A door is where connections come in. The fault is K3.
 ghost use Rattle.std.specs.Prelude.{◌≡◌, ◌≢◌, ◌<◌, ◌≤◌, ◌+◌, length, map, IfOk, IfSome, IsOkAnd, Err};
 ghost use Rattle.site_config.specs.Document.{Finds};
 ghost use Rattle.site_config.specs.Demands.{ranged};
@@ -7,7 +7,7 @@ ghost use Rattle.site_config.specs.Document.{without};
 ghost use Rattle.site_config.specs.Doors.{beside, item_of, address_of, with_point, with_points, bits_of, role_of};
 ghost use Rattle.site_config.specs.Doors.{door_fits, doors_fit, address_clash, till_clash, pair_clash, clash_with};
 ghost use Rattle.site_config.specs.Doors.{clash_among, page_clash, page_of, shared_workers, workers_of, is_single};
-ghost use Rattle.site_config.specs.Doors.{count_single, takes, is_taken, first_left, side_fits, door_of};
+ghost use Rattle.site_config.specs.Doors.{count_single, takes, is_taken, first_without_door, side_fits, door_of};
 ghost use Rattle.site_config.specs.Doors.{each_door, serve_of, address_seen, address_fits, door_seen, serve_seen};
 ghost use Rattle.site_config.specs.Memory.{HasPath, HasDoors};
 ghost use Rattle.site_config.specs.Laws.{DoorsTakeOwnLines};
@@ -20,14 +20,15 @@ use crate::settings::{Address, Door, Serve};
 use std::alloc::Global;
 use till_request::Role;
 
-/// How many workers tills may have in all at most.
+/// The greatest number of workers that the doors of tills are allowed to have in all. A worker serves one connection at
+/// a time.
 const MOST_OF_TILLS: u32 = 64;
 
-/// How many workers dispensers may have in all at most.
+/// The greatest number of workers that the doors of dispensers are allowed to have in all.
 const MOST_OF_DISPENSERS: u32 = 31;
 
-/// Returns the place of `key` in the table that has the key at `place`. If `place` isn't a key's, returns `place`
-/// itself.
+/// Returns the place of `key` in the same table as the key at `place`. If `place` isn't the place of a key, returns
+/// `place` itself.
 fn beside(place: Place, key: Key) -> Place
     ensures { result ≡ beside place key }
 {
@@ -48,8 +49,8 @@ fn item_of(list: Place, place: usize) -> Place
     }
 }
 
-/// Makes the address of a door. `place` is that of the key that names the address. The error is `OutOfRange` if a port
-/// isn't from 1 to 65,535, `Empty` if a path is empty, or that memory ran out.
+/// Makes the address of a door. `place` is the place of the key that gives the address. The error is `OutOfRange` if a
+/// port isn't from 1 to 65,535, `Empty` if a path is empty, or that memory ran out.
 #[tactic(auto, unfolding(crate::specs::Doors::address_of))]
 fn make_address(alloc: Global, place: Place, address: &RawAddress) -> Result<Address, ConfigFlaw>
     ensures read { Finds address_seen result (address_of place address.now) }
@@ -66,8 +67,8 @@ fn make_address(alloc: Global, place: Place, address: &RawAddress) -> Result<Add
     }
 }
 
-/// Checks the address of a door, which the key at `place` names. The error is `OutOfRange` if a port isn't from 1 to
-/// 65,535, or `Empty` if a path is empty.
+/// Checks the address of a door. `place` is the place of the key that gives the address. The error is `OutOfRange` if a
+/// port isn't from 1 to 65,535, or `Empty` if a path is empty.
 #[tactic(auto, unfolding(crate::specs::Doors::address_fits, crate::specs::Doors::address_of))]
 fn check_address(place: Place, address: &RawAddress) -> Result<(), ConfigFlaw>
     ensures read { Finds (λ x. x) result (address_fits place address.now) }
@@ -171,7 +172,8 @@ fn make_role(tills: u32, points: u32, place: Place, role: &RawRole) -> Result<Ro
     }
 }
 
-/// Checks the address and the role of a door. The error is one that `check_address` or `make_role` returns.
+/// Checks the address and then the role of a door. `points` must be at most 32. The error is the first flaw: one that
+/// `check_address` returns, or else one that `make_role` returns.
 #[tactic(auto, unfolding(crate::specs::Doors::door_fits, crate::specs::Doors::address_fits))]
 fn check_door(tills: u32, points: u32, door: &RawDoor) -> Result<(), ConfigFlaw>
     requires { points ≤ POINTS }
@@ -194,7 +196,7 @@ fn check_doors(tills: u32, points: u32, doors: &[RawDoor]) -> Result<(), ConfigF
     Ok(())
 }
 
-/// Returns the flaw if two doors have the same address, or `None` otherwise.
+/// Returns the flaw `SamePort` or `SameSocket` if two doors have the same address, or `None` otherwise.
 fn address_clash(first: &RawDoor, second: &RawDoor) -> Option<ConfigFlaw>
     ensures found { result ≡ address_clash first.now.place second.now.place first.now.address second.now.address }
     ensures memory { IfSome result (λ flaw. flaw ≢ ConfigFlaw.OutOfMemory) }
@@ -210,7 +212,7 @@ fn address_clash(first: &RawDoor, second: &RawDoor) -> Option<ConfigFlaw>
     }
 }
 
-/// Returns the flaw if two doors are each for the same single till, or `None` otherwise.
+/// Returns the flaw `SameTill` if both doors are for the same single till, or `None` otherwise.
 fn till_clash(first: &RawDoor, second: &RawDoor) -> Option<ConfigFlaw>
     ensures found { result ≡ till_clash first.now.place second.now.place first.now.role second.now.role }
     ensures memory { IfSome result (λ flaw. flaw ≢ ConfigFlaw.OutOfMemory) }
@@ -261,8 +263,8 @@ fn check_apart(doors: &[RawDoor]) -> Result<(), ConfigFlaw>
     Ok(())
 }
 
-/// `port` is the port of the page on which the site is shown. Returns the flaw of the first door that has the same
-/// port, or `None` if no door has it.
+/// Returns the flaw `SamePort` for the first door that has the port `port`, or `None` if no door has it. `port` is the
+/// port of the page on which the site is shown.
 fn page_clash(port: i64, doors: &[RawDoor]) -> Option<ConfigFlaw>
     ensures found { result ≡ page_clash port doors.now }
     ensures memory { IfSome result (λ flaw. flaw ≢ ConfigFlaw.OutOfMemory) }
@@ -280,7 +282,7 @@ fn page_clash(port: i64, doors: &[RawDoor]) -> Option<ConfigFlaw>
 }
 
 /// Checks and returns the port of the page on which the site is shown. Returns `None` if there is no page. The error is
-/// `OutOfRange`, or `SamePort` if a door has the same port.
+/// `OutOfRange` if the port isn't from 1 to 65,535, or `SamePort` if a door has the same port.
 #[tactic(auto, unfolding(crate::specs::Doors::page_of))]
 fn page_of(doors: &[RawDoor], port: Option<i64>) -> Result<Option<u32>, ConfigFlaw>
     ensures read { Finds (λ x. x) result (page_of doors.now port) }
@@ -296,8 +298,9 @@ fn page_of(doors: &[RawDoor], port: Option<i64>) -> Result<Option<u32>, ConfigFl
     }
 }
 
-/// Returns how many workers a shared door has. `value` is that of the key `key` of `[serve]`. If it is `None`, there is
-/// no such door, and the result is 0. The error is `OutOfRange` if the value isn't from 1 to `most`.
+/// Returns how many workers a shared door (one for all tills, or for all dispensers) has. `value` is the value of the
+/// key `key` of `[serve]`, or `None` if there is no such door: then the result is 0. The error is `OutOfRange` if the
+/// value isn't from 1 to `most`.
 fn shared_of(key: Key, value: Option<i64>, most: u32) -> Result<u32, ConfigFlaw>
     ensures read { Finds (λ x. x) result (shared_workers key most value) }
     ensures range { IfOk result (λ n. n ≤ most) }
@@ -359,11 +362,10 @@ fn is_taken(side: Side, number: u32, doors: &[RawDoor]) -> bool
     false
 }
 
-/// Returns the flaw of the first till, if the side is tills, or of the first point, if the side is dispensers, whose
-/// lines no door takes. Tills and points have the numbers 1 to `most`. Returns `None` if a door takes the lines of
-/// each.
-fn first_left(side: Side, doors: &[RawDoor], most: u32) -> Option<ConfigFlaw>
-    ensures found { result ≡ first_left side doors.now most }
+/// Returns the flaw `WithoutDoor` for the first till (if the side is tills) or point (if the side is dispensers), of
+/// those with the numbers 1 to `most`, whose lines no door takes. Returns `None` if a door takes the lines of each.
+fn first_without_door(side: Side, doors: &[RawDoor], most: u32) -> Option<ConfigFlaw>
+    ensures found { result ≡ first_without_door side doors.now most }
     ensures memory { IfSome result (λ flaw. flaw ≢ ConfigFlaw.OutOfMemory) }
 {
     let mut number = 0;
@@ -376,9 +378,9 @@ fn first_left(side: Side, doors: &[RawDoor], most: u32) -> Option<ConfigFlaw>
     None
 }
 
-/// Checks the doors of one side. `most` is the most workers that the side may have. `shared`, the number of the shared
-/// door's workers, must be at most `most`. `numbers` is how many tills or points the site has. The error is
-/// `TooManyWorkers`, or `WithoutDoor` for the first till, or point, whose lines no door takes.
+/// Checks the doors of one side. `most` is how many workers the side is allowed to have in all. `shared`, the number of
+/// the shared door's workers, must be at most `most`. `numbers` is how many tills or points the site has. The error is
+/// `TooManyWorkers`, or else `WithoutDoor` for the first till or point whose lines no door takes.
 #[tactic(auto, unfolding(crate::specs::Doors::side_fits))]
 fn check_side(
     side: Side,
@@ -396,7 +398,7 @@ fn check_side(
         let count = own.saturating_add(shared as usize);
         return Err(ConfigFlaw::TooManyWorkers(side, count, most as usize));
     }
-    match first_left(side, doors, numbers) {
+    match first_without_door(side, doors, numbers) {
         Some(flaw) => Err(flaw),
         None => Ok(()),
     }
@@ -464,8 +466,8 @@ fn number_of(key: Key, value: i64, low: u32, high: u32) -> Result<u32, ConfigFla
     in_range(Place::At(Section::Serve, key), value, low, high)
 }
 
-/// Makes the settings of `[serve]` for a site that has `tills` tills and `points` points. `points` must be at most 32.
-/// The error is the first flaw that is a K3, or that memory ran out.
+/// Checks `served`, and makes the settings of `[serve]` for a site that has `tills` tills and `points` points. `points`
+/// must be at most 32. The error is the first flaw, whose fault is K3, or that memory ran out.
 #[tactic(auto, unfolding(crate::specs::Doors::serve_of))]
 pub(crate) fn make_serve(
     alloc: Global,

@@ -5,7 +5,8 @@
 pub enum ConfigFault {
     /// The configuration isn't TOML.
     K1,
-    /// A wrong or missing key, or a wrong type.
+    /// A key is unknown, is missing, excludes another given key or needs one that isn't given, or a value has a wrong
+    /// type.
     K2,
     /// A value is out of its range, a list has a wrong number of items, or another condition isn't met.
     K3,

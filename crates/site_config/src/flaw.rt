@@ -43,7 +43,7 @@ impl Key {
     ghost use Rattle.std.specs.Prelude.{◌≡◌};
     ghost use Rattle.site_config.specs.Keys.{name_of};
 
-    /// Returns the key as it is written.
+    /// Returns the key's name in a configuration, such as `till_port`.
     pub fn name(self) -> &'static str
         ensures { result.now ≡ name_of self }
     {
@@ -211,7 +211,8 @@ impl fmt::Display for Type {
     }
 }
 
-/// The least and the most that a number may be. If they are equal, only one number is written.
+/// The least and the greatest number that are allowed, as a message shows them. If they are equal, only one number is
+/// written.
 #[derive(Clone, Copy)]
 struct Range(usize, usize);
 
@@ -256,30 +257,31 @@ pub enum ConfigFlaw {
     /// K2: a number of workers is given, but neither the port nor the socket of their door. The places are those of
     /// these three keys, in this order.
     Needless(Place, Place, Place),
-    /// K3: a value, and the least and the most that it may be.
+    /// K3: a value isn't in its range. The numbers are the value, and the least and the greatest that are allowed.
     OutOfRange(Place, i64, u64, u64),
-    /// K3: how many items a list has, and the least and the most that it may have.
+    /// K3: a list has a wrong number of items. The numbers are how many it has, and the least and the greatest number
+    /// that are allowed.
     WrongCount(Place, usize, usize, usize),
-    /// K3: a counter, by its place counted from 0, with its value and its bound.
+    /// K3: a counter's value is over its bound. The numbers are the counter's, counted from 0, its value and its bound.
     OverBound(usize, u64, u64),
     /// K3: the path of a socket is empty.
     Empty(Place),
-    /// K3: two keys that name the same port.
+    /// K3: two keys give the same port, which is this one.
     SamePort(Place, Place, i64),
-    /// K3: two keys that name the same path of a socket.
+    /// K3: two keys give the same path of a socket.
     SameSocket(Place, Place),
-    /// K3: two keys that each name an address for this till alone.
+    /// K3: two keys each give the address of a door for the same single till, which has this number.
     SameTill(Place, Place, i64),
-    /// K3: a list of points that has this point twice.
+    /// K3: a list of points has this point twice.
     PointTwice(Place, u32),
-    /// K3: how many workers the doors of one side have, and the most that they may have.
+    /// K3: the doors of one side have too many workers. The numbers are how many, and the most that are allowed.
     TooManyWorkers(Side, usize, usize),
-    /// K3: a till, or a point, whose lines no door takes.
+    /// K3: no door takes the lines of the till, or the point, that has this number.
     WithoutDoor(Side, u32),
     OutOfMemory,
 }
 
-/// How many items a list has, and the least and the most that it may have.
+/// How many items a list has, and the least and the greatest number of items that are allowed.
 #[derive(Clone, Copy)]
 struct Miscounted(usize, usize, usize);
 
@@ -294,7 +296,7 @@ impl fmt::Display for Miscounted {
     }
 }
 
-/// A value, and the least and the most that it may be.
+/// A value, and the least and the greatest value that are allowed.
 #[derive(Clone, Copy)]
 struct Outside(i64, u64, u64);
 
@@ -309,7 +311,7 @@ impl fmt::Display for Outside {
     }
 }
 
-/// A counter's value, and its bound.
+/// A counter's value, and the bound that the value is over.
 #[derive(Clone, Copy)]
 struct Over(u64, u64);
 
@@ -324,12 +326,12 @@ impl fmt::Display for Over {
     }
 }
 
-/// A flaw of a kind that only `[serve]` can have: `BothThere`, `Needless`, `Empty`, `SamePort`, `SameSocket`,
-/// `SameTill`, `PointTwice`, `TooManyWorkers` or `WithoutDoor`. For a flaw of any other kind nothing is written.
+/// The message for a flaw that only `[serve]` can have: `BothThere`, `Needless`, `Empty`, `SamePort`, `SameSocket`,
+/// `SameTill`, `PointTwice`, `TooManyWorkers` or `WithoutDoor`. For any other flaw the message is empty.
 #[derive(Clone, Copy)]
-struct OfDoors<'a>(&'a ConfigFlaw);
+struct ServeFlawText<'a>(&'a ConfigFlaw);
 
-impl fmt::Display for OfDoors<'_> {
+impl fmt::Display for ServeFlawText<'_> {
     ghost use Rattle.std.specs.Prelude.{Some};
     ghost use Rattle.site_config.specs.Words.{doors_text};
 
@@ -405,7 +407,7 @@ impl fmt::Display for ConfigFlaw {
             | ConfigFlaw::SameTill(..)
             | ConfigFlaw::PointTwice(..)
             | ConfigFlaw::TooManyWorkers(..)
-            | ConfigFlaw::WithoutDoor(..) => write!(f, "{}", OfDoors(self)),
+            | ConfigFlaw::WithoutDoor(..) => write!(f, "{}", ServeFlawText(self)),
         }
     }
 }
@@ -414,7 +416,7 @@ impl ConfigFlaw {
     ghost use Rattle.std.specs.Prelude.{◌≡◌};
     ghost use Rattle.site_config.specs.Flaws.{fault_of, position_of};
 
-    /// Returns the fault number of the flaw.
+    /// Returns the fault number of the flaw, K1 to K3, or `OutOfMemory` if memory ran out.
     pub fn fault(&self) -> ConfigFault
         ensures { result ≡ fault_of self.now }
     {
@@ -439,8 +441,8 @@ impl ConfigFlaw {
         }
     }
 
-    /// Returns the line and the column of a K1, both counted from 1: where the text stops being UTF-8, or where the
-    /// TOML reader found an error. The column counts characters. Returns `None` for other flaws.
+    /// Returns the line and the column of a flaw with the fault K1, both counted from 1: where the text stops being
+    /// UTF-8, or where the TOML reader found an error. The column counts characters. Returns `None` for other flaws.
     pub fn position(&self) -> Option<(usize, usize)>
         ensures { result ≡ position_of self.now }
     {

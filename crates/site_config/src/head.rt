@@ -9,7 +9,7 @@ use std::alloc::Global;
 use till_request::line::next_byte;
 use till_request::{InputFault, LineIn};
 
-/// How many bytes a configuration may have at most.
+/// The greatest number of bytes that a configuration is allowed to have.
 pub const MOST_BYTES: usize = 65_536;
 
 /// Returns whether the bytes end with a line that is `---` and its LF.

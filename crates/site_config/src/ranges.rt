@@ -7,12 +7,12 @@ ghost use Rattle.toml.specs.Errors.{IsBlank};
 ghost use Rattle.toml.specs.View.{table_view};
 ghost use Rattle.site_core.specs.Limits.{IsCounter};
 ghost use Rattle.site_config.specs.Document.{Finds, Gives, document_of, each_of};
-ghost use Rattle.site_config.specs.Flaws.{StandsAt, numbered};
+ghost use Rattle.site_config.specs.Flaws.{HasRightPosition, numbered};
 ghost use Rattle.site_config.specs.Typed.{seen, seen_serve};
 ghost use Rattle.site_config.specs.Demands.{ranged};
 ghost use Rattle.site_config.specs.Doors.{serve_seen};
 ghost use Rattle.site_config.specs.Ranges.{price_of, point_of, counter_of, prices_of, points_of, counters_of};
-ghost use Rattle.site_config.specs.Ranges.{serve_from, told_of, told, settings_of, config_of};
+ghost use Rattle.site_config.specs.Ranges.{serve_from, settings_of_typed, settings_view, settings_of, config_of};
 ghost use Rattle.site_config.specs.Memory.{MakesFirst, HasDoors, TakesPrices, TakesSettings, TakesDocument};
 ghost use Rattle.bpf_model.specs.declared.limits.TheConstants.{COUNTERS, POINTS};
 
@@ -79,7 +79,8 @@ fn make_counter(place: usize, pair: (i64, i64)) -> Result<(u64, u64), ConfigFlaw
     Ok((value, bound))
 }
 
-/// Returns `value` as the price of the product at `place`, counted from 0. The error is `OutOfRange`.
+/// Returns `value` as the price of the product at `place`, counted from 0. The error is `OutOfRange` if the value isn't
+/// from 0 to 9,999,999.
 fn make_price(place: usize, value: i64) -> Result<u32, ConfigFlaw>
     ensures read { Finds (λ x. x) result (price_of place value) }
     ensures range { IfOk result (λ price. price ≤ MOST_PRICE) }
@@ -218,10 +219,11 @@ fn maybe_serve(
     }
 }
 
-/// Makes the settings from the keys of a document. The error is the first flaw that is a K3, or that memory ran out.
-#[tactic(auto, using(crate::proofs::Making::prices_made), unfolding(crate::specs::Ranges::told_of, crate::specs::Memory::TakesSettings))]
+/// Checks `raw`, the values of a document's keys, and makes the settings from them. The error is the first flaw, whose
+/// fault is K3, or that memory ran out.
+#[tactic(auto, using(crate::proofs::Making::prices_made), unfolding(crate::specs::Ranges::settings_of_typed, crate::specs::Memory::TakesSettings))]
 fn make_settings(alloc: Global, raw: &Raw) -> Result<Settings, ConfigFlaw>
-    ensures read { Finds told result (told_of (seen raw.now)) }
+    ensures read { Finds settings_view result (settings_of_typed (seen raw.now)) }
     ensures memory { result ≡ Err ConfigFlaw.OutOfMemory → TakesSettings (seen raw.now) }
 {
     let section = Section::Top;
@@ -242,10 +244,10 @@ fn make_settings(alloc: Global, raw: &Raw) -> Result<Settings, ConfigFlaw>
     }
 }
 
-/// Reads the settings from a document. The error is its first flaw (K2 or K3), or that memory ran out.
+/// Reads the settings from a document. The error is the document's first flaw (K2 or K3), or that memory ran out.
 #[tactic(auto, unfolding(crate::specs::Ranges::settings_of, crate::specs::Memory::TakesDocument))]
 fn settings_in(alloc: Global, document: &Table) -> Result<Settings, ConfigFlaw>
-    ensures read { Finds told result (settings_of (table_view document.now)) }
+    ensures read { Finds settings_view result (settings_of (table_view document.now)) }
     ensures memory { result ≡ Err ConfigFlaw.OutOfMemory → TakesDocument (table_view document.now) }
 {
     let raw = value_of!(read_typed(alloc, document));
@@ -257,10 +259,10 @@ fn settings_in(alloc: Global, document: &Table) -> Result<Settings, ConfigFlaw>
 /// a condition (K3).
 #[tactic(auto, unfolding(crate::specs::Ranges::config_of))]
 pub fn read_settings(alloc: Global, bytes: &[u8]) -> Result<Settings, ConfigFlaw>
-    ensures found { Gives told (numbered result) (config_of bytes.now) }
+    ensures found { Gives settings_view (numbered result) (config_of bytes.now) }
     ensures named { (document : Members) → document_of bytes.now ≡ Some document
-        → Finds told result (settings_of document) }
-    ensures position { document_of bytes.now ≡ None → IfErr result (StandsAt bytes.now) }
+        → Finds settings_view result (settings_of document) }
+    ensures position { document_of bytes.now ≡ None → IfErr result (HasRightPosition bytes.now) }
     ensures memory { result ≡ Err ConfigFlaw.OutOfMemory → (is_utf8 bytes.now ≡ true) × (¬ IsBlank bytes.now) }
 {
     match read_document(alloc, bytes) {
@@ -271,7 +273,7 @@ pub fn read_settings(alloc: Global, bytes: &[u8]) -> Result<Settings, ConfigFlaw
 
 /// Reads the settings from a text. The error is the fault number of the text's first flaw, or that memory ran out.
 pub fn read_config(alloc: Global, bytes: &[u8]) -> Result<Settings, ConfigFault>
-    ensures found { Gives told result (config_of bytes.now) }
+    ensures found { Gives settings_view result (config_of bytes.now) }
     ensures memory { result ≡ Err ConfigFault.OutOfMemory → (is_utf8 bytes.now ≡ true) × (¬ IsBlank bytes.now) }
 {
     match read_settings(alloc, bytes) {

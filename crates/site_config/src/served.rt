@@ -32,7 +32,7 @@ const OWNER_KEYS: (Key, Key) = (Key::OwnerPort, Key::OwnerSocket);
 /// The keys that name the address of a door in a table of its own.
 const KEYS: (Key, Key) = (Key::Port, Key::Socket);
 
-/// Copies the text of a value. The error is `WrongType`, or that memory ran out.
+/// Copies the text of a value. The error is `WrongType` if the value isn't a text, or that memory ran out.
 fn read_text(alloc: Global, value: &Value, place: Place) -> Result<Text, ConfigFlaw>
     ensures read { Finds (λ t. t) result (text_of place (view value.now)) }
     ensures memory { result ≡ Err ConfigFlaw.OutOfMemory
@@ -42,8 +42,9 @@ fn read_text(alloc: Global, value: &Value, place: Place) -> Result<Text, ConfigF
     Ok(room_for!(Text::copied(alloc, text)))
 }
 
-/// Reads a door whose port is the value of the key `keys.0`, or whose socket is the value of the key `keys.1`. Exactly
-/// one of these keys must be given. The error is `Missing`, `BothThere` or `WrongType`, or that memory ran out.
+/// Reads a door whose port is the value of the key `keys.0`, or whose socket is the value of the key `keys.1`. The
+/// error is `Missing` if neither key is given, `BothThere` if both are, `WrongType` if the port isn't a number or the
+/// socket isn't a text, or that memory ran out.
 #[tactic(auto, unfolding(crate::specs::Typed::door_at, crate::specs::Memory::TakesDoor))]
 fn read_door(
     alloc: Global,
@@ -111,8 +112,9 @@ fn add_shared(
     Ok(doors)
 }
 
-/// Reads how many workers a shared door has, or `None` if there is no such door. The key `key` must be given if there
-/// is such a door, and must not be given otherwise. The error is `Missing`, `Needless` or `WrongType`.
+/// Reads how many workers a shared door has. Returns `None` if there is no such door: if neither of `keys` is given.
+/// The error is `Missing` or `WrongType` if there is such a door and `key` isn't given or isn't a number. It is
+/// `Needless` if there is no such door, but `key` is given.
 #[tactic(auto, unfolding(crate::specs::Typed::workers_at))]
 fn read_workers(table: &Table, keys: (Key, Key), key: Key) -> Result<Option<i64>, ConfigFlaw>
     ensures read { Finds (λ x. x) result (workers_at keys key (table_view table.now)) }
@@ -131,8 +133,8 @@ fn read_workers(table: &Table, keys: (Key, Key), key: Key) -> Result<Option<i64>
     Ok(None)
 }
 
-/// Reads the door of one till from `value`, which must be a table. `place` is its place in `[[serve.till]]`, counted
-/// from 0. The error is the first flaw that is a K2, or that memory ran out.
+/// Reads the door of one till from `value`, which is item `place`, counted from 0, of `[[serve.till]]`. The error is
+/// the first flaw (K2), which can be that `value` isn't a table, or that memory ran out.
 #[tactic(auto, unfolding(crate::specs::Typed::till_in, crate::specs::Memory::TakesTill))]
 fn read_till(alloc: Global, value: &Value, place: usize) -> Result<RawDoor, ConfigFlaw>
     ensures read { Finds (λ x. x) result (till_in place (view value.now)) }
@@ -145,8 +147,8 @@ fn read_till(alloc: Global, value: &Value, place: usize) -> Result<RawDoor, Conf
     read_door(alloc, table, section, KEYS, RawRole::OneTill(number))
 }
 
-/// Reads the door of some points from `value`, which must be a table. `place` is its place in `[[serve.dispenser]]`,
-/// counted from 0. The error is the first flaw that is a K2, or that memory ran out.
+/// Reads the door of some points from `value`, which is item `place`, counted from 0, of `[[serve.dispenser]]`. The
+/// error is the first flaw (K2), which can be that `value` isn't a table, or that memory ran out.
 #[tactic(auto, unfolding(crate::specs::Typed::dispenser_in, crate::specs::Typed::integers_at, crate::specs::Memory::TakesDispenser, crate::specs::Memory::TakesIntegers))]
 fn read_dispenser(alloc: Global, value: &Value, place: usize) -> Result<RawDoor, ConfigFlaw>
     ensures read { Finds (λ x. x) result (dispenser_in place (view value.now)) }
@@ -161,8 +163,8 @@ fn read_dispenser(alloc: Global, value: &Value, place: usize) -> Result<RawDoor,
     read_door(alloc, table, section, KEYS, role)
 }
 
-/// Reads the door of one till as `read_till` does if the side is tills, or that of some points as `read_dispenser` does
-/// if the side is dispensers.
+/// Reads the door of one till as `read_till` does, if the side is tills. Reads the door of some points as
+/// `read_dispenser` does, if the side is dispensers. The errors are the same.
 fn read_single(
     alloc: Global,
     side: Side,
@@ -242,8 +244,8 @@ fn add_owner(
     Ok(doors)
 }
 
-/// Reads all doors from the table `[serve]`, in the order in which workers get their passes. The error is the first
-/// flaw that is a K2, or that memory ran out.
+/// Reads all doors from the table `[serve]`, in the order in which workers get their passes (rights to call the site).
+/// The error is the first flaw, whose fault is K2, or that memory ran out.
 #[tactic(auto, unfolding(crate::specs::Typed::doors_at, crate::specs::Typed::tills_at, crate::specs::Typed::dispensers_at, crate::specs::Memory::TakesDoors))]
 fn read_doors(alloc: Global, table: &Table) -> Result<Vec<RawDoor>, ConfigFlaw>
     ensures read { Finds (λ v. v.items) result (doors_at (table_view table.now)) }
@@ -269,7 +271,7 @@ fn read_idle(table: &Table) -> Result<i64, ConfigFlaw>
 }
 
 /// Reads the port of the page on which the site is shown. Returns `None` if its key isn't given. The error is
-/// `WrongType`.
+/// `WrongType` if the value isn't a number.
 fn read_page(table: &Table) -> Result<Option<i64>, ConfigFlaw>
     ensures read { Finds (λ x. x) result (page_from (get_member (name_of Key.PagePort) (table_view table.now))) }
     ensures memory { result ≢ Err ConfigFlaw.OutOfMemory }

@@ -27,10 +27,10 @@ pub struct Door {
 /// `idle_seconds` is at most 86,400. `page_port`, 1 to 65,535, is the port of the page on which the site is shown while
 /// it is served, or `None` if there is no page.
 ///
-/// The doors are in the order in which workers get their passes: the tills' shared one, those of one till each, the
-/// dispensers' shared one, those of some points each, the owner's. All doors have different addresses, and none has the
-/// page's port. Each till has at most one door of its own. Tills have 1 to 64 workers in all, dispensers 1 to 31, and
-/// the owner has one.
+/// The doors are in the order in which workers get their passes (rights to call the site): the tills' shared one, those
+/// of one till each, the dispensers' shared one, those of some points each, the owner's. All doors have different
+/// addresses, and none has the page's port. Each till has at most one door of its own. Tills have 1 to 64 workers in
+/// all, dispensers 1 to 31, and the owner has one.
 #[derive(Drop)]
 pub struct Serve {
     pub doors: Vec<Door>,

@@ -16,8 +16,9 @@ use crate::values::{
 use std::alloc::Global;
 use toml::{Table, Value};
 
-/// Reads the numbers of two keys from `value`, which must be a table with no keys but those of `section`. `place` is
-/// where the document has `value`. The error is `WrongType`, `UnknownKey` or `Missing`, or that memory ran out.
+/// Reads the numbers of the two keys `keys` from `value`, the document's value at `place`. The error is `WrongType` if
+/// `value` isn't a table or a key's value isn't a number, `UnknownKey` if `section` doesn't allow a key of the table,
+/// `Missing` if one of `keys` isn't given, or that memory ran out.
 #[tactic(auto, unfolding(crate::specs::Typed::pair_in, crate::specs::Memory::TakesPair))]
 fn read_pair(
     alloc: Global,
@@ -124,7 +125,7 @@ fn find_counters(alloc: Global, table: &Table) -> Result<Vec<(i64, i64)>, Config
     }
 }
 
-/// Reads the values of all keys of a document. The error is the first flaw that is a K2, or that memory ran out.
+/// Reads the values of all keys of a document. The error is the first flaw, whose fault is K2, or that memory ran out.
 #[tactic(auto, unfolding(crate::specs::Typed::typed_of, crate::specs::Memory::TakesTyped))]
 pub fn read_typed(alloc: Global, table: &Table) -> Result<Raw, ConfigFlaw>
     ensures read { Finds seen result (typed_of (table_view table.now)) }

@@ -45,7 +45,8 @@ fn is_known(section: Section, key: &str) -> bool
 }
 
 fn find_unknown(table: &Table, section: Section) -> Option<&String>
-    ensures { option_map (λ key. key.now) result ≡ find (λ key. not (is_key_of section (string_bytes key))) (keys table.now) }
+    ensures { option_map (λ key. key.now) result ≡ find (λ key. not (is_key_of section (string_bytes key))) (keys
+        table.now) }
 {
     table.keys().find(|key| !is_known(section, key.as_str()))
 }
@@ -61,7 +62,7 @@ fn unknown_key(table: &Table, section: Section) -> Option<&str>
     }
 }
 
-/// Returns a value as a number. The error is `WrongType`.
+/// Returns a value as a whole number. The error is `WrongType` if it isn't one. `place` is the value's place.
 pub fn integer_of(value: &Value, place: Place) -> Result<i64, ConfigFlaw>
     ensures read { Finds (λ x. x) result (integer_of place (view value.now)) }
     ensures memory { result ≢ Err ConfigFlaw.OutOfMemory }
@@ -71,7 +72,7 @@ pub fn integer_of(value: &Value, place: Place) -> Result<i64, ConfigFlaw>
         .ok_or(ConfigFlaw::WrongType(place, Type::Integer))
 }
 
-/// Returns a value as a text. The error is `WrongType`.
+/// Returns a value as a text. The error is `WrongType` if it isn't one. `place` is the value's place.
 pub fn text_of(value: &Value, place: Place) -> Result<&str, ConfigFlaw>
     ensures read { Finds (λ t. t.now) result (text_of place (view value.now)) }
     ensures memory { result ≢ Err ConfigFlaw.OutOfMemory }
@@ -81,7 +82,7 @@ pub fn text_of(value: &Value, place: Place) -> Result<&str, ConfigFlaw>
         .ok_or(ConfigFlaw::WrongType(place, Type::Text))
 }
 
-/// Returns a value as a table. The error is `WrongType`.
+/// Returns a value as a table. The error is `WrongType` if it isn't one. `place` is the value's place.
 pub fn table_of(value: &Value, place: Place) -> Result<&Table, ConfigFlaw>
     ensures read { Finds (λ t. table_view t.now) result (table_of place (view value.now)) }
     ensures memory { result ≢ Err ConfigFlaw.OutOfMemory }
@@ -91,7 +92,7 @@ pub fn table_of(value: &Value, place: Place) -> Result<&Table, ConfigFlaw>
         .ok_or(ConfigFlaw::WrongType(place, Type::Table))
 }
 
-/// Returns a value as an array. The error is `WrongType`.
+/// Returns a value as an array. The error is `WrongType` if it isn't one. `place` is the value's place.
 pub fn array_of(value: &Value, place: Place) -> Result<&Vec<Value>, ConfigFlaw>
     ensures read { Finds (λ v. items_view v.now.items) result (array_of place (view value.now)) }
     ensures memory { result ≢ Err ConfigFlaw.OutOfMemory }
@@ -101,7 +102,8 @@ pub fn array_of(value: &Value, place: Place) -> Result<&Vec<Value>, ConfigFlaw>
         .ok_or(ConfigFlaw::WrongType(place, Type::Array))
 }
 
-/// Returns the value of a key, which must be a number. The error is `Missing` or `WrongType`.
+/// Returns the value of a key as a whole number. The error is `Missing` if the key isn't given, or `WrongType` if the
+/// value isn't a whole number.
 pub fn read_integer(table: &Table, section: Section, key: Key) -> Result<i64, ConfigFlaw>
     ensures read { Finds (λ x. x) result (integer_at section key (table_view table.now)) }
     ensures memory { result ≢ Err ConfigFlaw.OutOfMemory }
@@ -217,7 +219,8 @@ pub fn read_integers(
     Ok(numbers)
 }
 
-/// Returns the value of a key, which must be an array. The error is `Missing` or `WrongType`.
+/// Returns the value of a key as an array. The error is `Missing` if the key isn't given, or `WrongType` if the value
+/// isn't an array.
 pub fn find_array(table: &Table, section: Section, key: Key) -> Result<&Vec<Value>, ConfigFlaw>
     ensures read { Finds
         (λ v. items_view v.now.items) result (array_at section key (table_view table.now)) }

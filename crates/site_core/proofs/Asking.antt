@@ -17,8 +17,8 @@ use Rattle.site_core.specs.declared.question.Question.{Question}
 use Rattle.site_core.specs.Limits.{ConfigValue}
 use Rattle.site_core.specs.State.{SiteState, at_number, first_busy}
 use Rattle.site_core.specs.Context.{context}
-use Rattle.site_core.specs.Decide.{is_till, is_within, need, bad_amount, wrong_state, no_such_point, slots_of, release_question, preset_question}
-use Rattle.site_core.specs.Decide.{price_question, price_of_product, price_at, WellAsked}
+use Rattle.site_core.specs.Decide.{is_till, is_within, refuse_unless, bad_amount, wrong_state, no_such_point, slots_of, release_question, preset_question}
+use Rattle.site_core.specs.Decide.{price_question, price_question_of, price_at, HasPointOrValidPrice}
 use Rattle.site_core.specs.Draft.{routed, routed_request, at_point}
 use Rattle.site_core.specs.Asked.{asked_question, question_of, FitsContext}
 use Rattle.site_core.proofs.Points.{release-some, preset-none, preset-some}
@@ -45,7 +45,7 @@ record AsksPreset (config : ConfigValue) (s : SiteState) (n amount : ℕ) (q : Q
   within : is_within 1 amount 999999999 ≡ true
   ready : is_ready point.state ≡ true
 
-two-ok : (a b : Bool) (x y : Reply) (p q : Question) → need a x (need b y (Ok p)) ≡ Ok q → (a ≡ true) × (b ≡ true) × (q ≡ p)
+two-ok : (a b : Bool) (x y : Reply) (p q : Question) → refuse_unless a x (refuse_unless b y (Ok p)) ≡ Ok q → (a ≡ true) × (b ≡ true) × (q ≡ p)
 two-ok true true x y p q h = (refl, refl, ok-same p q h)
 two-ok true false x y p q h = absurd (err-ok y q h)
 two-ok false b x y p q h = absurd (err-ok x q h)
@@ -66,7 +66,7 @@ record AsksPrice (config : ConfigValue) (s : SiteState) (product price : ℕ) (q
   free : first_busy s ≡ None
 
 price-ok : (b : Bool) (x : Reply) (busy : Option State) (p q : Question)
-    → need b x (elim busy as (λ _. Asked) [ Some state ↦ Err (wrong_state state) | None ↦ Ok p ]) ≡ Ok q → (b ≡ true) × (busy ≡ None) × (q ≡ p)
+    → refuse_unless b x (elim busy as (λ _. Asked) [ Some state ↦ Err (wrong_state state) | None ↦ Ok p ]) ≡ Ok q → (b ≡ true) × (busy ≡ None) × (q ≡ p)
 price-ok true x None p q h = (refl, refl, ok-same p q h)
 price-ok true x (Some state) p q h = absurd (err-ok (wrong_state state) q h)
 price-ok false x busy p q h = absurd (err-ok x q h)
@@ -98,7 +98,7 @@ routes : (s : SiteState) (n : ℕ) (asked q : Question) (o : Option PointState) 
 routes s n asked q None at h = absurd (none-some q (sym (at-none s n asked at) ∙ h))
 routes s n asked q (Some p) at h = record { point = p; is_point = at; question = sym (some-same asked q (sym (at-some s n asked p at) ∙ h)) }
 
--- If a program is asked a question for a request, then it is the question that the request is routed to.
+-- If a program is asked a question for a request, then it is the question that `routed_request` gives.
 asked-routed-request : (config : ConfigValue) (s : SiteState) (r : Request) (q : Question) → question_of config s r ≡ Some q
     → routed_request config s r ≡ Some q
 asked-routed-request config s (request.Release n amount) q h =
@@ -145,7 +145,7 @@ preset-again : (config : ConfigValue) (s : SiteState) (n amount : ℕ) (p : Poin
 preset-again config s n amount p at within ready = preset-some config s n amount p at ∙ rw (within, ready) refl
 
 price-again : (config : ConfigValue) (product price : ℕ) (b : Bool) (busy : Option State) → (is_within 1 product 8 && is_within 1 price 9999999) ≡ true
-    → busy ≡ None → price_at busy (price_of_product config product price) ≡ Ok (price_of_product config product price)
+    → busy ≡ None → price_at busy (price_question_of config product price) ≡ Ok (price_question_of config product price)
 price-again config product price b busy within free = rw (within, free) refl
 
 by-request : (layout : Layout) (config other : ConfigValue) (s t : SiteState) (till moment : ℕ) (r : Request) (q was : Question)
@@ -191,7 +191,7 @@ pub asked-again : (layout : Layout) (config other : ConfigValue) (s t : SiteStat
 asked-again layout config other s t till moment r q was h routed fits same =
     by-till layout config other s t till moment r q was (is_till config till) (is_till other till) h routed fits same
 
--- ---- a question that is asked is well asked
+-- ---- a question that is asked has a point or a valid price
 
 some-none : (p : PointState) → ◌≡◌ {A = Option PointState} (Some p) None → ⊥
 some-none p h = cc
@@ -199,7 +199,7 @@ some-none p h = cc
 in-range : (product price : ℕ) → (is_within 1 product 8 && is_within 1 price 9999999) ≡ true → (1 ≤ product) × (product ≤ 8) × (price ≤ 9999999)
 in-range product price h = (grind (arith, nat_tests, h), grind (arith, nat_tests, h), grind (arith, nat_tests, h))
 
-pub well-request : (config : ConfigValue) (s : SiteState) (r : Request) (q : Question) → question_of config s r ≡ Some q → WellAsked s q
+pub well-request : (config : ConfigValue) (s : SiteState) (r : Request) (q : Question) → question_of config s r ≡ Some q → HasPointOrValidPrice s q
 well-request config s (request.Release n amount) q h = λ none.
     let a : Asks config s n amount q = asks config s n amount q (at_number s.points n) refl (ok-is (release_question config s n amount) q h) in
     absurd (some-none a.point (sym a.is_point ∙ ap (λ (x : Question). at_number s.points x.point) (sym a.question) ∙ none))
@@ -212,14 +212,14 @@ well-request config s (request.Price product price) q h = λ none.
 well-request config s _ q h = absurd (none-some q h)
 
 well-till : (config : ConfigValue) (s : SiteState) (r : Request) (q : Question) (b : Bool) → (if b then question_of config s r else None) ≡ Some q
-    → WellAsked s q
+    → HasPointOrValidPrice s q
 well-till config s r q true h = well-request config s r q h
 well-till config s r q false h = absurd (none-some q h)
 
-pub well-asked : (config : ConfigValue) (s : SiteState) (till : ℕ) (r : Request) (q : Question) → asked_question config s till r ≡ Some q → WellAsked s q
+pub well-asked : (config : ConfigValue) (s : SiteState) (till : ℕ) (r : Request) (q : Question) → asked_question config s till r ≡ Some q → HasPointOrValidPrice s q
 well-asked config s till r q h = well-till config s r q (is_till config till) h
 
--- A number that is a till's isn't 0.
+-- If the site has a till of this number, then the number isn't 0.
 first-till : (till tills : ℕ) → is_within 1 till tills ≡ true → 0 < till
 first-till till tills h = grind (arith, nat_tests, h)
 

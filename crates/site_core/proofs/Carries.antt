@@ -7,7 +7,7 @@ use Rattle.std.proofs.lemmas.List.Elements.{All-map, All-set}
 use Rattle.bpf_model.specs.Program.{IsGood, ProgramText}
 use Rattle.bpf_model.specs.Machine.{Counters}
 use Rattle.bpf_model.specs.Runs.{AreCounters}
-use Rattle.reg_types.specs.Shown.{refusal_of}
+use Rattle.reg_types.specs.RefusedPrograms.{refusal_of}
 use Rattle.till_request.specs.declared.act.Act.{Act}
 use Rattle.till_request.specs.declared.act.Act.TheVariants as act
 use Rattle.till_request.specs.declared.act.Reply.{Reply}
@@ -18,10 +18,10 @@ use Rattle.program_slots.specs.Value.{SlotsValue, Version}
 use Rattle.site_core.specs.declared.opening.OpeningFault.{OpeningFault}
 use Rattle.site_core.specs.declared.opening.OpeningFault.TheVariants as fault
 use Rattle.site_core.specs.Opening.{IsOpening, OpeningValue}
-use Rattle.site_core.specs.Fitting.{IsFirstGrown, IsOutgrown, Misfits}
+use Rattle.site_core.specs.Fitting.{IsFirstLimitFault, IsLimitOrMemoryFault, Misfits}
 use Rattle.site_core.specs.Limits.{ConfigValue, IsConfig}
 use Rattle.site_core.specs.State.{SiteState, at_number, fresh_state, opened_state, opening_state}
-use Rattle.site_core.specs.Keeping.{Keeps}
+use Rattle.site_core.specs.SiteInvariant.{IsConsistent}
 use Rattle.site_core.specs.Site.{SiteValue}
 use Rattle.fuelling_point.specs.Table.{PointState}
 use Rattle.site_core.specs.Days.{IsHeldWithin, carried}
@@ -51,7 +51,7 @@ opening_priced config (Some o) is good = (good.opening o is).prices
 pub prices_in_range : (config : ConfigValue) → IsConfig config → (past : List Entry) (s : SiteState) → Legal config past s → IsPriced s
 prices_in_range config good past s l = after_all config.tills IsPriced (prices_stay config.tills) config refl (opening_priced config config.opening refl good) past s l
 
--- ---- transactions are held by nobody or by tills that there are
+-- ---- transactions are held by nobody or by tills of the site
 
 abbrev AreHeld : ℕ → SiteState → Type 0
 AreHeld tills s = All (IsHeldWithin tills) s.points
@@ -147,21 +147,21 @@ all_reversed P entries all = λ k d lt.
 -- ---- what a site leaves is an opening, unless a number that only grows is too great
 
 -- An opening whose points and prices are right has the fault that was found in the numbers that only grow.
-pub grown_misfits : (count : ℕ) (o : OpeningValue) (f : OpeningFault) → length o.points ≡ count → All (λ price. price ≤ 9999999) o.prices
-    → IsFirstGrown o.points o.cleared o.clears o.versions (Some f) → Misfits count o f
-grown_misfits count o fault.Points points prices h = absurd h
-grown_misfits count o fault.Prices points prices h = absurd h
-grown_misfits count o fault.Transactions points prices h = ((points, (prices, tt)), h)
-grown_misfits count o fault.Cleared points prices h = ((points, (prices, (h.0, tt))), h.1)
-grown_misfits count o fault.Clears points prices h = ((points, (prices, (h.0, (h.1, tt)))), h.2)
-grown_misfits count o fault.Versions points prices h = ((points, (prices, (h.0, (h.1, (h.2, tt))))), h.3)
-grown_misfits count o fault.Slots points prices h = absurd h
-grown_misfits count o fault.Rules points prices h = absurd h
-grown_misfits count o fault.Twice points prices h = absurd h
-grown_misfits count o fault.OutOfMemory points prices h = absurd h
+pub limit_fault_is_first : (count : ℕ) (o : OpeningValue) (f : OpeningFault) → length o.points ≡ count → All (λ price. price ≤ 9999999) o.prices
+    → IsFirstLimitFault o.points o.cleared o.clears o.versions (Some f) → Misfits count o f
+limit_fault_is_first count o fault.Points points prices h = absurd h
+limit_fault_is_first count o fault.Prices points prices h = absurd h
+limit_fault_is_first count o fault.Transactions points prices h = ((points, (prices, tt)), h)
+limit_fault_is_first count o fault.Cleared points prices h = ((points, (prices, (h.0, tt))), h.1)
+limit_fault_is_first count o fault.Clears points prices h = ((points, (prices, (h.0, (h.1, tt)))), h.2)
+limit_fault_is_first count o fault.Versions points prices h = ((points, (prices, (h.0, (h.1, (h.2, tt))))), h.3)
+limit_fault_is_first count o fault.Slots points prices h = absurd h
+limit_fault_is_first count o fault.Rules points prices h = absurd h
+limit_fault_is_first count o fault.DuplicateVersion points prices h = absurd h
+limit_fault_is_first count o fault.OutOfMemory points prices h = absurd h
 
-pub grown_alone : (points : List PointState) (cleared clears versions : ℕ) (f : OpeningFault) → IsFirstGrown points cleared clears versions (Some f)
-    → IsOutgrown f × (f ≢ fault.OutOfMemory)
+pub grown_alone : (points : List PointState) (cleared clears versions : ℕ) (f : OpeningFault) → IsFirstLimitFault points cleared clears versions (Some f)
+    → IsLimitOrMemoryFault f × (f ≢ fault.OutOfMemory)
 grown_alone points cleared clears versions fault.Points h = absurd h
 grown_alone points cleared clears versions fault.Prices h = absurd h
 grown_alone points cleared clears versions fault.Transactions h = (tt, λ e. absurd (cc))
@@ -170,12 +170,12 @@ grown_alone points cleared clears versions fault.Clears h = (tt, λ e. absurd (c
 grown_alone points cleared clears versions fault.Versions h = (tt, λ e. absurd (cc))
 grown_alone points cleared clears versions fault.Slots h = absurd h
 grown_alone points cleared clears versions fault.Rules h = absurd h
-grown_alone points cleared clears versions fault.Twice h = absurd h
+grown_alone points cleared clears versions fault.DuplicateVersion h = absurd h
 grown_alone points cleared clears versions fault.OutOfMemory h = absurd h
 
 -- A site has this configuration, history, state and slots, and these are its numbers that only grow.
 module _ (config : ConfigValue) (history : List Entry) (s : SiteState) (slots : SlotsValue) (site : SiteValue)
-    (site_is : record { config = config; history = history; state = s } ≡ site) (good : IsConfig config) (k : Keeps config history s slots)
+    (site_is : record { config = config; history = history; state = s } ≡ site) (good : IsConfig config) (k : IsConsistent config history s slots)
     (points : List PointState) (totals : ℕ × ℕ) (n : ℕ) (points_are : points ≡ s.points) (totals_are : totals ≡ (s.cleared, s.clears))
     (count_is : n ≡ slots.before + length slots.programs) where
   abbrev past : List Entry
@@ -184,17 +184,17 @@ module _ (config : ConfigValue) (history : List Entry) (s : SiteState) (slots : 
   count : n ≡ versions_before config + versions past
   count = count_is ∙ (λ i. sym k.agrees.before i + sym k.agrees.versions i)
 
-  here : (found : Option OpeningFault) → IsFirstGrown points totals.0 totals.1 n found
-      → IsFirstGrown s.points s.cleared s.clears (versions_before config + versions past) found
+  here : (found : Option OpeningFault) → IsFirstLimitFault points totals.0 totals.1 n found
+      → IsFirstLimitFault s.points s.cleared s.clears (versions_before config + versions past) found
   here found h =
-      subst (λ x. IsFirstGrown s.points s.cleared s.clears x found) count
-      (subst (λ (t : ℕ × ℕ). IsFirstGrown s.points t.0 t.1 n found) totals_are
-      (subst (λ (ps : List PointState). IsFirstGrown ps totals.0 totals.1 n found) points_are h))
+      subst (λ x. IsFirstLimitFault s.points s.cleared s.clears x found) count
+      (subst (λ (t : ℕ × ℕ). IsFirstLimitFault s.points t.0 t.1 n found) totals_are
+      (subst (λ (ps : List PointState). IsFirstLimitFault ps totals.0 totals.1 n found) points_are h))
 
-  pub site_misfits : (f : OpeningFault) → IsFirstGrown points totals.0 totals.1 n (Some f) → Misfits (length site.config.points) (carried site) f
+  pub site_misfits : (f : OpeningFault) → IsFirstLimitFault points totals.0 totals.1 n (Some f) → Misfits (length site.config.points) (carried site) f
   site_misfits f h =
       subst (λ (x : SiteValue). Misfits (length x.config.points) (carried x) f) site_is
-      (grown_misfits (length config.points) (carried (record { config = config; history = history; state = s })) f k.points
+      (limit_fault_is_first (length config.points) (carried (record { config = config; history = history; state = s })) f k.points
       (prices_in_range config good past s k.legal) (here (Some f) h))
 
   rule : (slot : ℕ) → IsRule (versions_before config + versions past) (in_force config slot past)
@@ -202,7 +202,7 @@ module _ (config : ConfigValue) (history : List Entry) (s : SiteState) (slots : 
       rule_in_force config good slot past (all_reversed (λ (e : Entry). GoodLoad e.act) history k.good)
       (all_reversed (λ (e : Entry). load_refusal e.act ≡ None) history k.accepted)
 
-  pub leaves_opening : (counters : Counters) → counters ≡ s.counters → AreCounters counters → IsFirstGrown points totals.0 totals.1 n None
+  pub leaves_opening : (counters : Counters) → counters ≡ s.counters → AreCounters counters → IsFirstLimitFault points totals.0 totals.1 n None
       → IsOpening (length site.config.points) (carried site)
   leaves_opening counters same right h =
       let few = here None h in

@@ -22,11 +22,11 @@ use Rattle.site_core.specs.declared.question.Question.{Question}
 use Rattle.site_core.specs.State.{SiteState, at_number, busy_points, first_busy, seen, seen_points, view_of}
 use Rattle.site_core.specs.declared.context.Field.{Field}
 use Rattle.site_core.specs.declared.context.Field.TheVariants.{Four, Eight}
-use Rattle.site_core.specs.Context.{context, fields, laid, told, of_point}
+use Rattle.site_core.specs.Context.{context, fields, laid, field_or_zero, field_of_question_point}
 
 -- ---- fields
 
--- The four bytes from a place on.
+-- The four bytes from place `at` on; 0 past the end.
 four : List ℕ → ℕ → List ℕ
 four bytes at = get_or bytes at 0 ∷ get_or bytes (at + 1) 0 ∷ get_or bytes (at + 2) 0 ∷ get_or bytes (at + 3) 0 ∷ []
 
@@ -70,7 +70,7 @@ same-context (contexts.Two x) (contexts.Two y) l h = ap (λ bytes. contexts.Two 
 same-context (contexts.One x) (contexts.Two y) l h = absurd (cc)
 same-context (contexts.Two x) (contexts.One y) l h = absurd (cc)
 
-fields-state : (layout : Layout) (s : SiteState) (till moment : ℕ) (q : Question) → get_or (laid (fields layout s till moment q)) 12 0 ≡ of_point s q
+fields-state : (layout : Layout) (s : SiteState) (till moment : ℕ) (q : Question) → get_or (laid (fields layout s till moment q)) 12 0 ≡ field_of_question_point s q
     (λ p. state_number p.state) % 256
 fields-state layouts.One s till moment q = laid-state _ _ _ _ _
 fields-state layouts.Two s till moment q = laid-state _ _ _ _ _
@@ -81,11 +81,11 @@ fields-busy layouts.One s till moment q = laid-busy _ _ _ _ _ _ _ _ _ _ _
 fields-busy layouts.Two s till moment q = laid-busy _ _ _ _ _ _ _ _ _ _ _
 
 fields-unpaid : (layout : Layout) (s : SiteState) (till moment : ℕ) (q : Question) → four (laid (fields layout s till moment q)) 48
-    ≡ little_bytes 4 (of_point s q (λ p. length p.unpaid))
+    ≡ little_bytes 4 (field_of_question_point s q (λ p. length p.unpaid))
 fields-unpaid layouts.One s till moment q = laid-unpaid _ _ _ _ _ _ _ _ _ _ _ _
 fields-unpaid layouts.Two s till moment q = laid-unpaid _ _ _ _ _ _ _ _ _ _ _ _
 
-context-state : (layout : Layout) (s : SiteState) (till moment : ℕ) (q : Question) → get_or (bytes_of (context layout s till moment q)) 12 0 ≡ of_point s q
+context-state : (layout : Layout) (s : SiteState) (till moment : ℕ) (q : Question) → get_or (bytes_of (context layout s till moment q)) 12 0 ≡ field_of_question_point s q
     (λ p. state_number p.state) % 256
 context-state layout s till moment q = ap (λ bytes. get_or bytes 12 0) (context-bytes layout s till moment q) ∙ fields-state layout s till moment q
 
@@ -94,7 +94,7 @@ context-busy : (layout : Layout) (s : SiteState) (till moment : ℕ) (q : Questi
 context-busy layout s till moment q = ap (λ bytes. four bytes 44) (context-bytes layout s till moment q) ∙ fields-busy layout s till moment q
 
 context-unpaid : (layout : Layout) (s : SiteState) (till moment : ℕ) (q : Question) → four (bytes_of (context layout s till moment q)) 48
-    ≡ little_bytes 4 (of_point s q (λ p. length p.unpaid))
+    ≡ little_bytes 4 (field_of_question_point s q (λ p. length p.unpaid))
 context-unpaid layout s till moment q = ap (λ bytes. four bytes 48) (context-bytes layout s till moment q) ∙ fields-unpaid layout s till moment q
 
 -- ---- the question's point
@@ -115,8 +115,8 @@ by-byte state.Fuelling = refl
 by-byte state.SuspendedFuelling = refl
 
 of-point : (s : SiteState) (q : Question) (n : ℕ) (p : PointState) (field : PointState → ℕ) → q.point ≡ n → at_number s.points n ≡ Some p
-    → of_point s q field ≡ field p
-of-point s q n p field is at = ap (λ m. told (at_number s.points m) field) is ∙ ap (λ o. told o field) at
+    → field_of_question_point s q field ≡ field p
+of-point s q n p field is at = ap (λ m. field_or_zero (at_number s.points m) field) is ∙ ap (λ o. field_or_zero o field) at
 
 -- If two contexts are the same, then the points of their questions are both ready, or neither is.
 pub same-ready : (layout : Layout) (s t : SiteState) (till moment n m : ℕ) (q r : Question) (p o : PointState) → q.point ≡ n → at_number s.points n ≡ Some p
@@ -131,14 +131,14 @@ same-ready layout s t till moment n m q r p o at here there_at there same =
 
 -- If two contexts are the same, then the points of their questions have the same number of unpaid transactions.
 pub same-unpaid : (layout : Layout) (s t : SiteState) (till moment n m : ℕ) (q r : Question) (p o : PointState) → q.point ≡ n → at_number s.points n ≡ Some p
-    → r.point ≡ m → at_number t.points m ≡ Some o → of_point s q (λ x. length x.unpaid) < 4294967296 → length o.unpaid < 2
+    → r.point ≡ m → at_number t.points m ≡ Some o → field_of_question_point s q (λ x. length x.unpaid) < 4294967296 → length o.unpaid < 2
     → bytes_of (context layout s till moment q) ≡ bytes_of (context layout t till moment r) → length p.unpaid ≡ length o.unpaid
 same-unpaid layout s t till moment n m q r p o at here there_at there fits few same =
-    let mine : of_point s q (λ x. length x.unpaid) ≡ length p.unpaid = of-point s q n p (λ x. length x.unpaid) at here in
-    let theirs : of_point t r (λ x. length x.unpaid) ≡ length o.unpaid = of-point t r m o (λ x. length x.unpaid) there_at there in
-    let bytes : little_bytes 4 (of_point s q (λ x. length x.unpaid)) ≡ little_bytes 4 (of_point t r (λ x. length x.unpaid)) =
+    let mine : field_of_question_point s q (λ x. length x.unpaid) ≡ length p.unpaid = of-point s q n p (λ x. length x.unpaid) at here in
+    let theirs : field_of_question_point t r (λ x. length x.unpaid) ≡ length o.unpaid = of-point t r m o (λ x. length x.unpaid) there_at there in
+    let bytes : little_bytes 4 (field_of_question_point s q (λ x. length x.unpaid)) ≡ little_bytes 4 (field_of_question_point t r (λ x. length x.unpaid)) =
     sym (context-unpaid layout s till moment q) ∙ ap (λ l. four l 48) same ∙ context-unpaid layout t till moment r in
-    sym mine ∙ four-same (of_point s q (λ x. length x.unpaid)) (of_point t r (λ x. length x.unpaid)) fits (omega (arith, theirs)) bytes ∙ theirs
+    sym mine ∙ four-same (field_of_question_point s q (λ x. length x.unpaid)) (field_of_question_point t r (λ x. length x.unpaid)) fits (omega (arith, theirs)) bytes ∙ theirs
 
 -- ---- busy points
 

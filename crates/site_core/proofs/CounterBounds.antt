@@ -16,18 +16,18 @@ use Rattle.bpf_model.specs.declared.machine.State.{State}
 use Rattle.bpf_model.specs.declared.machine.Value.{Value}
 use Rattle.bpf_model.specs.declared.machine.Value.TheVariants.{Unset, Number, Context, Stack}
 use Rattle.bpf_model.specs.declared.machine.View.{View}
-use Rattle.bpf_model.specs.Machine.{Answer as HelperAnswer, Counters, Next, Goes, Exits, Stuck, act as machine_act, after_call, answer, helper_of, counter}
+use Rattle.bpf_model.specs.Machine.{HelperResult as HelperAnswer, Counters, Next, Continues, Exits, Stuck, form_step as machine_act, after_call, answer, helper_of, counter}
 use Rattle.std.specs.Int.{cast_unsigned, w64}
 use Rattle.bpf_model.specs.Arithmetic.{extended, holds}
 use Rattle.bpf_model.specs.declared.instruction.Size.{Size}
 use Rattle.bpf_model.specs.Machine.{added, alu_value, aligned_place, loaded, mem, operand, read, counter_argument, is_there, number, pieces_written, point, point_or_zero, price, record_bytes, record_place}
 use Rattle.bpf_model.specs.Machine.{register, stack_at, taken, written}
-use Rattle.bpf_model.specs.Machine.{and_then, branches, jumps, keeps, map_option, sets, shifted, step, stores, stores_value, where_some}
+use Rattle.bpf_model.specs.Machine.{and_then, branches, jumps, stores_pointer, map_option, sets, shifted, step, stores, stores_value, or_stuck}
 use Rattle.bpf_model.specs.Program.{ProgramText, outcome}
-use Rattle.bpf_model.specs.Runs.{Outcome, Ended, Halted, Running, entry, follow, run_from}
+use Rattle.bpf_model.specs.Runs.{Outcome, Ended, GotStuck, Running, entry, follow, run_from}
 use Rattle.decision_journal.specs.declared.entries.Entry.{Entry}
 use Rattle.site_core.specs.Days.{HaveSameBounds}
-use Rattle.site_core.specs.Decide.{ran}
+use Rattle.site_core.specs.Decide.{run_result}
 use Rattle.site_core.specs.Limits.{ConfigValue}
 use Rattle.site_core.specs.State.{SiteState, opening_state}
 use Rattle.site_core.specs.Legal.{Legal}
@@ -49,11 +49,11 @@ set_bounds counters c v q =
 -- ---- one step of any program
 
 abbrev Keeps : Counters → Next → Type 0
-Keeps before (Goes t) = HaveSameBounds t.counters before
+Keeps before (Continues t) = HaveSameBounds t.counters before
 Keeps before (Exits r after) = HaveSameBounds after before
 Keeps before Stuck = Unit {0}
 
-some_keeps : {A : Type 0} (before : Counters) (o : Option A) (go : A → Next) → ((a : A) → Keeps before (go a)) → Keeps before (where_some o go)
+some_keeps : {A : Type 0} (before : Counters) (o : Option A) (go : A → Next) → ((a : A) → Keeps before (go a)) → Keeps before (or_stuck o go)
 some_keeps before None go h = tt
 some_keeps before (Some a) go h = h a
 
@@ -62,10 +62,10 @@ stuck_or before true n h = tt
 stuck_or before false n h = h
 
 sets_keeps : (s : State) (dst : ℕ) (v : Value) → Keeps s.counters (sets s dst v)
-sets_keeps s dst v = stuck_or s.counters (dst == 10) (Goes (record s { pc = s.pc + 1; registers = slice_set s.registers dst v })) (λ c. refl)
+sets_keeps s dst v = stuck_or s.counters (dst == 10) (Continues (record s { pc = s.pc + 1; registers = slice_set s.registers dst v })) (λ c. refl)
 
 jumps_keeps : (s : State) (distance : ℤ) → Keeps s.counters (jumps s distance)
-jumps_keeps s distance = some_keeps s.counters (shifted (s.pc + 1) distance 512) (λ to. Goes (record s { pc = to })) (λ to c. refl)
+jumps_keeps s distance = some_keeps s.counters (shifted (s.pc + 1) distance 512) (λ to. Continues (record s { pc = to })) (λ to c. refl)
 
 branches_keeps : (s : State) (b : Bool) (distance : ℤ) → Keeps s.counters (branches s b distance)
 branches_keeps s true distance = jumps_keeps s distance
@@ -74,12 +74,12 @@ branches_keeps s false distance = λ c. refl
 stores_keeps : (s : State) (i : Inst) (size n : ℕ) → Keeps s.counters (stores s i size n)
 stores_keeps s i size n =
     some_keeps s.counters (stack_at (register s.registers i.dst) i.offset size)
-    (λ at. Goes (record s { pc = s.pc + 1; stack = written s.stack at (little_bytes size n) })) (λ at c. refl)
+    (λ at. Continues (record s { pc = s.pc + 1; stack = written s.stack at (little_bytes size n) })) (λ at c. refl)
 
-keeps_keeps : (s : State) (i : Inst) (size : ℕ) (v : Value) → Keeps s.counters (keeps s i size v)
+keeps_keeps : (s : State) (i : Inst) (size : ℕ) (v : Value) → Keeps s.counters (stores_pointer s i size v)
 keeps_keeps s i size v =
     some_keeps s.counters (aligned_place size (stack_at (register s.registers i.dst) i.offset size))
-    (λ at. Goes (record s { pc = s.pc + 1; stack = pieces_written s.stack at v 0 8 })) (λ at c. refl)
+    (λ at. Continues (record s { pc = s.pc + 1; stack = pieces_written s.stack at v 0 8 })) (λ at c. refl)
 
 value_keeps : (s : State) (i : Inst) (size : ℕ) (v : Value) → Keeps s.counters (stores_value s i size v)
 value_keeps s i size (Number n) = stores_keeps s i size n
@@ -144,11 +144,11 @@ answer_keeps PointRecord declared view a b counters stack =
 answer_keeps PriceOf declared view a b counters stack =
     mapped counters (λ p. record { value = price view p; counters = counters; stack = stack }) (number a) (λ p q. refl)
 
-call_keeps : (s : State) (o : Option HelperAnswer) → IfSome o (AnswerKeeps s.counters) → Keeps s.counters (where_some o (λ a. after_call s a))
+call_keeps : (s : State) (o : Option HelperAnswer) → IfSome o (AnswerKeeps s.counters) → Keeps s.counters (or_stuck o (λ a. after_call s a))
 call_keeps s None h = tt
 call_keeps s (Some a) h = h
 
--- A loaded number with its sign.
+-- The value of a load with sign extension: the number n of this size, extended to 64 bits.
 abbrev signed : Size → ℕ → Value
 signed size n = Number (cast_unsigned w64 (extended (8 * bytes_in size) n))
 
@@ -160,11 +160,11 @@ act_keeps declared context view s i upper (forms.Arithmetic op w source) =
 act_keeps declared context view s i upper forms.Wide = stuck_or s.counters (i.dst == 10) _ (λ c. refl)
 act_keeps declared context view s i upper (forms.Load size) =
     some_keeps s.counters (mem (length context) (register s.registers i.src) i.offset (bytes_in size))
-    (λ at. where_some (loaded at (bytes_in size) context s.stack) (λ v. sets s i.dst v))
+    (λ at. or_stuck (loaded at (bytes_in size) context s.stack) (λ v. sets s i.dst v))
     (λ at. some_keeps s.counters (loaded at (bytes_in size) context s.stack) (λ v. sets s i.dst v) (λ v. sets_keeps s i.dst v))
 act_keeps declared context view s i upper (forms.LoadSigned size) =
     some_keeps s.counters (mem (length context) (register s.registers i.src) i.offset (bytes_in size))
-    (λ at. where_some (read at (bytes_in size) context s.stack) (λ n. sets s i.dst (signed size n)))
+    (λ at. or_stuck (read at (bytes_in size) context s.stack) (λ n. sets s i.dst (signed size n)))
     (λ at. some_keeps s.counters (read at (bytes_in size) context s.stack) (λ n. sets s i.dst (signed size n)) (λ n. sets_keeps s i.dst (signed size n)))
 act_keeps declared context view s i upper (forms.StoreImmediate size) = stores_keeps s i _ _
 act_keeps declared context view s i upper (forms.StoreRegister size) = value_keeps s i _ _
@@ -172,7 +172,7 @@ act_keeps declared context view s i upper forms.Ja = jumps_keeps s i.offset
 act_keeps declared context view s i upper forms.Ja32 = jumps_keeps s i.imm
 act_keeps declared context view s i upper (forms.Branch op w source) =
     some_keeps s.counters (number (register s.registers i.dst))
-    (λ a. where_some (number (operand source w i s.registers)) (λ b. branches s (holds op w a b) i.offset))
+    (λ a. or_stuck (number (operand source w i s.registers)) (λ b. branches s (holds op w a b) i.offset))
     (λ a. some_keeps s.counters (number (operand source w i s.registers)) (λ b. branches s (holds op w a b) i.offset)
     (λ b. branches_keeps s (holds op w a b) i.offset))
 act_keeps declared context view s i upper forms.Call = call_keeps s _ (chained s.counters (helper_of i.imm) _ (λ h. answer_keeps h declared view _ _ s.counters s.stack))
@@ -181,7 +181,7 @@ act_keeps declared context view s i upper forms.Exit =
 
 step_keeps : (bytes : List ℕ) (declared : ℕ) (context : List ℕ) (view : View) (s : State) → Keeps s.counters (step bytes declared context view s)
 step_keeps bytes declared context view s =
-    some_keeps s.counters (inst bytes s.pc) (λ i. where_some (form_of i.opcode) (λ form. machine_act declared context view s i (imm_at bytes (s.pc + 1)) form))
+    some_keeps s.counters (inst bytes s.pc) (λ i. or_stuck (form_of i.opcode) (λ form. machine_act declared context view s i (imm_at bytes (s.pc + 1)) form))
     (λ i. some_keeps s.counters (form_of i.opcode) (λ form. machine_act declared context view s i (imm_at bytes (s.pc + 1)) form)
     (λ form. act_keeps declared context view s i (imm_at bytes (s.pc + 1)) form))
 
@@ -189,17 +189,17 @@ step_keeps bytes declared context view s =
 
 abbrev EndKeeps : Counters → Outcome → Type 0
 EndKeeps before (Ended r after) = HaveSameBounds after before
-EndKeeps before Halted = Unit {0}
+EndKeeps before GotStuck = Unit {0}
 EndKeeps before (Running s) = Unit {0}
 
 followed : (before : Counters) (n : Next) (go : State → Outcome) → Keeps before n → ((t : State) → HaveSameBounds t.counters before → EndKeeps before (go t))
     → EndKeeps before (follow n go)
-followed before (Goes t) go h on = on t h
+followed before (Continues t) go h on = on t h
 followed before (Exits r after) go h on = h
 followed before Stuck go h on = tt
 
 keeps_on : (before between : Counters) (n : Next) → HaveSameBounds between before → Keeps between n → Keeps before n
-keeps_on before between (Goes t) h k = λ c. k c ∙ h c
+keeps_on before between (Continues t) h k = λ c. k c ∙ h c
 keeps_on before between (Exits r after) h k = λ c. k c ∙ h c
 keeps_on before between Stuck h k = tt
 
@@ -215,9 +215,9 @@ outcome_keeps : (p : ProgramText) (context : List ℕ) (view : View) (before : C
 unfolding outcome
 outcome_keeps p context view before = run_keeps p.bytes p.declared context view before (length p.bytes / 8) (entry before) (λ c. refl)
 
-ran_keeps : (o : Outcome) (before : Counters) → EndKeeps before o → HaveSameBounds (ran o before).1 before
+ran_keeps : (o : Outcome) (before : Counters) → EndKeeps before o → HaveSameBounds (run_result o before).1 before
 ran_keeps (Ended r after) before h = h
-ran_keeps Halted before h = λ c. refl
+ran_keeps GotStuck before h = λ c. refl
 ran_keeps (Running s) before h = λ c. refl
 
 -- ---- a history

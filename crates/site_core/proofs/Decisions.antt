@@ -13,7 +13,7 @@ use Rattle.site_core.specs.Limits.{ConfigValue}
 use Rattle.site_core.specs.State.{SiteState, view_of}
 use Rattle.site_core.specs.Context.{context}
 use Rattle.site_core.specs.History.{in_force}
-use Rattle.site_core.specs.Decide.{replied, no_program, decided, verdict, ran}
+use Rattle.site_core.specs.Decide.{replied, no_program, decided, verdict, run_result}
 
 pub decided-refused : (config : ConfigValue) (past : List Entry) (s : SiteState) (till moment : ℕ) (r : Reply) → decided config past s till moment (Err r) ≡ replied r s
 unfolding decided
@@ -26,7 +26,7 @@ decided-none config past s till moment q none = rw (none, decided)
 
 pub decided-some : (config : ConfigValue) (past : List Entry) (s : SiteState) (till moment : ℕ) (q : Question) (v : Version) → in_force config q.slot past ≡ Some v
     → decided config past s till moment (Ok q)
-    ≡ (let r : ℕ × Counters = ran (outcome v.program (bytes_of (context v.program.layout s till moment q)) (view_of s) s.counters) s.counters in
+    ≡ (let r : ℕ × Counters = run_result (outcome v.program (bytes_of (context v.program.layout s till moment q)) (view_of s) s.counters) s.counters in
     verdict s till moment q v r.0 r.1)
 unfolding decided
 decided-some config past s till moment q v some = rw (some, decided)
@@ -35,4 +35,4 @@ pub decided-ended : (config : ConfigValue) (past : List Entry) (s : SiteState) (
     → in_force config q.slot past ≡ Some v → outcome v.program (bytes_of (context v.program.layout s till moment q)) (view_of s) s.counters ≡ Ended r counters
     → decided config past s till moment (Ok q) ≡ verdict s till moment q v r counters
 decided-ended config past s till moment q v r counters some ended =
-    decided-some config past s till moment q v some ∙ ap (λ o. verdict s till moment q v (ran o s.counters).0 (ran o s.counters).1) ended
+    decided-some config past s till moment q v some ∙ ap (λ o. verdict s till moment q v (run_result o s.counters).0 (run_result o s.counters).1) ended

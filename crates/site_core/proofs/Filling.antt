@@ -32,7 +32,7 @@ pub view-is : (s : SiteState) (v : View) → v.count ≡ length s.points → v.p
 unfolding view_of
 view-is s v count points prices = λ i. record { count = count i; points = points i; prices = prices i }
 
--- A number from 1 to m has a place, which is one less, below m.
+-- If n is from 1 to m, then its place, which is n - 1, is below m.
 pub place-below : (n m : ℕ) → 1 ≤ n → n ≤ m → n - 1 < m
 place-below n m one le = omega arith
 

@@ -3,10 +3,10 @@ use Rattle.std.proofs.Common.{◌≡◌, ℕ, ◌+◌, ◌-◌, ◌*◌, ◌≤�
 use Rattle.std.proofs.Common.{get_or, refl, Bool}
 use Rattle.decision_journal.specs.declared.entries.Run.{Run}
 use Rattle.till_request.specs.declared.act.Reply.{Reply}
-use Rattle.site_core.specs.Keeping.{settled, with_counters}
+use Rattle.site_core.specs.SiteInvariant.{applied_answer, with_counters}
 use Rattle.std.specs.Prelude.{◌==◌}
 use Rattle.std.proofs.lemmas.List.Elements.{All-set}
-use Rattle.fuelling_point.specs.Table.{PointState, Answer, command_step}
+use Rattle.fuelling_point.specs.Table.{PointState, StepResult, command_step}
 use Rattle.fuelling_point.specs.Promises.{FollowsTable}
 use Rattle.fuelling_point.specs.declared.kinds.PointFault.{PointFault}
 use Rattle.till_request.specs.declared.act.Reply.TheVariants as reply
@@ -16,17 +16,17 @@ use Rattle.site_core.specs.declared.question.Question.{Question}
 use Rattle.site_core.specs.State.{SiteState, at_number, with_point}
 use Rattle.site_core.specs.Bounds.{Bounded}
 use Rattle.site_core.specs.Context.{context}
-use Rattle.site_core.specs.Decide.{Effect, denied, grant, granted_point, command_of, after_command, verdict, counts}
+use Rattle.site_core.specs.Decide.{Effect, denied, grant, granted_amount, command_of, after_command, verdict, counts}
 use Rattle.site_core.proofs.Points.{at_number-read}
 
--- A point that follows its table is in the state that the table gives, or in its old state if it refused the command.
-after-is : (a : Answer (Option ℕ)) (p new : PointState) (outcome : Result (Option ℕ) PointFault) → FollowsTable a p outcome new
+-- After a command, a point that follows its table is as the table says, or as it was before if it refused the command.
+after-is : (a : StepResult (Option ℕ)) (p new : PointState) (outcome : Result (Option ℕ) PointFault) → FollowsTable a p outcome new
     → (elim a as (λ _. PointState) [ Ok o ↦ o.0 | Err f ↦ p ]) ≡ new
 after-is (Ok (q, given)) p new outcome h = sym h.1
 after-is (Err f) p new outcome h = sym h.1
 
 pub grant-some : (s : SiteState) (till r : ℕ) (q : Question) (p : PointState) → at_number s.points q.point ≡ Some p
-    → grant s till q r ≡ (let g : ℕ = granted_point q.kind q.asked r p.preset in (g, with_point s q.point (after_command p till (command_of q.kind g))))
+    → grant s till q r ≡ (let g : ℕ = granted_amount q.kind q.asked r p.preset in (g, with_point s q.point (after_command p till (command_of q.kind g))))
 unfolding grant
 grant-some s till r q p at = rw (at, grant)
 
@@ -37,10 +37,10 @@ grant-none s till r q none = rw (none, grant)
 
 pub grant-is : (s : SiteState) (till r : ℕ) (q : Question) (p new : PointState) (outcome : Result (Option ℕ) PointFault) → 1 ≤ q.point
     → q.point ≤ length s.points → p ≡ get_or s.points (q.point - 1) p
-    → FollowsTable (command_step p till (command_of q.kind (granted_point q.kind q.asked r p.preset))) p outcome new
-    → grant s till q r ≡ (granted_point q.kind q.asked r p.preset, with_point s q.point new)
+    → FollowsTable (command_step p till (command_of q.kind (granted_amount q.kind q.asked r p.preset))) p outcome new
+    → grant s till q r ≡ (granted_amount q.kind q.asked r p.preset, with_point s q.point new)
 grant-is s till r q p new outcome one le is answers =
-    let g : ℕ = granted_point q.kind q.asked r p.preset in
+    let g : ℕ = granted_amount q.kind q.asked r p.preset in
     grant-some s till r q p (at_number-read s.points q.point p one le is) ∙ ap
     (λ x. (g, with_point s q.point x)) (after-is (command_step p till (command_of q.kind g)) p new outcome answers)
 
@@ -86,17 +86,17 @@ pub verdict-grant : (s : SiteState) (till moment r g : ℕ) (q : Question) (v : 
 unfolding verdict
 verdict-grant s till moment r g q v c new some given = rw (some, given, verdict)
 
-pub settled-deny : (s : SiteState) (till n r : ℕ) (q : Question) → (r == 0) ≡ true → settled s till q n r ≡ (denied n, s)
-unfolding settled
-settled-deny s till n r q zero = rw (zero, settled)
+pub applied_answer-deny : (s : SiteState) (till n r : ℕ) (q : Question) → (r == 0) ≡ true → applied_answer s till q n r ≡ (denied n, s)
+unfolding applied_answer
+applied_answer-deny s till n r q zero = rw (zero, applied_answer)
 
-pub settled-grant : (s : SiteState) (till n r : ℕ) (q : Question) → (r == 0) ≡ false
-    → settled s till q n r ≡ (let g : ℕ × SiteState = grant s till q r in (reply.Granted g.0 n, g.1))
-unfolding settled
-settled-grant s till n r q some = rw (some, settled)
+pub applied_answer-grant : (s : SiteState) (till n r : ℕ) (q : Question) → (r == 0) ≡ false
+    → applied_answer s till q n r ≡ (let g : ℕ × SiteState = grant s till q r in (reply.Granted g.0 n, g.1))
+unfolding applied_answer
+applied_answer-grant s till n r q some = rw (some, applied_answer)
 
 module _ (s : SiteState) (till moment r : ℕ) (q : Question) (v : Version) (c : Counters) (given : Reply) (new : SiteState)
-    (is : settled (with_counters s c) till q v.number r ≡ (given, new)) where
+    (is : applied_answer (with_counters s c) till q v.number r ≡ (given, new)) where
   abbrev pub made-run : Run
   made-run =
       record { slot = q.slot; version = v.number; r0 = r; context = context v.program.layout s till moment q; counts = counts v.program.declared s.counters c }
@@ -107,13 +107,13 @@ module _ (s : SiteState) (till moment r : ℕ) (q : Question) (v : Version) (c :
   verdict-by : (b : Bool) → (r == 0) ≡ b → verdict s till moment q v r c ≡ effect-of (given, new)
   verdict-by true zero =
       verdict-deny s till moment r q v c zero
-      ∙ ap effect-of (sym (settled-deny (with_counters s c) till v.number r q zero) ∙ is)
+      ∙ ap effect-of (sym (applied_answer-deny (with_counters s c) till v.number r q zero) ∙ is)
   verdict-by false some =
       let g = grant (with_counters s c) till q r in
       verdict-grant s till moment r g.0 q v c g.1 some refl
-      ∙ ap effect-of (sym (settled-grant (with_counters s c) till v.number r q some) ∙ is)
+      ∙ ap effect-of (sym (applied_answer-grant (with_counters s c) till v.number r q some) ∙ is)
 
-  -- The effect of the decision has the reply and the state that `settled` gives.
+  -- The effect of the decision has the reply and the state that `applied_answer` gives.
   pub verdict-is : verdict s till moment q v r c ≡ record { reply = given; run = Some made-run; after = new }
   verdict-is = verdict-by (r == 0) refl
 

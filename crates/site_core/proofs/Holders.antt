@@ -13,8 +13,8 @@ use Rattle.fuelling_point.specs.declared.kinds.State.{State}
 use Rattle.fuelling_point.specs.declared.kinds.State.TheVariants.{Inoperative, Closed, Authorised, Started, SuspendedStarted, Fuelling, SuspendedFuelling}
 use Rattle.fuelling_point.specs.declared.kinds.Transaction.{Transaction}
 use Rattle.fuelling_point.specs.States.{has_flowed, is_busy, is_ready}
-use Rattle.fuelling_point.specs.Table.{Answer, PointState, command_step, event_step, find_number, held_by, is_authorise, is_authorised, is_closed, is_inoperative}
-use Rattle.fuelling_point.specs.Table.{flowed, keep_delivery, ready_state, rest_in, state_after_down, state_after_up, takes_flow, takes_up, without}
+use Rattle.fuelling_point.specs.Table.{StepResult, PointState, command_step, event_step, find_number, held_by, is_authorise, is_authorised, is_closed, is_inoperative}
+use Rattle.fuelling_point.specs.Table.{flowed, add_unpaid_delivery, ready_state, end_delivery_in, state_after_down, state_after_up, takes_flow, takes_up, without}
 use Rattle.site_core.specs.Days.{IsHeldWithin}
 use Rattle.site_core.specs.Decide.{after_command, command_of}
 use Rattle.site_core.specs.declared.question.Kind.{Kind}
@@ -23,9 +23,9 @@ use Rattle.site_core.specs.declared.question.Kind.TheVariants.{Release, Preset, 
 abbrev IsHeld : ℕ → Transaction → Type 0
 IsHeld tills t = t.holder ≤ tills
 
--- Each unpaid transaction of the point that this answer leaves is held by nobody or by one of these many tills. Always
--- true of a refusal.
-abbrev pub LeavesHeld : {T : Type 0} → ℕ → Answer T → Type 0
+-- If the step's result is a new point, each of its unpaid transactions is held by nobody, or by a till whose number is
+-- at most `tills`. Always true of a refusal.
+abbrev pub LeavesHeld : {T : Type 0} → ℕ → StepResult T → Type 0
 LeavesHeld tills (Ok o) = IsHeldWithin tills o.0
 LeavesHeld tills (Err f) = Unit {0}
 
@@ -37,19 +37,19 @@ keep_held tills p true h =
 keep_held tills p false h = h
 
 rest_if : (tills : ℕ) (next : State) (p : PointState) (b : Bool) → IsHeldWithin tills p
-    → IsHeldWithin tills (if b then record (keep_delivery p) { state = next; limit = 0; amount = 0; volume = 0; taken = false } else record p { state = next })
+    → IsHeldWithin tills (if b then record (add_unpaid_delivery p) { state = next; limit = 0; amount = 0; volume = 0; taken = false } else record p { state = next })
 rest_if tills next p true h = keep_held tills p (has_flowed p.state && nat_lt 0 p.amount) h
 rest_if tills next p false h = h
 
-rest_held : (tills : ℕ) (next : State) (p : PointState) → IsHeldWithin tills p → IsHeldWithin tills (rest_in next p)
+rest_held : (tills : ℕ) (next : State) (p : PointState) → IsHeldWithin tills p → IsHeldWithin tills (end_delivery_in next p)
 rest_held tills next p h = rest_if tills next p (is_busy p.state) h
 
--- If `LeavesHeld` holds for two answers, it holds for the one of them that a test selects.
-tested : {T : Type 0} (tills : ℕ) (b : Bool) (x y : Answer T) → LeavesHeld tills x → LeavesHeld tills y → LeavesHeld tills (if b then x else y)
+-- If `LeavesHeld` holds for two results, it holds for the one of them that a test selects.
+tested : {T : Type 0} (tills : ℕ) (b : Bool) (x y : StepResult T) → LeavesHeld tills x → LeavesHeld tills y → LeavesHeld tills (if b then x else y)
 tested tills true x y h k = h
 tested tills false x y h k = k
 
-suspended_held : (tills : ℕ) (p : PointState) (s : State) → IsHeldWithin tills p → LeavesHeld tills (elim s as (λ _. Answer (Option ℕ)) [
+suspended_held : (tills : ℕ) (p : PointState) (s : State) → IsHeldWithin tills p → LeavesHeld tills (elim s as (λ _. StepResult (Option ℕ)) [
   | Started ↦ Ok (record p { state = SuspendedStarted; order = Some order.Suspend }, None)
   | Fuelling ↦ Ok (record p { state = SuspendedFuelling; order = Some order.Suspend }, None)
   | x ↦ Err (WrongState x)
@@ -58,7 +58,7 @@ suspended_held tills p Started h = h
 suspended_held tills p Fuelling h = h
 suspended_held tills p _ h = tt
 
-resumed_held : (tills : ℕ) (p : PointState) (s : State) (b : Bool) → IsHeldWithin tills p → LeavesHeld tills (elim s as (λ _. Answer (Option ℕ)) [
+resumed_held : (tills : ℕ) (p : PointState) (s : State) (b : Bool) → IsHeldWithin tills p → LeavesHeld tills (elim s as (λ _. StepResult (Option ℕ)) [
   | SuspendedStarted ↦ Ok (record p { state = Started; order = Some order.Resume }, None)
   | SuspendedFuelling ↦ if b then Ok (record p { state = Fuelling; order = Some order.Resume }, None) else Err (WrongState SuspendedFuelling)
   | x ↦ Err (WrongState x)
@@ -78,7 +78,7 @@ given_held tills holder number ts le h =
     (λ k d lt. one_held tills holder (slice_index_or ts k d) ((slice_index_or ts k d).number == number) le (h k d lt))
 
 locked_held : (tills till number : ℕ) (p : PointState) (o : Option Transaction) → till ≤ tills → IsHeldWithin tills p
-    → LeavesHeld tills (elim o as (λ _. Answer (Option ℕ)) [
+    → LeavesHeld tills (elim o as (λ _. StepResult (Option ℕ)) [
       | None ↦ Err NoSuchTransaction
       | Some t ↦
           if t.holder == 0 || t.holder == till then Ok (record p { unpaid = held_by till number p.unpaid }, None)
@@ -90,7 +90,7 @@ locked_held tills till number p (Some t) le h =
     (given_held tills till number p.unpaid le h) tt
 
 unlocked_held : (tills till number : ℕ) (p : PointState) (o : Option Transaction) → IsHeldWithin tills p
-    → LeavesHeld tills (elim o as (λ _. Answer (Option ℕ)) [
+    → LeavesHeld tills (elim o as (λ _. StepResult (Option ℕ)) [
       | None ↦ Err NoSuchTransaction
       | Some t ↦ if t.holder == till then Ok (record p { unpaid = held_by 0 number p.unpaid }, None) else Err NotYourTransaction
     ])
@@ -100,7 +100,7 @@ unlocked_held tills till number p (Some t) h =
     (given_held tills 0 number p.unpaid (omega arith) h) tt
 
 cleared_held : (tills till number : ℕ) (p : PointState) (o : Option Transaction) → IsHeldWithin tills p
-    → LeavesHeld tills (elim o as (λ _. Answer (Option ℕ)) [
+    → LeavesHeld tills (elim o as (λ _. StepResult (Option ℕ)) [
       | None ↦ Err NoSuchTransaction
       | Some t ↦ if t.holder == till then Ok (record p { unpaid = without number p.unpaid }, Some t.amount) else Err NotYourTransaction
     ])
@@ -111,7 +111,7 @@ cleared_held tills till number p (Some t) h =
 
 released_held : (tills granted : ℕ) (p : PointState) → IsHeldWithin tills p → LeavesHeld tills (command_step p 0 (command.Release granted))
 released_held tills granted p h =
-    let ok : Answer (Option ℕ) = Ok (record p { state = Authorised; limit = granted; preset = 0; order = Some (order.Authorise granted); taken = false }, None) in
+    let ok : StepResult (Option ℕ) = Ok (record p { state = Authorised; limit = granted; preset = 0; order = Some (order.Authorise granted); taken = false }, None) in
     tested tills (is_ready p.state) (if nat_lt (length p.unpaid) 2 then ok else Err TransactionsFull) (Err (WrongState p.state))
     (tested tills (nat_lt (length p.unpaid) 2) ok (Err TransactionsFull) h tt) tt
 
@@ -129,18 +129,18 @@ command_held tills till p (command.Preset granted) le h = preset_held tills gran
 command_held tills till p command.Suspend le h = suspended_held tills p p.state h
 command_held tills till p command.Resume le h = resumed_held tills p p.state (nat_lt p.amount p.limit) h
 command_held tills till p command.Stop le h =
-    tested tills (is_busy p.state) (Ok (record (rest_in (ready_state p.nozzle) p) { order = Some order.Stop }, None)) (Err (WrongState p.state))
+    tested tills (is_busy p.state) (Ok (record (end_delivery_in (ready_state p.nozzle) p) { order = Some order.Stop }, None)) (Err (WrongState p.state))
     (rest_held tills (ready_state p.nozzle) p h) tt
 command_held tills till p (command.Lock number) le h = locked_held tills till number p (find_number number p.unpaid) le h
 command_held tills till p (command.Unlock number) le h = unlocked_held tills till number p (find_number number p.unpaid) h
 command_held tills till p (command.Clear number) le h = cleared_held tills till number p (find_number number p.unpaid) h
 
-after_if : (tills : ℕ) (p : PointState) (a : Answer (Option ℕ)) → IsHeldWithin tills p → LeavesHeld tills a
+after_if : (tills : ℕ) (p : PointState) (a : StepResult (Option ℕ)) → IsHeldWithin tills p → LeavesHeld tills a
     → IsHeldWithin tills (elim a as (λ _. PointState) [ Ok o ↦ o.0 | Err _ ↦ p ])
 after_if tills p (Ok o) h k = k
 after_if tills p (Err f) h k = h
 
--- After a grant, too, a point's transactions are still held by nobody or by one of the tills.
+-- After a grant, a point's transactions are still held by nobody or by one of the tills.
 pub grant_held : (tills till g : ℕ) (p : PointState) (k : Kind) → IsHeldWithin tills p → IsHeldWithin tills (after_command p till (command_of k g))
 grant_held tills till g p Release h = after_if tills p (command_step p till (command.Release g)) h (released_held tills g p h)
 grant_held tills till g p Preset h = after_if tills p (command_step p till (command.Preset g)) h (preset_held tills g p h)
@@ -156,20 +156,20 @@ flow_held tills amount volume p SuspendedFuelling b h = h
 flow_held tills amount volume p _ true h = h
 flow_held tills amount volume p _ false h = h
 
-order_held : (tills : ℕ) (p : PointState) (o : Option Order) → IsHeldWithin tills p → LeavesHeld tills (elim o as (λ _. Answer (Option Order)) [
+order_held : (tills : ℕ) (p : PointState) (o : Option Order) → IsHeldWithin tills p → LeavesHeld tills (elim o as (λ _. StepResult (Option Order)) [
   | None ↦ Err NoOrder
   | Some x ↦ Ok (record p { order = None; taken = p.taken || is_authorise x }, Some x)
 ])
 order_held tills p None h = tt
 order_held tills p (Some x) h = h
 
--- After a dispenser's event, too, a point's transactions are still held by nobody or by one of the tills.
+-- After a dispenser's event, a point's transactions are still held by nobody or by one of the tills.
 pub event_held : (tills : ℕ) (p : PointState) (e : DispenserEvent) → IsHeldWithin tills p → LeavesHeld tills (event_step p e)
 event_held tills p (event.Up n) h =
     tested tills (p.nozzle == 0 && nat_le 1 n && nat_le n 8 && takes_up p.state) (Ok (record p { nozzle = n; state = state_after_up p.state }, None))
     (Err Unexpected) h tt
 event_held tills p event.Down h =
-    tested tills (not (p.nozzle == 0)) (Ok (record (rest_in (state_after_down p.state) p) { nozzle = 0; order = None }, None)) (Err Unexpected)
+    tested tills (not (p.nozzle == 0)) (Ok (record (end_delivery_in (state_after_down p.state) p) { nozzle = 0; order = None }, None)) (Err Unexpected)
     (rest_held tills (state_after_down p.state) p h) tt
 event_held tills p event.Started h =
     tested tills (is_authorised p.state && not (p.nozzle == 0) && p.taken) (Ok (record p { state = Started }, None)) (Err Unexpected) h tt

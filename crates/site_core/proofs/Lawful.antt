@@ -11,7 +11,7 @@ use Rattle.till_request.specs.declared.act.Act.TheVariants as act
 use Rattle.till_request.specs.declared.act.Reply.{Reply}
 use Rattle.till_request.specs.declared.act.Reply.TheVariants as reply
 use Rattle.bpf_model.specs.Machine.{Counters}
-use Rattle.bpf_model.specs.Runs.{Outcome, Ended, Halted, Running}
+use Rattle.bpf_model.specs.Runs.{Outcome, Ended, GotStuck, Running}
 use Rattle.bpf_model.specs.Program.{outcome}
 use Rattle.program_slots.specs.Value.{Version}
 use Rattle.bpf_model.specs.Layouts.{bytes_of}
@@ -22,7 +22,7 @@ use Rattle.site_core.specs.State.{SiteState, at_number, view_of}
 use Rattle.site_core.specs.Context.{context}
 use Rattle.site_core.specs.History.{in_force}
 use Rattle.site_core.specs.Decide.{Effect, replied, no_such_point, no_such_till, denied, is_till, bad_amount, transactions_full, wrong_state, no_program}
-use Rattle.site_core.specs.Decide.{is_within, need, slots_of, release_question, decided, verdict, ran, grant, granted_point, is_decided}
+use Rattle.site_core.specs.Decide.{is_within, refuse_unless, slots_of, release_question, decided, verdict, run_result, grant, granted_amount, is_decided}
 use Rattle.site_core.specs.Step.{effect}
 use Rattle.site_core.specs.Legal.{Legal, LawfulRelease, LawfulEntry, LawfulReleases}
 use Rattle.site_core.proofs.Points.{release-none, release-some}
@@ -54,7 +54,7 @@ ok-same p q h = cc
 pub err-ok : (r : Reply) (q : Question) → ◌≡◌ {A = Asked} (Err r) (Ok q) → ⊥
 err-ok r q h = cc
 
-three-ok : (a b c : Bool) (x y z : Reply) (p q : Question) → need a x (need b y (need c z (Ok p))) ≡ Ok q → (a ≡ true) × (b ≡ true) × (c ≡ true) × (q ≡ p)
+three-ok : (a b c : Bool) (x y z : Reply) (p q : Question) → refuse_unless a x (refuse_unless b y (refuse_unless c z (Ok p))) ≡ Ok q → (a ≡ true) × (b ≡ true) × (c ≡ true) × (q ≡ p)
 three-ok true true true x y z p q h = (refl, refl, refl, ok-same p q h)
 three-ok true true false x y z p q h = absurd (err-ok z q h)
 three-ok true false c x y z p q h = absurd (err-ok y q h)
@@ -80,9 +80,9 @@ verdict-granted : (s : SiteState) (till moment : ℕ) (q : Question) (v : Versio
 unfolding verdict
 verdict-granted s till moment q v r c some = rw (some, verdict)
 
--- The amount that is granted for a release at a point is the one that `granted_point` gives.
+-- The amount that is granted for a release at a point is the one that `granted_amount` gives.
 grant-release : (s : SiteState) (till n amount r slot : ℕ) (p : PointState) → at_number s.points n ≡ Some p
-    → (grant s till (record { kind = kind.Release; point = n; product = 0; asked = amount; slot = slot }) r).0 ≡ granted_point kind.Release amount r p.preset
+    → (grant s till (record { kind = kind.Release; point = n; product = 0; asked = amount; slot = slot }) r).0 ≡ granted_amount kind.Release amount r p.preset
 unfolding grant
 grant-release s till n amount r slot p at = rw (at, grant)
 
@@ -114,10 +114,10 @@ by-answer config past s till moment n amount g v r q w c false zero a some exit 
 
 by-outcome : (config : ConfigValue) (past : List Entry) (s : SiteState) (till moment n amount g v : ℕ) (q : Question) (w : Version) (o : Outcome)
     → Asks config s n amount q → in_force config q.slot past ≡ Some w → outcome w.program (bytes_of (context w.program.layout s till moment q)) (view_of s) s.counters
-    ≡ o → reply.Granted g v ≡ (verdict s till moment q w (ran o s.counters).0 (ran o s.counters).1).reply → LawfulRelease config past s till moment n amount g v
+    ≡ o → reply.Granted g v ≡ (verdict s till moment q w (run_result o s.counters).0 (run_result o s.counters).1).reply → LawfulRelease config past s till moment n amount g v
 by-outcome config past s till moment n amount g v q w (Ended r c) a some is h =
     by-answer config past s till moment n amount g v r q w c (r == 0) refl a some is h
-by-outcome config past s till moment n amount g v q w Halted a some is h = absurd (let e = h ∙ verdict-denied s till moment q w 0 s.counters refl in cc)
+by-outcome config past s till moment n amount g v q w GotStuck a some is h = absurd (let e = h ∙ verdict-denied s till moment q w 0 s.counters refl in cc)
 by-outcome config past s till moment n amount g v q w (Running t) a some is h = absurd (let e = h ∙ verdict-denied s till moment q w 0 s.counters refl in cc)
 
 by-version : (config : ConfigValue) (past : List Entry) (s : SiteState) (till moment n amount g v : ℕ) (q : Question) (o : Option Version)

@@ -3,7 +3,7 @@ pub mod Decisions
 pub mod Undecided
 pub mod Lawful
 pub mod Written
-pub mod Keeping
+pub mod SiteInvariant
 pub mod Running
 pub mod Shown
 pub mod Complete

@@ -1,4 +1,5 @@
--- A list of entries is a history of the next day exactly if, numbered on, it could have followed the day before.
+-- A list of entries is a legal history of the next day exactly if, with raised numbers, it could have followed the
+-- history of the day before.
 use Rattle.std.proofs.Common.{◌≡◌, ◌+◌, ◌<◌, ◌≤◌, List, [], ◌∷◌, ◌++◌, length, map, refl, ap, ◌∙◌, sym, subst, arith, length-append}
 use Rattle.std.specs.Prelude.{reverse}
 use Rattle.std.proofs.lemmas.List.{reverse-append, length-reverse, length-map, map-append}
@@ -10,7 +11,7 @@ use Rattle.site_core.specs.Decide.{Effect}
 use Rattle.site_core.specs.Step.{Step, effect, entry_of, entered_moment}
 use Rattle.site_core.specs.Legal.{Legal}
 use Rattle.site_core.specs.Site.{SiteValue, Upholds}
-use Rattle.site_core.specs.Days.{next_day, numbered_on, DayGoesOn}
+use Rattle.site_core.specs.Days.{next_day, with_number_raised, ClosingChangesOnlyNumbers}
 use Rattle.site_core.proofs.Lawful.{legal-unique}
 use Rattle.site_core.proofs.Days.{followed, versions-more, effect-followed}
 
@@ -18,23 +19,25 @@ length-followed : (site : SiteValue) (later : List Entry) → length (followed s
 length-followed site later =
     omega (
       arith,
-      length-append (map (numbered_on (length site.history)) later) (reverse site.history),
-      length-map later (numbered_on (length site.history)),
+      length-append (map (with_number_raised (length site.history)) later) (reverse site.history),
+      length-map later (with_number_raised (length site.history)),
       length-reverse site.history,
     )
 
--- In the one long history the number of the next entry is greater by the length of the day before.
+-- In the history of both days together (`followed`) the number of the next entry is greater than on the next day alone,
+-- by the length of the first day's history.
 numbers : (site : SiteValue) (later : List Entry) → length later + 1 + length site.history ≡ length (followed site later) + 1
 numbers site later = let l = length-followed site later in omega arith
 
--- If the next day's step makes this entry, then the one long history's step makes the entry numbered on.
+-- If the next day's step makes this entry, then the step after both days' history makes the same entry with its number
+-- raised by the length of the first day's history.
 step-on : (site : SiteValue) (later : List Entry) (before after : SiteState) (e : Entry) → IsConfig site.config
     → versions (reverse site.history) + versions later < 4096 → Step (next_day site) later before e.pass e.moment e.act e after
-    → Step site.config (followed site later) before e.pass e.moment e.act (numbered_on (length site.history) e) after
+    → Step site.config (followed site later) before e.pass e.moment e.act (with_number_raised (length site.history) e) after
 step-on site later before after e is few st =
     let same = effect-followed site later before e.moment e.act is few in
-    let made : numbered_on (length site.history) e ≡ numbered_on (length site.history) (entry_of later e.pass e.moment e.act
-    (effect (next_day site) later before e.moment e.act)) = ap (numbered_on (length site.history)) st.enters in
+    let made : with_number_raised (length site.history) e ≡ with_number_raised (length site.history) (entry_of later e.pass e.moment e.act
+    (effect (next_day site) later before e.moment e.act)) = ap (with_number_raised (length site.history)) st.enters in
     record {
       enters = made ∙ (λ i. record {
         number = numbers site later i;
@@ -47,10 +50,11 @@ step-on site later before after e is few st =
       leaves = st.leaves ∙ ap (λ (x : Effect). x.after) (sym same);
     }
 
--- If the one long history's step makes an entry numbered on, then the next day's step makes the entry itself.
+-- If the step after both days' history makes an entry with its number raised by the length of the first day's history,
+-- then the next day's step makes the entry itself.
 step-back : (site : SiteValue) (later : List Entry) (before after : SiteState) (e : Entry) → IsConfig site.config
     → versions (reverse site.history) + versions later < 4096
-    → Step site.config (followed site later) before e.pass e.moment e.act (numbered_on (length site.history) e) after
+    → Step site.config (followed site later) before e.pass e.moment e.act (with_number_raised (length site.history) e) after
     → Step (next_day site) later before e.pass e.moment e.act e after
 step-back site later before after e is few st =
     let same = effect-followed site later before e.moment e.act is few in
@@ -74,7 +78,7 @@ step-back site later before after e is few st =
       leaves = st.leaves ∙ ap (λ (x : Effect). x.after) same;
     }
 
--- If a history of the next day is legal, then its entries, numbered on, legally follow the site's own history.
+-- If a history of the next day is legal, then its entries, with raised numbers, legally follow the site's own history.
 goes-on : (site : SiteValue) (later : List Entry) (s : SiteState) → IsConfig site.config → Upholds site → length site.history + length later ≤ 1048576
     → versions (reverse site.history) + versions later < 4096 → Legal (next_day site) later s → Legal site.config (followed site later) s
 goes-on site [] s is u room few l = subst (λ t. Legal site.config (reverse site.history) t) (sym l) u.legal
@@ -83,7 +87,8 @@ goes-on site (e ∷ later) s is u room few l =
     let less : length (followed site later) < 1048576 = omega (arith, length-followed site later) in
     (l.0, goes-on site later l.0 is u (omega arith) fewer l.1, less, step-on site later l.0 s e is fewer l.3)
 
--- If entries, numbered on, legally follow the site's own history, then they are a legal history of the next day.
+-- If entries, with raised numbers, legally follow the site's own history, then they are a legal history of the next
+-- day.
 comes-back : (site : SiteValue) (later : List Entry) (s : SiteState) → IsConfig site.config → Upholds site
     → versions (reverse site.history) + versions later < 4096 → Legal site.config (followed site later) s → Legal (next_day site) later s
 comes-back site [] s is u few l = legal-unique site.config (reverse site.history) s site.state l u.legal
@@ -101,9 +106,9 @@ reverse-map f (x ∷ xs) =
     ∙ sym (map-append f (reverse xs) (x ∷ []))
     ∙ ap (map f) (sym (reverse-append (x ∷ []) xs))
 
-pub day_goes_on : DayGoesOn
-day_goes_on site day state is u room few =
-    let f : Entry → Entry = numbered_on (length site.history) in
+pub closing_changes_only_numbers : ClosingChangesOnlyNumbers
+closing_changes_only_numbers site day state is u room few =
+    let f : Entry → Entry = with_number_raised (length site.history) in
     let turned : reverse (site.history ++ map f day) ≡ followed site (reverse day) =
     reverse-append site.history (map f day) ∙ ap (λ xs. xs ++ reverse site.history) (reverse-map f day) in
     let fits : length site.history + length (reverse day) ≤ 1048576 = omega (arith, length-reverse day) in (

@@ -1,4 +1,4 @@
--- Slots whose versions have numbers of their own.
+-- No two slots have versions with the same number, and this stays true when a version is loaded.
 use Rattle.std.proofs.Common.{◌≡◌, ℕ, zero, suc, ◌+◌, ◌<◌, ◌≤◌, List, [], ◌∷◌, map, set, get_or, Option, Some, None, true, false}
 use Rattle.std.proofs.Common.{refl, sym, ◌∙◌, subst, arith, Bool}
 use Rattle.std.specs.Prelude.{◌==◌, ◌↔◌, IsTrue, if◌then◌else◌, slice_index_or, length, All}
@@ -30,7 +30,8 @@ pub own_none : HaveOwnNumbers []
 unfolding IsDistinct
 own_none = tt
 
--- What the walk `have_own_numbers` answers is right at the end of the slots, and at a slot with a version.
+-- The function `have_own_numbers` rightly returns true for an empty list of slots. The next lemmas are about a list
+-- that begins with a version.
 pub own_end : (rules : List (Option Version)) → rules ≡ [] → IsTrue true ↔ HaveOwnNumbers rules
 own_end rules is = (λ _. subst HaveOwnNumbers (sym is) own_none, λ _. refl)
 
@@ -55,7 +56,7 @@ new_set (Some w ∷ rest) zero v n h e = (e, h.1)
 new_set (None ∷ rest) (suc k) v n h e = new_set rest k v n h e
 new_set (Some w ∷ rest) (suc k) v n h e = (h.0, new_set rest k v n h.1 e)
 
--- If a version with a new number is put into a slot, the slots still have numbers of their own.
+-- If a version with a new number is put into a slot, still no two slots have versions with the same number.
 pub own_set : (rules : List (Option Version)) (slot : ℕ) (v : Version) → HaveOwnNumbers rules → IsNewNumber rules v.number
     → HaveOwnNumbers (set rules slot (Some v))
 own_set [] zero v h new = h
@@ -121,8 +122,8 @@ up_to-more : (n : ℕ) (x : Option Version) → IsUpTo n x → IsUpTo (n + 1) x
 up_to-more n None h = tt
 up_to-more n (Some v) h = omega (arith, h)
 
--- The version in force in a slot after a load: the loaded program with the number n + 1 if the load is into this slot,
--- or else the older version.
+-- The version in force in a slot after a load. If b is true, the load is into this slot: the version is the loaded
+-- program with the number n + 1. Otherwise it is the older version.
 abbrev pub taken : Bool → ℕ → ProgramText → Option Version → Option Version
 taken b n program older = if b then Some (record { number = n + 1; program = program }) else older
 
@@ -148,7 +149,8 @@ taken-differ true false n program x y apart up on d = new-first n program y on
 taken-differ false true n program x y apart up on d = new-last n program x up
 taken-differ false false n program x y apart up on d = d
 
--- The version in force in a slot after an entry that loaded this, if n versions were loaded before the entry.
+-- The version in force in a slot after one more entry, before which n versions were loaded: the program that the entry
+-- loaded into this slot, with the number n + 1, or else the older version.
 abbrev pub newest : ℕ → ℕ → Option Version → Option (ℕ × ProgramText) → Option Version
 newest slot n older None = older
 newest slot n older (Some l) = taken (l.0 == slot) n l.1 older
@@ -176,7 +178,7 @@ rule-up_to : (n : ℕ) (rule : Option Version) → IsRule n rule → IsUpTo n ru
 rule-up_to n None h = tt
 rule-up_to n (Some v) h = h.1
 
--- If `IsRule n` holds for each slot of a list, then `IsUpTo n` holds at each place, also behind the list's end.
+-- If `IsRule n` holds for each slot of a list, then `IsUpTo n` holds at each place, also past the list's end.
 at_or_none : (n : ℕ) (rules : List (Option Version)) (slot : ℕ) → All (IsRule n) rules → IsUpTo n (get_or rules slot None)
 at_or_none n [] slot all = tt
 at_or_none n (x ∷ rest) zero all = rule-up_to n x (all 0 None (omega arith))
@@ -210,6 +212,6 @@ in_force-differ config good i j lt (e ∷ past) =
     newest-differ i j (versions_before config + versions past) (in_force config i past) (in_force config j past) (loaded e.act e.reply) lt
     (in_force-up_to config good i past) (in_force-up_to config good j past) (in_force-differ config good i j lt past)
 
--- So the slots that a site leaves have numbers of their own.
+-- So no two slots that a site leaves for the next day have versions with the same number.
 pub own_in_force : (config : ConfigValue) → IsConfig config → (past : List Entry) → HaveOwnNumbers (map (λ slot. in_force config slot past) (range_with_len 0 16))
 own_in_force config good past = own_range (λ slot. in_force config slot past) 0 16 (λ i j lt. in_force-differ config good i j lt past)

@@ -5,7 +5,7 @@ use Rattle.std.specs.Prelude.{◌⊎◌, reverse, ◌==◌, if◌then◌else◌,
 use Rattle.std.specs.declared.alloc.AllocError.{AllocError}
 use Rattle.std.proofs.Common.{inl, inr}
 use Rattle.std.specs.Result.{result_ok}
-use Rattle.fuelling_point.specs.Table.{PointState, Answer, command_step}
+use Rattle.fuelling_point.specs.Table.{PointState, StepResult, command_step}
 use Rattle.fuelling_point.specs.declared.kinds.Command.{Command}
 use Rattle.fuelling_point.specs.declared.kinds.Command.TheVariants as command
 use Rattle.decision_journal.specs.declared.entries.Entry.{Entry}
@@ -25,19 +25,19 @@ use Rattle.site_core.specs.Limits.{ConfigValue}
 use Rattle.site_core.specs.State.{SiteState, at_number, view_of}
 use Rattle.site_core.specs.Context.{context}
 use Rattle.site_core.specs.History.{loaded, in_force, versions}
-use Rattle.site_core.specs.Decide.{Effect, replied, no_such_till, is_decided, is_till, decided, verdict, ran, grant, release_question, preset_question}
+use Rattle.site_core.specs.Decide.{Effect, replied, no_such_till, is_decided, is_till, decided, verdict, run_result, grant, release_question, preset_question}
 use Rattle.site_core.specs.Decide.{price_question}
-use Rattle.site_core.specs.Step.{effect, asked, commanded, command_effect}
-use Rattle.site_core.specs.Keeping.{Agrees, Performs}
+use Rattle.site_core.specs.Step.{effect, asked, till_command_effect, command_effect}
+use Rattle.site_core.specs.SiteInvariant.{Agrees, Performs}
 use Rattle.site_core.specs.Legal.{GoodLoad}
 use Rattle.site_core.specs.Histories.{load_refusal}
 use Rattle.site_core.specs.Draft.{context_for, DraftValue, ReadyValue, basis_of, routed}
 use Rattle.site_core.specs.Asked.{asked_question, question_of, StillAsked, IsDraft, Drafts, WouldRun, basis_in}
 use Rattle.site_core.specs.declared.draft.Begin.{Begin}
 use Rattle.site_core.specs.declared.draft.Begin.TheVariants as begin
-use Rattle.site_core.specs.Outside.{run_now, reply_now, Begins, Begun, IsRunOf, basis, drafted}
+use Rattle.site_core.specs.Outside.{run_now, reply_now, Begins, IsFreshDraft, IsRunOf, basis, drafted}
 use Rattle.site_core.specs.Site.{SiteValue, entered}
-use Rattle.site_core.proofs.Points.{commanded-none, commanded-some}
+use Rattle.site_core.proofs.Points.{till_command_effect-none, till_command_effect-some}
 use Rattle.site_core.proofs.Decisions.{decided-refused, decided-none, decided-some, decided-ended}
 use Rattle.site_core.proofs.Grants.{verdict-deny, verdict-grant}
 use Rattle.site_core.proofs.Lawful.{Asked}
@@ -74,24 +74,24 @@ agrees-till config slots past entry till r a is =
       versions = rw (none, versions) a.versions;
     }
 
--- If the state still asks what the draft asked, then settling the draft's run performs the step for its request.
-pub performs-settled : (config : ConfigValue) (past : List Entry) (s new : SiteState) (slots : SlotsValue) (draft : DraftValue) (q : Question) (r0 : ℕ)
+-- If `StillAsked` holds, then applying the answer of the draft's run performs the step for the draft's request.
+pub performs-applied_answer : (config : ConfigValue) (past : List Entry) (s new : SiteState) (slots : SlotsValue) (draft : DraftValue) (q : Question) (r0 : ℕ)
     (after : Counters) (entry : Entry) → entry.moment ≡ draft.moment → entry.act ≡ act.Till draft.till draft.request → StillAsked config s slots draft q
     → Agrees config slots past → outcome draft.version.program draft.context draft.view s.counters ≡ Ended r0 after
     → verdict s draft.till draft.moment q draft.version r0 after
     ≡ record { reply = entry.reply; run = entry.run; after = new } → Performs config past s draft.moment (act.Till draft.till draft.request)
     entry new slots
-performs-settled config past s new slots draft q r0 after entry moment_is act_is still agrees ran settled =
+performs-applied_answer config past s new slots draft q r0 after entry moment_is act_is still agrees run_result applied_answer =
     let ended : outcome draft.version.program (bytes_of (context draft.version.program.layout s draft.till draft.moment q)) (view_of s) s.counters
     ≡ Ended r0 after =
-    (λ i. outcome draft.version.program (still.context_is i) (still.view_is i) s.counters) ∙ ran in
+    (λ i. outcome draft.version.program (still.context_is i) (still.view_is i) s.counters) ∙ run_result in
     record {
       act_is = act_is;
       moment_is = moment_is;
       effect_is =
           effect-decided config past s draft.till draft.moment draft.request q still.asked
           ∙ decided-ended config past s draft.till draft.moment q draft.version r0 after (agrees.in_force q.slot ∙ still.version_is) ended
-          ∙ settled;
+          ∙ applied_answer;
       agrees = λ other is replied_is. agrees-till config slots past other draft.till draft.request agrees (is ∙ act_is);
       accepted = ap load_refusal act_is;
       good = subst GoodLoad (sym act_is) tt;
@@ -99,16 +99,16 @@ performs-settled config past s new slots draft q r0 after entry moment_is act_is
 
 -- ---- whether the step runs a program
 
-answer-run : (s : SiteState) (n : ℕ) (a : Answer (Option ℕ)) → (command_effect s n a).run ≡ None
+answer-run : (s : SiteState) (n : ℕ) (a : StepResult (Option ℕ)) → (command_effect s n a).run ≡ None
 answer-run s n (Ok (p, cleared)) = refl
 answer-run s n (Err fault) = refl
 
-point-run : (s : SiteState) (till n : ℕ) (c : Command) (o : Option PointState) → at_number s.points n ≡ o → (commanded s till n c).run ≡ None
-point-run s till n c None at = ap (λ (e : Effect). e.run) (commanded-none s till n c at)
-point-run s till n c (Some p) at = ap (λ (e : Effect). e.run) (commanded-some s till n c p at) ∙ answer-run s n (command_step p till c)
+point-run : (s : SiteState) (till n : ℕ) (c : Command) (o : Option PointState) → at_number s.points n ≡ o → (till_command_effect s till n c).run ≡ None
+point-run s till n c None at = ap (λ (e : Effect). e.run) (till_command_effect-none s till n c at)
+point-run s till n c (Some p) at = ap (λ (e : Effect). e.run) (till_command_effect-some s till n c p at) ∙ answer-run s n (command_step p till c)
 
-commanded-run : (s : SiteState) (till n : ℕ) (c : Command) → (commanded s till n c).run ≡ None
-commanded-run s till n c = point-run s till n c (at_number s.points n) refl
+till_command_effect-run : (s : SiteState) (till n : ℕ) (c : Command) → (till_command_effect s till n c).run ≡ None
+till_command_effect-run s till n c = point-run s till n c (at_number s.points n) refl
 
 refused-run : (config : ConfigValue) (past : List Entry) (s : SiteState) (till moment : ℕ) (x : Asked) → result_ok x ≡ None → (decided config past s till moment x).run ≡ None
 refused-run config past s till moment (Ok q) h = absurd (none-some q (sym h))
@@ -119,14 +119,14 @@ request-run : (config : ConfigValue) (past : List Entry) (s : SiteState) (till m
 request-run config past s till moment (request.Release n a) h = refused-run config past s till moment (release_question config s n a) h
 request-run config past s till moment (request.Preset n a) h = refused-run config past s till moment (preset_question config s n a) h
 request-run config past s till moment (request.Price n a) h = refused-run config past s till moment (price_question config s n a) h
-request-run config past s till moment (request.OpenPoint n) h = commanded-run s till n command.OpenPoint
-request-run config past s till moment (request.ClosePoint n) h = commanded-run s till n command.ClosePoint
-request-run config past s till moment (request.Suspend n) h = commanded-run s till n command.Suspend
-request-run config past s till moment (request.Resume n) h = commanded-run s till n command.Resume
-request-run config past s till moment (request.Stop n) h = commanded-run s till n command.Stop
-request-run config past s till moment (request.Lock n x) h = commanded-run s till n (command.Lock x)
-request-run config past s till moment (request.Unlock n x) h = commanded-run s till n (command.Unlock x)
-request-run config past s till moment (request.Clear n x) h = commanded-run s till n (command.Clear x)
+request-run config past s till moment (request.OpenPoint n) h = till_command_effect-run s till n command.OpenPoint
+request-run config past s till moment (request.ClosePoint n) h = till_command_effect-run s till n command.ClosePoint
+request-run config past s till moment (request.Suspend n) h = till_command_effect-run s till n command.Suspend
+request-run config past s till moment (request.Resume n) h = till_command_effect-run s till n command.Resume
+request-run config past s till moment (request.Stop n) h = till_command_effect-run s till n command.Stop
+request-run config past s till moment (request.Lock n x) h = till_command_effect-run s till n (command.Lock x)
+request-run config past s till moment (request.Unlock n x) h = till_command_effect-run s till n (command.Unlock x)
+request-run config past s till moment (request.Clear n x) h = till_command_effect-run s till n (command.Clear x)
 request-run config past s till moment (request.Show n) h = refl
 
 till-run : (config : ConfigValue) (past : List Entry) (s : SiteState) (till moment : ℕ) (r : Request) (b : Bool)
@@ -153,7 +153,7 @@ verdict-run s till moment q v r c false some =
 pub runs-some : (config : ConfigValue) (past : List Entry) (s : SiteState) (till moment : ℕ) (r : Request) (q : Question) (v : Version)
     → asked_question config s till r ≡ Some q → in_force config q.slot past ≡ Some v → IsSome (effect config past s moment (act.Till till r)).run
 runs-some config past s till moment r q v h some =
-    let x : ℕ × Counters = ran (outcome v.program (bytes_of (context v.program.layout s till moment q)) (view_of s) s.counters) s.counters in
+    let x : ℕ × Counters = run_result (outcome v.program (bytes_of (context v.program.layout s till moment q)) (view_of s) s.counters) s.counters in
     subst (λ (e : Effect). IsSome e.run) (sym (effect-decided config past s till moment r q h ∙ decided-some config past s till moment q v some))
     (verdict-run s till moment q v x.0 x.1 (x.0 == 0) refl)
 
@@ -182,7 +182,7 @@ begins-none config history s slots till moment r agrees (inr h) =
     }) till moment r (runs-none config (reverse history) s till moment r (inr (h.0, h.1, agrees.in_force h.0.slot ∙ h.2)))
 
 pub begun : (config : ConfigValue) (history : List Entry) (s : SiteState) (slots : SlotsValue) (till moment : ℕ) (r : Request) (draft : DraftValue)
-    → Agrees config slots (reverse history) → IsDraft config s slots till moment r draft → Begun (record {
+    → Agrees config slots (reverse history) → IsDraft config s slots till moment r draft → IsFreshDraft (record {
       config = config;
       history = history;
       state = s;
@@ -239,7 +239,7 @@ pub basis-is : (config : ConfigValue) (history : List Entry) (s : SiteState) (sl
 basis-is config history s slots draft agrees =
     λ i. basis_of (λ slot. sym (agrees.in_force slot) i) s draft.till draft.moment (routed config s draft.till draft.request)
 
--- if the run of the performed event is the draft's, then so is the run of the entry that the site makes
+-- If the run of the performed event is the draft's, then so is the run of the entry that the site makes.
 pub entered-run : (site : SiteValue) (pass moment : ℕ) (asked : Act) (ready : ReadyValue) (p : Entry) (new : SiteState) (slots : SlotsValue)
     → Performs site.config (reverse site.history) site.state moment asked p new slots → IsRunOf ready p.run → IsRunOf ready (entered site pass moment asked).run
 unfolding entered

@@ -4,7 +4,7 @@ use Rattle.std.specs.Prelude.{unwrap_or}
 use Rattle.std.proofs.lemmas.Bool.Decides.{nat_tests}
 use Rattle.std.proofs.lemmas.Option.{slice_get-get_or}
 use Rattle.std.proofs.lemmas.List.{set-get_or}
-use Rattle.fuelling_point.specs.Table.{PointState, Answer, command_step, event_step}
+use Rattle.fuelling_point.specs.Table.{PointState, StepResult, command_step, event_step}
 use Rattle.fuelling_point.specs.Promises.{FollowsTable}
 use Rattle.fuelling_point.specs.declared.kinds.PointFault.{PointFault}
 use Rattle.fuelling_point.specs.declared.kinds.Command.{Command}
@@ -15,7 +15,7 @@ use Rattle.till_request.specs.declared.act.Reply.TheVariants as reply
 use Rattle.site_core.specs.State.{SiteState, at_number, with_point}
 use Rattle.site_core.specs.declared.question.Question.{Question}
 use Rattle.site_core.specs.Decide.{replied, no_such_point, release_of, preset_of, asked_at, asked_at_point, release_question, preset_question}
-use Rattle.site_core.specs.Step.{clears_by, commanded, command_effect, reported, event_effect, order_reply, event_reply, fault_reply, shown, show_reply}
+use Rattle.site_core.specs.Step.{clears_by, till_command_effect, command_effect, dispenser_effect, event_effect, order_reply, event_reply, fault_reply, shown, show_reply}
 
 pub at_number-within : {T : Type 0} → (items : List T) (n : ℕ) (d : T) → 1 ≤ n → n ≤ length items → at_number items n ≡ Some (get_or items (n - 1) d)
 at_number-within items n d one le =
@@ -24,22 +24,22 @@ at_number-within items n d one le =
     grind (arith, nat_tests, got)
 
 -- A command to a point that doesn't exist is answered with `no_such_point`, and the site stays as it was.
-pub commanded-none : (s : SiteState) (till n : ℕ) (command : Command) → at_number s.points n ≡ None → commanded s till n command ≡ replied no_such_point s
-unfolding commanded
-commanded-none s till n command none = rw (none, commanded)
+pub till_command_effect-none : (s : SiteState) (till n : ℕ) (command : Command) → at_number s.points n ≡ None → till_command_effect s till n command ≡ replied no_such_point s
+unfolding till_command_effect
+till_command_effect-none s till n command none = rw (none, till_command_effect)
 
 -- A command to a point that exists has the effect of what the point returns for it.
-pub commanded-some : (s : SiteState) (till n : ℕ) (command : Command) (p : PointState) → at_number s.points n ≡ Some p
-    → commanded s till n command ≡ command_effect s n (command_step p till command)
-unfolding commanded
-commanded-some s till n command p some = rw (some, commanded)
+pub till_command_effect-some : (s : SiteState) (till n : ℕ) (command : Command) (p : PointState) → at_number s.points n ≡ Some p
+    → till_command_effect s till n command ≡ command_effect s n (command_step p till command)
+unfolding till_command_effect
+till_command_effect-some s till n command p some = rw (some, till_command_effect)
 
-err_effect : (s : SiteState) (n : ℕ) (a : Answer (Option ℕ)) (p new : PointState) (fault : PointFault) → FollowsTable a p (Err fault) new
+err_effect : (s : SiteState) (n : ℕ) (a : StepResult (Option ℕ)) (p new : PointState) (fault : PointFault) → FollowsTable a p (Err fault) new
     → (command_effect s n a ≡ replied (fault_reply fault) s) × (new ≡ p)
 err_effect s n (Ok o) p new fault h = absurd (let e : Err fault ≡ Ok o.1 = h.0 in cc)
 err_effect s n (Err f) p new fault h = (let e : Err fault ≡ Err f = h.0 in let same : f ≡ fault = cc in ap (λ x. replied (fault_reply x) s) same, h.1)
 
-ok_effect : (s : SiteState) (n : ℕ) (a : Answer (Option ℕ)) (p new : PointState) (cleared : Option ℕ) → FollowsTable a p (Ok cleared) new
+ok_effect : (s : SiteState) (n : ℕ) (a : StepResult (Option ℕ)) (p new : PointState) (cleared : Option ℕ) → FollowsTable a p (Ok cleared) new
     → command_effect s n a ≡ replied reply.Done
     (record (with_point s n new) { cleared = s.cleared + unwrap_or cleared 0; clears = s.clears + clears_by cleared })
 ok_effect s n (Ok (q, given)) p new cleared h =
@@ -52,44 +52,44 @@ ok_effect s n (Err f) p new cleared h = absurd (let e : Ok cleared ≡ Err f = h
 pub at_number-read : {T : Type 0} → (items : List T) (n : ℕ) (x : T) → 1 ≤ n → n ≤ length items → x ≡ get_or items (n - 1) x → at_number items n ≡ Some x
 at_number-read items n x one le is = at_number-within items n x one le ∙ ap Some (sym is)
 
--- A state in which a point is replaced by itself is unchanged.
+-- Replacing a point by itself leaves the state unchanged.
 same_points : (s : SiteState) (n : ℕ) (p : PointState) → p ≡ get_or s.points (n - 1) p → s ≡ with_point s n p
 same_points s n p is =
     let back : slice_set s.points (n - 1) p ≡ s.points = ap (λ x. slice_set s.points (n - 1) x) is ∙ set-get_or s.points (n - 1) p in
     ap (λ (x : List PointState). record s { points = x }) (sym back)
 
 -- A command that the point refuses is answered with the point's refusal.
-pub commanded-err : (s : SiteState) (till n : ℕ) (command : Command) (p new : PointState) (fault : PointFault) → 1 ≤ n → n ≤ length s.points
+pub till_command_effect-err : (s : SiteState) (till n : ℕ) (command : Command) (p new : PointState) (fault : PointFault) → 1 ≤ n → n ≤ length s.points
     → p ≡ get_or s.points (n - 1) p → FollowsTable (command_step p till command) p (Err fault) new
-    → commanded s till n command ≡ replied (fault_reply fault) (with_point s n new)
-commanded-err s till n command p new fault one le is answers =
+    → till_command_effect s till n command ≡ replied (fault_reply fault) (with_point s n new)
+till_command_effect-err s till n command p new fault one le is answers =
     let e = err_effect s n (command_step p till command) p new fault answers in
-    commanded-some s till n command p (at_number-read s.points n p one le is) ∙ e.0 ∙ ap
+    till_command_effect-some s till n command p (at_number-read s.points n p one le is) ∙ e.0 ∙ ap
     (λ x. replied (fault_reply fault) x) (same_points s n p is ∙ ap (λ x. with_point s n x) (sym e.1))
 
 -- A command that the point takes is answered with Done. An amount that it cleared is added to the total and counted.
-pub commanded-ok : (s : SiteState) (till n : ℕ) (command : Command) (p new : PointState) (cleared : Option ℕ) → 1 ≤ n → n ≤ length s.points
-    → p ≡ get_or s.points (n - 1) p → FollowsTable (command_step p till command) p (Ok cleared) new → commanded s till n command ≡ replied reply.Done
+pub till_command_effect-ok : (s : SiteState) (till n : ℕ) (command : Command) (p new : PointState) (cleared : Option ℕ) → 1 ≤ n → n ≤ length s.points
+    → p ≡ get_or s.points (n - 1) p → FollowsTable (command_step p till command) p (Ok cleared) new → till_command_effect s till n command ≡ replied reply.Done
     (record (with_point s n new) { cleared = s.cleared + unwrap_or cleared 0; clears = s.clears + clears_by cleared })
-commanded-ok s till n command p new cleared one le is answers =
-    commanded-some s till n command p (at_number-read s.points n p one le is) ∙ ok_effect s n (command_step p till command) p new cleared answers
+till_command_effect-ok s till n command p new cleared one le is answers =
+    till_command_effect-some s till n command p (at_number-read s.points n p one le is) ∙ ok_effect s n (command_step p till command) p new cleared answers
 
 -- An event of a point that doesn't exist is answered with `no_such_point`, and the site stays as it was.
-pub reported-none : (s : SiteState) (n : ℕ) (event : DispenserEvent) → at_number s.points n ≡ None → reported s n event ≡ replied no_such_point s
-unfolding reported
-reported-none s n event none = rw (none, reported)
+pub dispenser_effect-none : (s : SiteState) (n : ℕ) (event : DispenserEvent) → at_number s.points n ≡ None → dispenser_effect s n event ≡ replied no_such_point s
+unfolding dispenser_effect
+dispenser_effect-none s n event none = rw (none, dispenser_effect)
 
-pub reported-some : (s : SiteState) (n : ℕ) (event : DispenserEvent) (p : PointState) → at_number s.points n ≡ Some p
-    → reported s n event ≡ event_effect s n (event_step p event)
-unfolding reported
-reported-some s n event p some = rw (some, reported)
+pub dispenser_effect-some : (s : SiteState) (n : ℕ) (event : DispenserEvent) (p : PointState) → at_number s.points n ≡ Some p
+    → dispenser_effect s n event ≡ event_effect s n (event_step p event)
+unfolding dispenser_effect
+dispenser_effect-some s n event p some = rw (some, dispenser_effect)
 
-event_err : (s : SiteState) (n : ℕ) (a : Answer (Option Order)) (p new : PointState) (fault : PointFault) → FollowsTable a p (Err fault) new
+event_err : (s : SiteState) (n : ℕ) (a : StepResult (Option Order)) (p new : PointState) (fault : PointFault) → FollowsTable a p (Err fault) new
     → (event_effect s n a ≡ replied (fault_reply fault) s) × (new ≡ p)
 event_err s n (Ok o) p new fault h = absurd (let e : Err fault ≡ Ok o.1 = h.0 in cc)
 event_err s n (Err f) p new fault h = (let e : Err fault ≡ Err f = h.0 in let same : f ≡ fault = cc in ap (λ x. replied (fault_reply x) s) same, h.1)
 
-event_ok : (s : SiteState) (n : ℕ) (a : Answer (Option Order)) (p new : PointState) (order : Option Order) → FollowsTable a p (Ok order) new
+event_ok : (s : SiteState) (n : ℕ) (a : StepResult (Option Order)) (p new : PointState) (order : Option Order) → FollowsTable a p (Ok order) new
     → event_effect s n a ≡ replied (order_reply order) (with_point s n new)
 event_ok s n (Ok (q, given)) p new order h =
     let e : Ok order ≡ Ok given = h.0 in
@@ -97,18 +97,18 @@ event_ok s n (Ok (q, given)) p new order h =
     rw (same, h.1) refl
 event_ok s n (Err f) p new order h = absurd (let e : Ok order ≡ Err f = h.0 in cc)
 
-pub reported-err : (s : SiteState) (n : ℕ) (event : DispenserEvent) (p new : PointState) (fault : PointFault) → 1 ≤ n → n ≤ length s.points
+pub dispenser_effect-err : (s : SiteState) (n : ℕ) (event : DispenserEvent) (p new : PointState) (fault : PointFault) → 1 ≤ n → n ≤ length s.points
     → p ≡ get_or s.points (n - 1) p → FollowsTable (event_step p event) p (Err fault) new
-    → reported s n event ≡ replied (fault_reply fault) (with_point s n new)
-reported-err s n event p new fault one le is answers =
+    → dispenser_effect s n event ≡ replied (fault_reply fault) (with_point s n new)
+dispenser_effect-err s n event p new fault one le is answers =
     let e = event_err s n (event_step p event) p new fault answers in
-    reported-some s n event p (at_number-read s.points n p one le is) ∙ e.0 ∙ ap
+    dispenser_effect-some s n event p (at_number-read s.points n p one le is) ∙ e.0 ∙ ap
     (λ x. replied (fault_reply fault) x) (same_points s n p is ∙ ap (λ x. with_point s n x) (sym e.1))
 
-pub reported-ok : (s : SiteState) (n : ℕ) (event : DispenserEvent) (p new : PointState) (order : Option Order) → 1 ≤ n → n ≤ length s.points
-    → p ≡ get_or s.points (n - 1) p → FollowsTable (event_step p event) p (Ok order) new → reported s n event ≡ replied (order_reply order) (with_point s n new)
-reported-ok s n event p new order one le is answers =
-    reported-some s n event p (at_number-read s.points n p one le is) ∙ event_ok s n (event_step p event) p new order answers
+pub dispenser_effect-ok : (s : SiteState) (n : ℕ) (event : DispenserEvent) (p new : PointState) (order : Option Order) → 1 ≤ n → n ≤ length s.points
+    → p ≡ get_or s.points (n - 1) p → FollowsTable (event_step p event) p (Ok order) new → dispenser_effect s n event ≡ replied (order_reply order) (with_point s n new)
+dispenser_effect-ok s n event p new order one le is answers =
+    dispenser_effect-some s n event p (at_number-read s.points n p one le is) ∙ event_ok s n (event_step p event) p new order answers
 
 pub show-none : (s : SiteState) (n : ℕ) → at_number s.points n ≡ None → show_reply s n ≡ no_such_point
 unfolding show_reply
@@ -118,15 +118,15 @@ pub show-some : (s : SiteState) (n : ℕ) (p : PointState) → 1 ≤ n → n ≤
 unfolding show_reply
 show-some s n p one le is = let some = at_number-read s.points n p one le is in rw (some, show_reply)
 
--- An event is answered with what the point returns for it, which may be a refusal.
-pub reported-is : (s : SiteState) (n : ℕ) (event : DispenserEvent) (p new : PointState) (outcome : Result (Option Order) PointFault) → 1 ≤ n
+-- An event is answered with what the point returns for it: its order, Done, or its refusal.
+pub dispenser_effect-is : (s : SiteState) (n : ℕ) (event : DispenserEvent) (p new : PointState) (outcome : Result (Option Order) PointFault) → 1 ≤ n
     → n ≤ length s.points → p ≡ get_or s.points (n - 1) p → FollowsTable (event_step p event) p outcome new
-    → reported s n event ≡ replied (event_reply outcome) (with_point s n new)
-reported-is s n event p new (Ok order) one le is answers = reported-ok s n event p new order one le is answers
-reported-is s n event p new (Err fault) one le is answers = reported-err s n event p new fault one le is answers
+    → dispenser_effect s n event ≡ replied (event_reply outcome) (with_point s n new)
+dispenser_effect-is s n event p new (Ok order) one le is answers = dispenser_effect-ok s n event p new order one le is answers
+dispenser_effect-is s n event p new (Err fault) one le is answers = dispenser_effect-err s n event p new fault one le is answers
 
--- A question at a point that doesn't exist is refused with `no_such_point`. For a point that exists, it is checked at
--- this point.
+-- A question at a point that doesn't exist is refused with `no_such_point`. If the point exists, the point's own check
+-- (`asked_at`) decides.
 pub asked-none : (s : SiteState) (q : Question) → at_number s.points q.point ≡ None → asked_at_point s q ≡ Err no_such_point
 unfolding asked_at_point
 asked-none s q none = rw (none, asked_at_point)

@@ -13,7 +13,7 @@ use Rattle.site_core.specs.Context.{context}
 use Rattle.bpf_model.specs.Layouts.{bytes_of}
 use Rattle.site_core.specs.Draft.{context_for, DraftValue, routed}
 use Rattle.site_core.specs.Differences.{CounterDiffers, Differs}
-use Rattle.site_core.specs.Asked.{WasAsked, FitsContext, StillAsked, basis_in}
+use Rattle.site_core.specs.Asked.{WasDrafted, FitsContext, StillAsked, basis_in}
 use Rattle.site_core.proofs.Contexts.{same-view}
 use Rattle.site_core.proofs.Asking.{asked-again, well-asked, till-there}
 
@@ -24,7 +24,7 @@ pub record SameBasis (config : ConfigValue) (s : SiteState) (slots : SlotsValue)
   pub context_is : bytes_of (context draft.version.program.layout s draft.till draft.moment q) ≡ draft.context
   pub points : (view_of s).points ≡ draft.view.points
   pub prices : (view_of s).prices ≡ draft.view.prices
-  pub was : WasAsked draft
+  pub was : WasDrafted draft
 
 view-is : (config : ConfigValue) (s : SiteState) (slots : SlotsValue) (draft : DraftValue) (q : Question) → SameBasis config s slots draft q
     → view_of s ≡ draft.view
@@ -45,7 +45,7 @@ differs-counter config s slots draft q c value same differs is =
 pub still-asked : (config : ConfigValue) (s : SiteState) (slots : SlotsValue) (draft : DraftValue) (q : Question) → SameBasis config s slots draft q
     → FitsContext s q → Agrees draft.version.program.declared draft.counters s.counters → StillAsked config s slots draft q
 still-asked config s slots draft q same fits counters =
-    let was : WasAsked draft = same.was in
+    let was : WasDrafted draft = same.was in
     let asked = asked-again draft.version.program.layout config was.config s was.state draft.till draft.moment draft.request q was.question was.asked
     same.routed_is fits (same.context_is ∙ was.context_is) in
     record {

@@ -20,18 +20,18 @@ kind_number Preset = 2
 kind_number Price = 3
 
 -- A field of the point, or 0 if there is no point.
-abbrev pub told : Option PointState → (PointState → ℕ) → ℕ
-told None field = 0
-told (Some p) field = field p
+abbrev pub field_or_zero : Option PointState → (PointState → ℕ) → ℕ
+field_or_zero None field = 0
+field_or_zero (Some p) field = field p
 
 -- A field of the point that the question is about, or 0 if there is no such point, as for a price.
-abbrev pub of_point : SiteState → Question → (PointState → ℕ) → ℕ
-of_point s q field = told (at_number s.points q.point) field
+abbrev pub field_of_question_point : SiteState → Question → (PointState → ℕ) → ℕ
+field_of_question_point s q field = field_or_zero (at_number s.points q.point) field
 
 -- The product of a question: for a price the product whose price is to change. Otherwise it is the number of the
 -- point's lifted nozzle, which is the number of its product; 0 if no nozzle is lifted or there is no such point.
 abbrev pub product_of : SiteState → Question → ℕ
-product_of s q = elim q.kind [ Price ↦ q.product | _ ↦ of_point s q (λ p. p.nozzle) ]
+product_of s q = elim q.kind [ Price ↦ q.product | _ ↦ field_of_question_point s q (λ p. p.nozzle) ]
 
 -- The fields that both layouts begin with, in their order: 64 bytes.
 abbrev pub shared_fields : SiteState → ℕ → ℕ → Question → List Field
@@ -39,14 +39,14 @@ shared_fields s till moment q =
     Four till
     ∷ Four q.point
     ∷ Four (kind_number q.kind)
-    ∷ Four (of_point s q (λ p. state_number p.state))
-    ∷ Four (of_point s q (λ p. p.nozzle))
+    ∷ Four (field_of_question_point s q (λ p. state_number p.state))
+    ∷ Four (field_of_question_point s q (λ p. p.nozzle))
     ∷ Four (product_of s q)
     ∷ Eight q.asked
     ∷ Eight moment
     ∷ Four (price_of s (product_of s q))
     ∷ Four (busy_points s)
-    ∷ Four (of_point s q (λ p. length p.unpaid))
+    ∷ Four (field_of_question_point s q (λ p. length p.unpaid))
     ∷ Four q.slot
     ∷ Eight s.cleared
     ∷ []

@@ -31,37 +31,38 @@ carried site = record {
 abbrev pub next_day : SiteValue → ConfigValue
 next_day site = record site.config { opening = Some (carried site) }
 
--- The entry with a number that is greater by k.
-abbrev pub numbered_on : ℕ → Entry → Entry
-numbered_on k entry = record entry { number = entry.number + k }
+-- The entry, with its number raised by k.
+abbrev pub with_number_raised : ℕ → Entry → Entry
+with_number_raised k entry = record entry { number = entry.number + k }
 
 -- The law of the day's end: closing a day changes nothing but the numbers of entries. A list of entries, oldest first,
--- is a legal history of the next day exactly if, numbered on, it could have followed the site's own history. It leads
--- to the same state either way. This holds as long as both days together have at most 1,048,576 entries and fewer than
--- 4,096 versions.
-abbrev pub DayGoesOn : Type 0
-DayGoesOn = (site : SiteValue) (day : List Entry) (state : SiteState) → IsConfig site.config → Upholds site
+-- is a legal history of the next day exactly if it could have followed the site's own history, with numbers raised by
+-- that history's length. It leads to the same state either way. This holds as long as both days together have at most
+-- 1,048,576 entries and fewer than 4,096 versions.
+abbrev pub ClosingChangesOnlyNumbers : Type 0
+ClosingChangesOnlyNumbers = (site : SiteValue) (day : List Entry) (state : SiteState) → IsConfig site.config → Upholds site
     → length site.history + length day ≤ 1048576 → versions (reverse site.history) + versions (reverse day) < 4096
-    → LegalHistory (next_day site) day state ↔ LegalHistory site.config (site.history ++ map (numbered_on (length site.history)) day) state
+    → LegalHistory (next_day site) day state ↔ LegalHistory site.config (site.history ++ map (with_number_raised (length site.history)) day) state
 
 -- The law of each event: an event of the next day has the effect that it would have had if the day before had gone on,
 -- however many entries both days have. This holds while both days together have fewer than 4,096 versions. `later` has
 -- the entries of the next day so far, newest first.
-abbrev pub EachEventGoesOn : Type 0
-EachEventGoesOn = (site : SiteValue) (later : List Entry) (s : SiteState) (moment : ℕ) (act : Act) → IsConfig site.config
+abbrev pub EventEffectIsSameNextDay : Type 0
+EventEffectIsSameNextDay = (site : SiteValue) (later : List Entry) (s : SiteState) (moment : ℕ) (act : Act) → IsConfig site.config
     → versions (reverse site.history) + versions later < 4096
     → effect (next_day site) later s moment act
-    ≡ effect site.config (map (numbered_on (length site.history)) later ++ reverse site.history) s moment act
+    ≡ effect site.config (map (with_number_raised (length site.history)) later ++ reverse site.history) s moment act
 
 -- Each counter has the same bound in both lists.
 abbrev pub HaveSameBounds : Counters → Counters → Type 0
 HaveSameBounds a b = (c : ℕ) → (counter a c).1 ≡ (counter b c).1
 
--- The law of bounds: what a site leaves has the bounds of counters that the site began with.
+-- The law of bounds: the counters that a site leaves for the next day have the bounds that the counters had when the
+-- site began.
 abbrev pub BoundsStay : Type 0
 BoundsStay = (site : SiteValue) → Upholds site → HaveSameBounds (carried site).counters (opening_state site.config).counters
 
--- Each unpaid transaction of the point is held by nobody, or by one of these many tills.
+-- Each unpaid transaction of the point is held by nobody, or by a till whose number is at most `tills`.
 abbrev pub IsHeldWithin : ℕ → PointState → Type 0
 IsHeldWithin tills p = All (λ (t : Transaction). t.holder ≤ tills) p.unpaid
 

@@ -24,12 +24,12 @@ use Rattle.site_core.specs.Context.{context}
 use Rattle.site_core.specs.declared.question.Kind.{Kind}
 use Rattle.site_core.specs.declared.question.Kind.TheVariants.{Release, Preset, Price}
 use Rattle.site_core.specs.declared.question.Question.{Question}
-use Rattle.site_core.specs.declared.question.Asks.{Asks}
-use Rattle.site_core.specs.declared.question.Asks.TheVariants as asks
+use Rattle.site_core.specs.declared.question.RequestAction.{RequestAction}
+use Rattle.site_core.specs.declared.question.RequestAction.TheVariants as action
 use Rattle.program_slots.specs.Value.{Version}
 use Rattle.site_core.specs.History.{in_force}
 
--- What an event results in: the reply, the run of a program if there was one, and the state after it.
+-- The effect of an event: the reply, the run of a program if there was one, and the site's state after it.
 pub record Effect : Type 0 where
   pub reply : Reply
   pub run : Option Run
@@ -73,9 +73,9 @@ is_decided (reply.Granted amount version) = true
 is_decided (reply.Refused number value) = number == 24
 is_decided _ = false
 
--- If the test is true, the third argument, or else the refusal.
-abbrev pub need : {T : Type 0} → Bool → Reply → Result T Reply → Result T Reply
-need test refusal rest = if test then rest else Err refusal
+-- The third argument if the test is true, or else the refusal as an error.
+abbrev pub refuse_unless : {T : Type 0} → Bool → Reply → Result T Reply → Result T Reply
+refuse_unless test refusal rest = if test then rest else Err refusal
 
 abbrev pub is_within : ℕ → ℕ → ℕ → Bool
 is_within least x greatest = nat_le least x && nat_le x greatest
@@ -88,42 +88,43 @@ is_till config till = is_within 1 till config.tills
 abbrev pub slots_of : ConfigValue → ℕ → ℕ × ℕ
 slots_of config n = slice_index_or config.points (n - 1) (0, 0)
 
--- The questions that a release, a preset and a price change ask the program of their slot.
+-- The question that a release asks the program of its slot. The questions of a preset and of a price change follow.
 abbrev pub release_of : ConfigValue → ℕ → ℕ → Question
 release_of config n amount = record { kind = Release; point = n; product = 0; asked = amount; slot = (slots_of config n).0 }
 
 abbrev pub preset_of : ConfigValue → ℕ → ℕ → Question
 preset_of config n amount = record { kind = Preset; point = n; product = 0; asked = amount; slot = (slots_of config n).1 }
 
-abbrev pub price_of_product : ConfigValue → ℕ → ℕ → Question
-price_of_product config product price = record { kind = Price; point = 0; product = product; asked = price; slot = config.price_slot }
+abbrev pub price_question_of : ConfigValue → ℕ → ℕ → Question
+price_question_of config product price = record { kind = Price; point = 0; product = product; asked = price; slot = config.price_slot }
 
 -- What a request leads to: a question to a program, a command to a point, or the display of a point's state.
-abbrev pub asks_of : ConfigValue → Request → Asks
-asks_of config (request.Release n amount) = asks.Decision (release_of config n amount)
-asks_of config (request.Preset n amount) = asks.Decision (preset_of config n amount)
-asks_of config (request.Price product price) = asks.Decision (price_of_product config product price)
-asks_of config (request.OpenPoint n) = asks.Command n command.OpenPoint
-asks_of config (request.ClosePoint n) = asks.Command n command.ClosePoint
-asks_of config (request.Suspend n) = asks.Command n command.Suspend
-asks_of config (request.Resume n) = asks.Command n command.Resume
-asks_of config (request.Stop n) = asks.Command n command.Stop
-asks_of config (request.Lock n number) = asks.Command n (command.Lock number)
-asks_of config (request.Unlock n number) = asks.Command n (command.Unlock number)
-asks_of config (request.Clear n number) = asks.Command n (command.Clear number)
-asks_of config (request.Show n) = asks.Show n
+abbrev pub request_action : ConfigValue → Request → RequestAction
+request_action config (request.Release n amount) = action.Decision (release_of config n amount)
+request_action config (request.Preset n amount) = action.Decision (preset_of config n amount)
+request_action config (request.Price product price) = action.Decision (price_question_of config product price)
+request_action config (request.OpenPoint n) = action.Command n command.OpenPoint
+request_action config (request.ClosePoint n) = action.Command n command.ClosePoint
+request_action config (request.Suspend n) = action.Command n command.Suspend
+request_action config (request.Resume n) = action.Command n command.Resume
+request_action config (request.Stop n) = action.Command n command.Stop
+request_action config (request.Lock n number) = action.Command n (command.Lock number)
+request_action config (request.Unlock n number) = action.Command n (command.Unlock number)
+request_action config (request.Clear n number) = action.Command n (command.Clear number)
+request_action config (request.Show n) = action.Show n
 
--- The point has room for the transaction that a release makes. True for other kinds.
+-- The point has room for the unpaid transaction that a release leads to. True for other kinds of request.
 abbrev pub has_room : Kind → PointState → Bool
 has_room Release p = nat_lt (length p.unpaid) 2
 has_room _ p = true
 
--- The question of a release or a preset at its point, or the refusal that comes before a program is looked for.
+-- The question of a release or a preset, if its point and its amount allow it, or else the refusal, for which no
+-- program is run.
 abbrev pub asked_at : PointState → Question → Result Question Reply
 asked_at p q =
-    need (is_within 1 q.asked 999999999) bad_amount
-    (need (is_ready p.state) (wrong_state p.state)
-    (need (has_room q.kind p) transactions_full
+    refuse_unless (is_within 1 q.asked 999999999) bad_amount
+    (refuse_unless (is_ready p.state) (wrong_state p.state)
+    (refuse_unless (has_room q.kind p) transactions_full
     (Ok q)))
 
 unfoldable pub asked_at_point : SiteState → Question → Result Question Reply
@@ -133,9 +134,9 @@ asked_at_point s q = elim (at_number s.points q.point) [ None ↦ Err no_such_po
 -- `busy` is the state of the first such point.
 abbrev pub price_at : Option State → Question → Result Question Reply
 price_at busy q =
-    need (is_within 1 q.product 8 && is_within 1 q.asked 9999999) bad_amount (elim busy [ Some state ↦ Err (wrong_state state) | None ↦ Ok q ])
+    refuse_unless (is_within 1 q.product 8 && is_within 1 q.asked 9999999) bad_amount (elim busy [ Some state ↦ Err (wrong_state state) | None ↦ Ok q ])
 
--- The question, or the refusal that comes before a program is looked for.
+-- The question, if this state allows it, or else the refusal, for which no program is run.
 abbrev pub admitted : SiteState → Question → Result Question Reply
 admitted s q = elim q.kind [ Price ↦ price_at (first_busy s) q | _ ↦ asked_at_point s q ]
 
@@ -146,14 +147,14 @@ abbrev pub preset_question : ConfigValue → SiteState → ℕ → ℕ → Resul
 preset_question config s n amount = admitted s (preset_of config n amount)
 
 abbrev pub price_question : ConfigValue → SiteState → ℕ → ℕ → Result Question Reply
-price_question config s product price = admitted s (price_of_product config product price)
+price_question config s product price = admitted s (price_question_of config product price)
 
 -- The amount that is granted if the program answered r: the amount that is asked, but at most r. For a release it is
 -- also at most the point's preset, unless that is 0, which means none. A price is granted as it is asked.
-abbrev pub granted_point : Kind → ℕ → ℕ → ℕ → ℕ
-granted_point Release asked r preset = if preset == 0 then min asked r else min (min asked r) preset
-granted_point Preset asked r preset = min asked r
-granted_point Price asked r preset = asked
+abbrev pub granted_amount : Kind → ℕ → ℕ → ℕ → ℕ
+granted_amount Release asked r preset = if preset == 0 then min asked r else min (min asked r) preset
+granted_amount Preset asked r preset = min asked r
+granted_amount Price asked r preset = asked
 
 -- The point after a command. A point that refuses the command is unchanged.
 abbrev pub after_command : PointState → ℕ → Command → PointState
@@ -169,29 +170,29 @@ unfoldable pub grant : SiteState → ℕ → Question → ℕ → ℕ × SiteSta
 grant s till q r =
     elim (at_number s.points q.point) [
       | Some p ↦
-          let g : ℕ = granted_point q.kind q.asked r p.preset in
+          let g : ℕ = granted_amount q.kind q.asked r p.preset in
           (g, with_point s q.point (after_command p till (command_of q.kind g)))
       | None ↦ (q.asked, record s { prices = slice_set s.prices (q.product - 1) q.asked })
     ]
 
 -- If the question's point doesn't exist, it names a product from 1 to 8, and asks a price of at most 9,999,999.
-abbrev pub WellAsked : SiteState → Question → Type 0
-WellAsked s q = at_number s.points q.point ≡ None → (1 ≤ q.product) × (q.product ≤ 8) × (q.asked ≤ 9999999)
+abbrev pub HasPointOrValidPrice : SiteState → Question → Type 0
+HasPointOrValidPrice s q = at_number s.points q.point ≡ None → (1 ≤ q.product) × (q.product ≤ 8) × (q.asked ≤ 9999999)
 
--- Bit c of the mask of declared counters is set.
+-- Counter c is declared: bit c of the mask is set.
 abbrev pub is_declared : ℕ → ℕ → Bool
 is_declared mask c = mask / 2 ^ c % 2 == 1
 
--- The values of counter c before and after a run, if the counter is declared.
+-- The values of counter c before and after a run, or None if the counter isn't declared.
 abbrev pub count_of : ℕ → Counters → Counters → ℕ → Option (ℕ × ℕ)
 count_of mask before after c =
     if is_declared mask c then Some ((counter before c).0, (counter after c).0) else None
 
--- For each of the 32 counters its values before and after a run, if it is declared.
+-- For each of the 32 counters its values before and after a run, or None if it isn't declared.
 unfoldable pub counts : ℕ → Counters → Counters → List (Option (ℕ × ℕ))
 counts mask before after = map (λ c. count_of mask before after c) (range_with_len 0 32)
 
--- The effect of a decision in which the version in force answered r and left these counters.
+-- The effect of a decision in which `v`, the version in force, answered r and left these counters.
 unfoldable pub verdict : SiteState → ℕ → ℕ → Question → Version → ℕ → Counters → Effect
 verdict s till moment q v r counters =
     let counted : SiteState = record s { counters = counters } in
@@ -209,9 +210,9 @@ verdict s till moment q v r counters =
 
 -- The answer and the counters after a run. A run that doesn't end counts as a denial, so that the step is a function.
 -- This never occurs: every program that is loaded is good, and the run of a good program ends.
-abbrev pub ran : Outcome → Counters → ℕ × Counters
-ran (Ended r counters) before = (r, counters)
-ran _ before = (0, before)
+abbrev pub run_result : Outcome → Counters → ℕ × Counters
+run_result (Ended r counters) before = (r, counters)
+run_result _ before = (0, before)
 
 -- The effect of a question. If it was refused before a program is looked for, the reply is this refusal. If its slot
 -- has no program, the reply is S23. Otherwise it is the decision of the slot's program, run on the current state.
@@ -221,6 +222,6 @@ decided config past s till moment (Ok q) =
     elim (in_force config q.slot past) [
       | None ↦ replied (no_program q.slot) s
       | Some v ↦
-          let r : ℕ × Counters = ran (outcome v.program (bytes_of (context v.program.layout s till moment q)) (view_of s) s.counters) s.counters in
+          let r : ℕ × Counters = run_result (outcome v.program (bytes_of (context v.program.layout s till moment q)) (view_of s) s.counters) s.counters in
           verdict s till moment q v r.0 r.1
     ]

@@ -9,15 +9,15 @@ use Rattle.bpf_model.specs.Layouts.{bytes_of}
 use Rattle.program_slots.specs.Value.{Version}
 use Rattle.site_core.specs.declared.question.Kind.TheVariants.{Price}
 use Rattle.site_core.specs.declared.question.Question.{Question}
-use Rattle.site_core.specs.declared.question.Asks.{Asks}
-use Rattle.site_core.specs.declared.question.Asks.TheVariants as asks
+use Rattle.site_core.specs.declared.question.RequestAction.{RequestAction}
+use Rattle.site_core.specs.declared.question.RequestAction.TheVariants as action
 use Rattle.site_core.specs.Limits.{ConfigValue}
 use Rattle.site_core.specs.State.{SiteState, at_number, view_of}
 use Rattle.site_core.specs.Context.{context}
-use Rattle.site_core.specs.Decide.{is_till, asks_of}
+use Rattle.site_core.specs.Decide.{is_till, request_action}
 
--- What a run outside the site starts from: which till asks what at which moment, and the version, context, view and
--- counters of the run.
+-- The value of a draft, from which a run outside the site starts: which till asks what at which moment, and the
+-- version, context, view and counters of the run.
 pub record DraftValue : Type 0 where
   pub till : ℕ
   pub moment : ℕ
@@ -34,8 +34,8 @@ pub record ReadyValue : Type 0 where
   pub after : Counters
 
 -- The draft's program, run on the draft's context, view and counters, ends with this answer and these counters.
-abbrev pub Ran : DraftValue → ℕ → Counters → Type 0
-Ran draft r0 after = outcome draft.version.program draft.context draft.view draft.counters ≡ Ended r0 after
+abbrev pub IsRunResult : DraftValue → ℕ → Counters → Type 0
+IsRunResult draft r0 after = outcome draft.version.program draft.context draft.view draft.counters ≡ Ended r0 after
 
 -- The question, if the site has a point of number n, or else None.
 unfoldable pub at_point : SiteState → ℕ → Question → Option Question
@@ -43,15 +43,15 @@ at_point s n q = elim (at_number s.points n) [ None ↦ None | Some _ ↦ Some q
 
 -- The question that a program is asked, even if this state refuses it. None if the question's point doesn't exist, or
 -- if the request is of a kind that no program decides.
-abbrev pub routed_to : SiteState → Asks → Option Question
-routed_to s (asks.Decision q) = elim q.kind [ Price ↦ Some q | _ ↦ at_point s q.point q ]
+abbrev pub routed_to : SiteState → RequestAction → Option Question
+routed_to s (action.Decision q) = elim q.kind [ Price ↦ Some q | _ ↦ at_point s q.point q ]
 routed_to s _ = None
 
 abbrev pub routed_request : ConfigValue → SiteState → Request → Option Question
-routed_request config s request = routed_to s (asks_of config request)
+routed_request config s request = routed_to s (request_action config request)
 
--- The question that this till's request is routed to, even if this state refuses it. None also if the site has no such
--- till.
+-- The question that a program is asked for this till's request, even if this state refuses it. None if the site has no
+-- such till or point, or if the request is of a kind that no program decides.
 abbrev pub routed : ConfigValue → SiteState → ℕ → Request → Option Question
 routed config s till request = if is_till config till then routed_request config s request else None
 

@@ -29,8 +29,8 @@ versions_before config = elim config.opening [ None ↦ 0 | Some o ↦ o.version
 abbrev pub opening_rule : ConfigValue → ℕ → Option Version
 opening_rule config slot = elim config.opening [ None ↦ None | Some o ↦ slice_index_or o.rules slot None ]
 
--- The version in force in a slot: the program of the last load into it that was answered with a version, or else that
--- of the opening. A version's number is how many were ever loaded up to it, itself included.
+-- The version in force in a slot: the program of the last load into it that was answered with a version, or else the
+-- version of the opening, if any. A version's number is how many were ever loaded up to it, itself included.
 abbrev pub in_force : ConfigValue → ℕ → List Entry → Option Version
 in_force config slot [] = opening_rule config slot
 in_force config slot (entry ∷ earlier) =

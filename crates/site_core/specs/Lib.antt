@@ -10,7 +10,7 @@ pub mod Step
 pub mod Legal
 pub mod Histories
 pub mod Bounds
-pub mod Keeping
+pub mod SiteInvariant
 pub mod Site
 pub mod Audit
 pub mod Auditing

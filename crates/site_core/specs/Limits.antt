@@ -18,7 +18,7 @@ abbrev pub IsCounter : ℕ × ℕ → Type 0
 IsCounter p = (p.0 ≤ p.1) × (p.1 ≤ 9223372036854775807)
 
 -- Each value is in its range: 1 to 64 tills, 1 to 32 points, slots 0 to 15, and prices in thousandths up to 9,999,999.
--- `IsCounter` holds for each counter. An opening is one that a site with these points can begin with.
+-- `IsCounter` holds for each counter. If there is an opening, a site with this many points can begin with it.
 pub record IsConfig (c : ConfigValue) : Type 0 where
   pub some_till : 1 ≤ c.tills
   pub tills : c.tills ≤ 64
@@ -30,6 +30,6 @@ pub record IsConfig (c : ConfigValue) : Type 0 where
   pub counters : All IsCounter c.counters
   pub opening : (o : OpeningValue) → c.opening ≡ Some o → IsOpening (length c.points) o
 
--- How many entries a history may have at most.
+-- The greatest number of entries that a history can have.
 abbrev pub most_entries : ℕ
 most_entries = 1048576

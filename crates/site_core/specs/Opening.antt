@@ -33,11 +33,10 @@ IsNewNumber rules number = AllByRecursion (λ n. (number == n) ≡ false) (rule_
 abbrev pub HaveOwnNumbers : List (Option Version) → Type 0
 HaveOwnNumbers rules = IsDistinct (λ a b. a == b) (rule_numbers rules)
 
--- The numbers of an opening are ones that a site with this many points can begin with: each price is at most 9,999,999,
--- and each counter's value at most its bound. Each of the 16 slots has no version or one that was loaded, and no two
--- have versions with the same number. The numbers that only grow are so small that a day doesn't bring them to the end
--- of their ranges: the number of a point's newest transaction, the total and the count of what was cleared, and the
--- count of versions.
+-- A site with `count` points can begin with the opening. It has that many points, each price is at most 9,999,999, and
+-- each counter's value is at most its bound. Each of the 16 slots has no version, or one that was loaded and that the
+-- verifier accepts; no two have versions with the same number. The numbers that only grow are small enough for one more
+-- day: those of the points' newest transactions, the total and count of what was cleared, and the count of versions.
 pub record IsOpening (count : ℕ) (o : OpeningValue) : Type 0 where
   pub points : length o.points ≡ count
   pub prices : All (λ price. price ≤ 9999999) o.prices

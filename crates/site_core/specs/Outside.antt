@@ -2,7 +2,7 @@
 --
 -- For a caller: `run_now` is the run that the site's step would make now for a till's request, and `reply_now` is its
 -- reply. `begin` returns Direct exactly if there is no such run or the history is full. If no program is run, the reply
--- is neither a grant nor S24. Otherwise `begin` returns a draft, and `Begun` holds for it. `commit` returns Done
+-- is neither a grant nor S24. Otherwise `begin` returns a draft, and `IsFreshDraft` holds for it. `commit` returns Done
 -- exactly if `IsFresh` holds: nothing that the draft's run depends on differs. The commit is then one step of the site
 -- at the draft's moment, and the entry's run is the draft's. Otherwise `commit` returns Stale with the first
 -- difference, and nothing has changed.
@@ -27,17 +27,17 @@ abbrev pub basis : SiteValue → DraftValue → Basis
 basis site draft =
     basis_of (λ slot. in_force site.config slot (reverse site.history)) site.state draft.till draft.moment (routed site.config site.state draft.till draft.request)
 
--- The run that the step would make for a till's request now, if any.
+-- The run that the site's step would make for a till's request now, or None if it would run no program.
 abbrev pub run_now : SiteValue → ℕ → ℕ → Request → Option Run
 run_now site till moment request = (effect site.config (reverse site.history) site.state moment (act.Till till request)).run
 
--- The reply that the step would give to a till's request now.
+-- The reply that the site's step would give to a till's request now.
 abbrev pub reply_now : SiteValue → ℕ → ℕ → Request → Reply
 reply_now site till moment request = (effect site.config (reverse site.history) site.state moment (act.Till till request)).reply
 
 -- The step would run a program for this request now, and the draft holds the request and all that this run would be
 -- made on.
-pub record Begun (site : SiteValue) (till moment : ℕ) (request : Request) (draft : DraftValue) : Type 0 where
+pub record IsFreshDraft (site : SiteValue) (till moment : ℕ) (request : Request) (draft : DraftValue) : Type 0 where
   pub till_is : draft.till ≡ till
   pub moment_is : draft.moment ≡ moment
   pub request_is : draft.request ≡ request
@@ -45,18 +45,18 @@ pub record Begun (site : SiteValue) (till moment : ℕ) (request : Request) (dra
   pub fresh : IsFresh (basis site draft) draft
   pub counters_are : draft.counters ≡ site.state.counters
 
--- The draft that `begin` returned, if any.
+-- The draft that `begin` returned, or None if it returned Direct.
 abbrev pub drafted : Begin → Option DraftValue
 drafted begin.Direct = None
 drafted (begin.Run draft) = Some draft
 
--- What the result of `begin` means. Direct: the history is full, or the step would run no program now and its reply is
--- neither a grant nor S24. Run: the history has room, and `Begun` holds for the draft.
+-- The result of `begin` fits the site. Direct: the history is full, or the step would run no program now and its reply
+-- is neither a grant nor S24. Run: the history has room, and `IsFreshDraft` holds for the draft.
 abbrev pub Begins : SiteValue → ℕ → ℕ → Request → Begin → Type 0
 Begins site till moment request begin.Direct =
     (length site.history ≡ 1048576)
     ⊎ ((run_now site till moment request ≡ None) × (is_decided (reply_now site till moment request) ≡ false))
-Begins site till moment request (begin.Run draft) = (length site.history < 1048576) × Begun site till moment request draft
+Begins site till moment request (begin.Run draft) = (length site.history < 1048576) × IsFreshDraft site till moment request draft
 
 -- There is a run, with the version of the draft, and with the answer that the draft's program gave.
 abbrev pub IsRunOf : ReadyValue → Option Run → Type 0

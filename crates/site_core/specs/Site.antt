@@ -5,8 +5,8 @@
 -- `site_after site pass moment act` is the site with that entry added. Both depend on these values alone. If `apply`
 -- returns Ok, `Enters old pass moment act number reply new` holds: the entry's number and reply were returned, and the
 -- new site is `site_after`. `apply` returns JournalFull exactly if the history has 1,048,576 entries. After any error
--- the site is unchanged. `Answers` states this for each result, and `Runs` for a list of events with their results. A
--- site starts as `new_site config`. `Upholds` holds for every site.
+-- the site is unchanged. `AppliesEvent` states this for each result, and `Runs` for a list of events with their
+-- results. A site starts as `new_site config`. `Upholds` holds for every site.
 use Rattle.std.specs.Prelude.{◌≡◌, ◌≢◌, ℕ, ◌+◌, List, [], ◌∷◌, ◌++◌, length, reverse, Result, Ok, Err}
 use Rattle.std.specs.Arc.{arc_value}
 use Rattle.decision_journal.specs.declared.entries.Entry.{Entry}
@@ -56,28 +56,29 @@ pub record Enters (old : SiteValue) (pass moment : ℕ) (act : Act) (number : �
   pub number_is : number ≡ (entered old pass moment act).number
   pub reply_is : reply ≡ (entered old pass moment act).reply
   pub site_is : new ≡ site_after old pass moment act
-  -- the next three fields follow from the three above
+  -- The next three fields follow from the three above.
   pub place_is : number ≡ length old.history + 1
   pub config_is : new.config ≡ old.config
   pub history_is : new.history ≡ old.history ++ entered old pass moment act ∷ []
 
--- What the result of one event means for the old and the new site.
-abbrev pub Answers : SiteValue → Event → Result Answered CallFault → SiteValue → Type 0
-Answers old event (Ok answered) new = Enters old event.pass event.moment (act_of event.what) answered.number answered.reply new
-Answers old event (Err JournalFull) new = (length old.history ≡ 1048576) × (new ≡ old)
-Answers old event (Err OutOfMemory) new = (length old.history ≢ 1048576) × (new ≡ old)
+-- The result of an event fits the old and the new site. Ok: the event was entered. JournalFull: the old history has
+-- 1,048,576 entries. OutOfMemory: it doesn't have 1,048,576. After an error the site is unchanged.
+abbrev pub AppliesEvent : SiteValue → Event → Result Answered CallFault → SiteValue → Type 0
+AppliesEvent old event (Ok answered) new = Enters old event.pass event.moment (act_of event.what) answered.number answered.reply new
+AppliesEvent old event (Err JournalFull) new = (length old.history ≡ 1048576) × (new ≡ old)
+AppliesEvent old event (Err OutOfMemory) new = (length old.history ≢ 1048576) × (new ≡ old)
 
--- What the results of a list of events mean: the events with result Ok were entered one after another, and the others
--- changed nothing.
+-- There is one result for each event, and they fit the old and the new site: the events with result Ok were entered one
+-- after another, and the others changed nothing.
 abbrev pub Runs : SiteValue → List Event → List (Result Answered CallFault) → SiteValue → Type 0
 Runs old [] [] new = new ≡ old
-Runs old (event ∷ events) (result ∷ results) new = (mid : SiteValue) × Answers old event result mid × Runs mid events results new
+Runs old (event ∷ events) (result ∷ results) new = (mid : SiteValue) × AppliesEvent old event result mid × Runs mid events results new
 Runs old [] (result ∷ results) new = ⊥
 Runs old (event ∷ events) [] new = ⊥
 
 -- What holds for every site: its history is legal for its configuration and leads to its state. The verifier accepts
--- each program loaded in it, and each of these programs is good, whatever the reply to its load was. Each release in it
--- is lawful.
+-- each program loaded in the history, and each of these programs is good, whatever the reply to its load was. Each
+-- granted release in the history is lawful.
 pub record Upholds (site : SiteValue) : Type 0 where
   pub legal : LegalHistory site.config site.history site.state
   pub accepted : AcceptedLoads site.history

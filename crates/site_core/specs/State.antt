@@ -24,7 +24,7 @@ pub record SiteState : Type 0 where
 abbrev pub fresh_state : ConfigValue → SiteState
 fresh_state config = record { points = map (λ _. fresh_point) config.points; prices = config.prices; counters = config.counters; cleared = 0; clears = 0 }
 
--- The state that an opening has.
+-- The state of a site that begins with this opening.
 abbrev pub opened_state : OpeningValue → SiteState
 opened_state o = record { points = o.points; prices = o.prices; counters = o.counters; cleared = o.cleared; clears = o.clears }
 

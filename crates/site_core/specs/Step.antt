@@ -1,7 +1,7 @@
 -- Definitions: what each event does at a site (this profile). In these definitions a history has its newest entry
 -- first.
 use Rattle.std.specs.Prelude.{◌≡◌, ℕ, ◌+◌, nat_lt, nat_le, if◌then◌else◌, List, length, Option, Some, None, unwrap_or, Result, Ok, Err}
-use Rattle.fuelling_point.specs.Table.{PointState, Answer, command_step, event_step}
+use Rattle.fuelling_point.specs.Table.{PointState, StepResult, command_step, event_step}
 use Rattle.fuelling_point.specs.States.{state_number}
 use Rattle.fuelling_point.specs.declared.kinds.Command.{Command}
 use Rattle.fuelling_point.specs.declared.kinds.DispenserEvent.{DispenserEvent}
@@ -17,9 +17,9 @@ use Rattle.till_request.specs.declared.act.Reply.TheVariants as reply
 use Rattle.site_core.specs.Limits.{ConfigValue}
 use Rattle.site_core.specs.State.{SiteState, at_number, with_point}
 use Rattle.site_core.specs.History.{versions, versions_before}
-use Rattle.site_core.specs.declared.question.Asks.{Asks}
-use Rattle.site_core.specs.declared.question.Asks.TheVariants as asks
-use Rattle.site_core.specs.Decide.{Effect, replied, refused, wrong_state, no_such_point, no_such_till, is_till, decided, admitted, asks_of}
+use Rattle.site_core.specs.declared.question.RequestAction.{RequestAction}
+use Rattle.site_core.specs.declared.question.RequestAction.TheVariants as action
+use Rattle.site_core.specs.Decide.{Effect, replied, refused, wrong_state, no_such_point, no_such_till, is_till, decided, admitted, request_action}
 
 -- The reply to a command or an event that the point refused for this fault.
 abbrev pub fault_reply : PointFault → Reply
@@ -30,7 +30,7 @@ fault_reply NoSuchTransaction = refused 28
 fault_reply NoOrder = refused 33
 fault_reply Unexpected = refused 34
 
--- The reply to a Show of this point.
+-- The reply that shows this point to a till.
 abbrev pub shown : PointState → Reply
 shown p = reply.Point (state_number p.state) p.nozzle (length p.unpaid) p.amount p.volume p.limit p.preset
 
@@ -42,16 +42,16 @@ abbrev pub clears_by : Option ℕ → ℕ
 clears_by None = 0
 clears_by (Some amount) = 1
 
--- The effect of a till's command, given what the point answered. The amount that a Clear cleared is added to the total,
--- and is counted.
-abbrev pub command_effect : SiteState → ℕ → Answer (Option ℕ) → Effect
+-- The effect of a till's command, given what the point returned for it. The amount that a Clear cleared is added to the
+-- total, and is counted.
+abbrev pub command_effect : SiteState → ℕ → StepResult (Option ℕ) → Effect
 command_effect s n (Err fault) = replied (fault_reply fault) s
 command_effect s n (Ok (point, cleared)) =
     replied reply.Done (record (with_point s n point) { cleared = s.cleared + unwrap_or cleared 0; clears = s.clears + clears_by cleared })
 
 -- The effect of a till's command that needs no decision.
-unfoldable pub commanded : SiteState → ℕ → ℕ → Command → Effect
-commanded s till n command =
+unfoldable pub till_command_effect : SiteState → ℕ → ℕ → Command → Effect
+till_command_effect s till n command =
     elim (at_number s.points n) [ None ↦ replied no_such_point s | Some p ↦ command_effect s n (command_step p till command) ]
 
 abbrev pub order_reply : Option Order → Reply
@@ -62,25 +62,25 @@ abbrev pub event_reply : Result (Option Order) PointFault → Reply
 event_reply (Ok order) = order_reply order
 event_reply (Err fault) = fault_reply fault
 
--- The effect of a dispenser's event, given what the point answered.
-abbrev pub event_effect : SiteState → ℕ → Answer (Option Order) → Effect
+-- The effect of a dispenser's event, given what the point returned for it.
+abbrev pub event_effect : SiteState → ℕ → StepResult (Option Order) → Effect
 event_effect s n (Err fault) = replied (fault_reply fault) s
 event_effect s n (Ok (point, order)) = replied (order_reply order) (with_point s n point)
 
 -- The effect of a dispenser's event.
-unfoldable pub reported : SiteState → ℕ → DispenserEvent → Effect
-reported s n event =
+unfoldable pub dispenser_effect : SiteState → ℕ → DispenserEvent → Effect
+dispenser_effect s n event =
     elim (at_number s.points n) [ None ↦ replied no_such_point s | Some p ↦ event_effect s n (event_step p event) ]
 
 -- The effect of a till's request, given what the request leads to.
-abbrev pub effect_of : ConfigValue → List Entry → SiteState → ℕ → ℕ → Asks → Effect
-effect_of config past s till moment (asks.Decision q) = decided config past s till moment (admitted s q)
-effect_of config past s till moment (asks.Command n command) = commanded s till n command
-effect_of config past s till moment (asks.Show n) = replied (show_reply s n) s
+abbrev pub effect_of : ConfigValue → List Entry → SiteState → ℕ → ℕ → RequestAction → Effect
+effect_of config past s till moment (action.Decision q) = decided config past s till moment (admitted s q)
+effect_of config past s till moment (action.Command n command) = till_command_effect s till n command
+effect_of config past s till moment (action.Show n) = replied (show_reply s n) s
 
 -- The effect of a request by a till that the site has.
 abbrev pub asked : ConfigValue → List Entry → SiteState → ℕ → ℕ → Request → Effect
-asked config past s till moment request = effect_of config past s till moment (asks_of config request)
+asked config past s till moment request = effect_of config past s till moment (request_action config request)
 
 -- The reply to a load: S32 if there is no such slot, S30 if the history has 4,096 versions already, or else the next
 -- version.
@@ -92,7 +92,7 @@ load_reply config slot past =
 abbrev pub effect : ConfigValue → List Entry → SiteState → ℕ → Act → Effect
 effect config past s moment (act.Till till request) =
     if is_till config till then asked config past s till moment request else replied no_such_till s
-effect config past s moment (act.Dispenser n event) = reported s n event
+effect config past s moment (act.Dispenser n event) = dispenser_effect s n event
 effect config past s moment (act.Load slot mask layout bytes) = replied (load_reply config slot past) s
 
 -- The moment that the entry has: a till's request has its own, all other acts have 0.

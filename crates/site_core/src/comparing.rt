@@ -37,7 +37,7 @@ pub fn first_byte(a: &[u8], b: &[u8]) -> Option<u32>
 }
 
 /// Returns the greater of two numbers: how many points `a` has, and how many `b` has.
-pub fn most_points(a: &View, b: &View) -> u32
+pub fn greater_point_count(a: &View, b: &View) -> u32
     ensures { result ≡ max a.now.count b.now.count }
 {
     if a.count < b.count { b.count } else { a.count }

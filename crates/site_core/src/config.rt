@@ -119,7 +119,8 @@ impl Config {
         })
     }
 
-    /// Returns a copy of the configuration. The error is that memory ran out.
+    /// Returns a copy of the configuration, which shares the opening. The error is that memory ran out, or that the
+    /// opening has too many owners.
     pub fn copied(&self, alloc: Global) -> Result<Config, AllocError>
         ensures { IfOk result (λ config. config ≡ self.now) }
     {
@@ -138,10 +139,10 @@ impl Config {
         })
     }
 
-    /// Returns this configuration with this opening, in place of any opening that it had. The error is the first fault
-    /// that the opening has for a site with the configuration's number of points, in the order of `OpeningFault`. If
-    /// the opening has no fault, the only possible error is that memory ran out. After an error the configuration and
-    /// the opening are dropped.
+    /// Returns this configuration with this opening (what the day before left), in place of any opening that it had.
+    /// The error is the first fault that the opening has for a site with the configuration's number of points, in the
+    /// order of `OpeningFault`. If the opening has no fault, the only possible error is that memory ran out. After an
+    /// error the configuration and the opening are dropped.
     pub fn opened(self, alloc: Global, opening: Opening) -> Result<Config, OpeningFault>
         ensures value { IfOk result (λ config. config ≡ record self { opening = Some opening }) }
         ensures fits { OnOk result (IsOpening (length self.points) opening) }
@@ -166,7 +167,7 @@ impl Config {
         })
     }
 
-    /// Returns the opening that the site begins with, if there is one.
+    /// Returns the opening that the site begins with, or `None` if there is none.
     pub fn opening(&self) -> Option<&Opening>
         ensures there { MatchOption result (self.now.opening ≡ None) (λ opening. self.now.opening ≡ Some opening.now) }
         ensures good { IfSome result (λ opening. IsOpening (length self.now.points) opening.now) }
@@ -230,16 +231,16 @@ impl Config {
         self.counters
     }
 
-    /// Returns the slot that decides the releases of point `n`, or 0 if `n` is over the number of points. For `n` = 0
-    /// returns that of point 1.
+    /// Returns the slot whose program decides the releases of point `n`, or 0 if the site has fewer than `n` points.
+    /// For `n` = 0 returns the slot of point 1.
     pub(crate) fn release_slot(&self, n: u32) -> u32
         ensures { result ≡ (slots_of self.now n).0 }
     {
         self.slots_of(n).0
     }
 
-    /// Returns the slot that decides the presets of point `n`, or 0 if `n` is over the number of points. For `n` = 0
-    /// returns that of point 1.
+    /// Returns the slot whose program decides the presets of point `n`, or 0 if the site has fewer than `n` points. For
+    /// `n` = 0 returns the slot of point 1.
     pub(crate) fn preset_slot(&self, n: u32) -> u32
         ensures { result ≡ (slots_of self.now n).1 }
     {

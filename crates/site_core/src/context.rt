@@ -1,4 +1,4 @@
-//! The context of a decision, which is the bytes that a program is run on, and the fields of a context.
+//! The context of a decision: the bytes that a program is run on, made of fields of four or eight bytes.
 
 ghost use Rattle.std.specs.Prelude.{◌≡◌, length};
 ghost use Rattle.site_core.specs.Context.{kind_number, size_of, field_bytes, laid};

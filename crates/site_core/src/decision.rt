@@ -2,7 +2,7 @@
 //! after the run.
 
 ghost use Rattle.std.specs.Prelude.{◌≡◌, ◌<◌, ◌≤◌, IfOk, IsOk};
-ghost use Rattle.site_core.specs.Decide.{has_room, asked_at, price_at, granted_point, command_of, counts, count_of};
+ghost use Rattle.site_core.specs.Decide.{has_room, asked_at, price_at, granted_amount, command_of, counts, count_of};
 ghost use Rattle.bpf_model.specs.declared.limits.TheConstants.{COUNTERS};
 
 use crate::question::{Kind, Question};
@@ -73,8 +73,8 @@ pub fn price_at(busy: Option<State>, question: Question) -> Result<Question, Rep
 /// Returns what is granted if the program answered `r0`. For a preset it is the amount `asked` in cents, but at most
 /// `r0`. For a release it is the same, but also at most the point's `preset`; a `preset` of 0 means that there is none.
 /// For a price it is the price `asked` in thousandths, whatever `r0` is.
-pub fn granted_point(kind: Kind, asked: u64, r0: u64, preset: u64) -> u64
-    ensures { result ≡ granted_point kind asked r0 preset }
+pub fn granted_amount(kind: Kind, asked: u64, r0: u64, preset: u64) -> u64
+    ensures { result ≡ granted_amount kind asked r0 preset }
 {
     match kind {
         Kind::Release if preset == 0 => asked.min(r0),

@@ -7,14 +7,15 @@ ghost use Rattle.bpf_model.specs.declared.limits.TheConstants.{POINTS};
 ghost use Rattle.site_core.specs.State.{view_of};
 
 use crate::comparing::{
-    first_byte, first_counter, first_point, first_price, is_same_program, is_version, most_points,
+    first_byte, first_counter, first_point, first_price, greater_point_count, is_same_program,
+    is_version,
 };
 use crate::config::Config;
 use crate::events::Answered;
 use crate::perform::{asked_question, routed};
 use crate::question::Question;
 use crate::station::Station;
-use crate::why::{Unsettled, Why};
+use crate::why::{CommitFault, Why};
 use bpf_model::context::Context;
 use counters::Counters;
 use decision_journal::{Entry, Run};
@@ -27,7 +28,7 @@ use std::marker::Model;
 use std::sync::Arc;
 use till_request::{Act, Request};
 
-/// The context and the view that a run reads.
+/// What a run reads: the context, and the view (a copy of the points and prices that helpers look up).
 #[derive(Clone, Copy)]
 struct Input {
     context: Context,
@@ -53,7 +54,7 @@ impl Model for Draft {
     ghost use Rattle.std.specs.Prelude.{◌≡◌};
     ghost use Rattle.bpf_model.specs.Layouts.{bytes_of, layout_of};
     ghost use Rattle.site_core.specs.Draft.{DraftValue};
-    ghost use Rattle.site_core.specs.Asked.{WasAsked};
+    ghost use Rattle.site_core.specs.Asked.{WasDrafted};
 
     ghost Value = { DraftValue };
 
@@ -67,7 +68,7 @@ impl Model for Draft {
       counters = d.counters.value;
     } };
 
-    ghost invariant = { λ d. (layout_of d.input.value.context ≡ (arc_value d.program).layout) × WasAsked (record {
+    ghost invariant = { λ d. (layout_of d.input.value.context ≡ (arc_value d.program).layout) × WasDrafted (record {
       till = d.till;
       moment = d.moment;
       request = d.request;
@@ -83,9 +84,9 @@ impl Draft {
     ghost use Rattle.site_core.specs.Outside.{drafted};
 
     /// Makes the draft for a request in the current state, or returns `Direct` if no program would be run for it. The
-    /// draft is put into the memory in `spent`, or into new memory if `spent` is `None`. Afterwards `spent` is `None`,
-    /// also after an error; only `Direct` leaves it unchanged. The error is that memory ran out, or that the program
-    /// has too many owners.
+    /// draft is put into the memory in `draft_memory`, or into new memory if `draft_memory` is `None`. Afterwards
+    /// `draft_memory` is `None`, also after an error; only `Direct` leaves it unchanged. The error is that memory ran
+    /// out, or that the program has too many owners.
     pub(crate) fn begin(
         config: &Config,
         station: &Station,
@@ -93,7 +94,7 @@ impl Draft {
         till: u32,
         moment: u64,
         request: &Request,
-        spent: &mut Option<Spent>,
+        draft_memory: &mut Option<DraftMemory>,
     ) -> Result<Begin, AllocError>
         requires { length station.now.points ≡ length config.now.points }
         ensures made { IfOk result (λ b. Drafts config.now station.now slots.now till moment request.now (drafted b)) }
@@ -107,9 +108,9 @@ impl Draft {
             return Ok(Begin::Direct);
         };
         let context = station.context(program.layout(), till, moment, &question);
-        match Spent::made(spent, program, context, station) {
+        match DraftMemory::made(draft_memory, program, context, station) {
             Ok(
-                Spent {
+                DraftMemory {
                     program,
                     input,
                     counters,
@@ -163,7 +164,7 @@ impl Draft {
             return Err(Why::Context(at));
         }
         let view = station.view();
-        let count = most_points(view, &input.view);
+        let count = greater_point_count(view, &input.view);
         if let Some(place) = first_point(count, &view.points, &input.view.points) {
             return Err(Why::PointDiffers(place + 1));
         }
@@ -183,41 +184,45 @@ impl Draft {
 /// made without an allocation. If that draft is of the same program, the program's count of owners doesn't change
 /// either. If each draft changed this count, the threads would have to wait for one another.
 #[derive(Drop)]
-pub struct Spent {
+pub struct DraftMemory {
     program: Arc<Program>,
     input: Box<Input>,
     counters: Box<Counters>,
 }
 
-impl Spent {
+impl DraftMemory {
     /// Returns the memory for a draft of this program, with this context, and with the current view and counters. It is
-    /// the memory in `spent`, or new memory if `spent` is `None`. Afterwards `spent` is `None`. The error is that
-    /// memory ran out, or that the program has too many owners.
+    /// the memory in `draft_memory`, or new memory if `draft_memory` is `None`. Afterwards `draft_memory` is `None`.
+    /// The error is that memory ran out, or that the program has too many owners.
     fn made(
-        spent: &mut Option<Spent>,
+        draft_memory: &mut Option<DraftMemory>,
         program: &Arc<Program>,
         context: Context,
         station: &Station,
-    ) -> Result<Spent, AllocError>
+    ) -> Result<DraftMemory, AllocError>
         ensures program { IfOk result (λ made. arc_value made.program ≡ arc_value program.now) }
         ensures context { IfOk result (λ made. made.input.value.context ≡ context) }
         ensures view { IfOk result (λ made. made.input.value.view ≡ view_of station.now) }
-        ensures few { IfOk result (λ _. length station.now.points ≤ POINTS) }
+        ensures within_point_limit { IfOk result (λ _. length station.now.points ≤ POINTS) }
         ensures counters { IfOk result (λ made. made.counters.value ≡ station.now.counters) }
     {
-        match spent.take() {
-            Some(spent) => spent.filled(program, context, station),
-            None => Spent::new(program, context, station),
+        match draft_memory.take() {
+            Some(draft_memory) => draft_memory.filled(program, context, station),
+            None => DraftMemory::new(program, context, station),
         }
     }
 
     /// Allocates memory for a draft of this program, with this context, and with the current view and counters. The
     /// error is that memory ran out, or that the program has too many owners.
-    fn new(program: &Arc<Program>, context: Context, station: &Station) -> Result<Spent, AllocError>
+    fn new(
+        program: &Arc<Program>,
+        context: Context,
+        station: &Station,
+    ) -> Result<DraftMemory, AllocError>
         ensures program { IfOk result (λ made. arc_value made.program ≡ arc_value program.now) }
         ensures context { IfOk result (λ made. made.input.value.context ≡ context) }
         ensures view { IfOk result (λ made. made.input.value.view ≡ view_of station.now) }
-        ensures few { IfOk result (λ _. length station.now.points ≤ POINTS) }
+        ensures within_point_limit { IfOk result (λ _. length station.now.points ≤ POINTS) }
         ensures counters { IfOk result (λ made. made.counters.value ≡ station.now.counters) }
     {
         let program = Arc::try_clone(program)?;
@@ -229,7 +234,7 @@ impl Spent {
             return Err(AllocError);
         };
         match Box::new(station.alloc(), *station.counters()) {
-            Ok(counters) => Ok(Spent {
+            Ok(counters) => Ok(DraftMemory {
                 program,
                 input,
                 counters,
@@ -245,14 +250,14 @@ impl Spent {
         program: &Arc<Program>,
         context: Context,
         station: &Station,
-    ) -> Result<Spent, AllocError>
+    ) -> Result<DraftMemory, AllocError>
         ensures program { IfOk result (λ made. arc_value made.program ≡ arc_value program.now) }
         ensures context { IfOk result (λ made. made.input.value.context ≡ context) }
         ensures view { IfOk result (λ made. made.input.value.view ≡ view_of station.now) }
-        ensures few { IfOk result (λ _. length station.now.points ≤ POINTS) }
+        ensures within_point_limit { IfOk result (λ _. length station.now.points ≤ POINTS) }
         ensures counters { IfOk result (λ made. made.counters.value ≡ station.now.counters) }
     {
-        let Spent {
+        let DraftMemory {
             program: held,
             mut input,
             mut counters,
@@ -266,7 +271,7 @@ impl Spent {
         room.context = context;
         room.view = *station.view();
         *counters = *station.counters();
-        Ok(Spent {
+        Ok(DraftMemory {
             program,
             input,
             counters,
@@ -283,13 +288,13 @@ pub struct Ready {
 }
 
 impl Model for Ready {
-    ghost use Rattle.site_core.specs.Draft.{ReadyValue, Ran};
+    ghost use Rattle.site_core.specs.Draft.{ReadyValue, IsRunResult};
 
     ghost Value = { ReadyValue };
 
     ghost view = { λ r. record { draft = r.draft; r0 = r.r0; after = r.after } };
 
-    ghost invariant = { λ r. Ran r.draft r.r0 r.after };
+    ghost invariant = { λ r. IsRunResult r.draft r.r0 r.after };
 }
 
 impl Ready {
@@ -297,13 +302,13 @@ impl Ready {
     ghost use Rattle.decision_journal.specs.declared.entries.Entry.{Entry};
     ghost use Rattle.till_request.specs.declared.act.Act.TheVariants as act;
     ghost use Rattle.site_core.specs.Bounds.{Bounded, HasRoom};
-    ghost use Rattle.site_core.specs.Keeping.{Agrees, Performs};
+    ghost use Rattle.site_core.specs.SiteInvariant.{Agrees, Performs};
     ghost use Rattle.site_core.specs.Differences.{IsFresh};
     ghost use Rattle.site_core.specs.Asked.{DiffersIfStale, basis_in};
     ghost use Rattle.site_core.specs.Outside.{IsRunOf};
 
     /// Returns the memory and the program of the run, for another draft.
-    pub fn into_spent(self) -> Spent {
+    pub fn into_draft_memory(self) -> DraftMemory {
         let Ready { draft, .. } = self;
         let Draft {
             program,
@@ -311,7 +316,7 @@ impl Ready {
             counters,
             ..
         } = draft;
-        Spent {
+        DraftMemory {
             program,
             input,
             counters,
@@ -321,19 +326,19 @@ impl Ready {
     /// If nothing that the run depends on has changed since the draft was made, carries out what the program answered,
     /// and returns the decision's entry, with this number and pass. Counters that the program doesn't declare keep
     /// their current values. If the till asked to release fuel, it is granted at most the amount that is preset at the
-    /// point now, if one is. The station must be that of a site of this configuration, and the site's history must have
-    /// room for the entry.
+    /// point now, if one is. The station must have as many points as the configuration, and the site's history must
+    /// have room for the entry.
     ///
     /// The error is `Stale` with the first change that was found, or, if nothing has changed, `OutOfMemory`. After an
     /// error the station is unchanged.
-    pub(crate) fn settle(
+    pub(crate) fn apply_answer(
         &self,
         config: &Config,
         station: &mut Station,
         slots: &Slots,
         number: u32,
         pass: u32,
-    ) -> Result<Entry, Unsettled>
+    ) -> Result<Entry, CommitFault>
         requires points { length station.old.points ≡ length config.now.points }
         requires bounded { HasRoom station.old }
         ensures number { IfOk result (λ entry. entry.number ≡ number) }
@@ -352,16 +357,16 @@ impl Ready {
         let draft = &self.draft;
         let question = match draft.compare(config, station, slots) {
             Ok(question) => question,
-            Err(why) => return Err(Unsettled::Stale(why)),
+            Err(why) => return Err(CommitFault::Stale(why)),
         };
         let input: &Input = &draft.input;
         let counters: &Counters = &draft.counters;
         let adopted = station.adopt(&draft.program, &input.context, counters, &self.after);
         let counts = match adopted {
             Ok(counts) => counts,
-            Err(_) => return Err(Unsettled::OutOfMemory),
+            Err(_) => return Err(CommitFault::OutOfMemory),
         };
-        let reply = station.settle(draft.till, &question, draft.version, self.r0);
+        let reply = station.apply_answer(draft.till, &question, draft.version, self.r0);
         Ok(Entry {
             number,
             pass,

@@ -10,7 +10,7 @@ ghost use Rattle.site_core.specs.Step.{effect};
 ghost use Rattle.site_core.specs.Draft.{Basis, DraftValue};
 ghost use Rattle.site_core.specs.Differences.{IsFresh, Differs};
 ghost use Rattle.site_core.specs.Audit.{OwnAudit};
-ghost use Rattle.site_core.specs.Days.{BoundsStay, DayGoesOn, EachEventGoesOn, HoldersStay};
+ghost use Rattle.site_core.specs.Days.{BoundsStay, ClosingChangesOnlyNumbers, EventEffectIsSameNextDay, HoldersStay};
 ghost use Rattle.site_core.specs.declared.why.Why.{Why};
 
 /// Does nothing. Its contract is a law: if nothing that a draft's run depends on differs at the site now, there is no
@@ -39,15 +39,15 @@ pub fn audit_of_its_own_history()
 /// Does nothing. Its contract is a law: closing a day changes nothing but the numbers of entries. The legal histories
 /// of the next day are those by which the closed day could have gone on, and they lead to the same states. The law
 /// holds while both days together have at most 1,048,576 entries and fewer than 4,096 versions.
-pub fn day_goes_on()
-    ensures { DayGoesOn }
+pub fn closing_changes_only_numbers()
+    ensures { ClosingChangesOnlyNumbers }
 {}
 
 /// Does nothing. Its contract is a law: an event of a day has the effect that it would have had if the preceding day
 /// had gone on, however many entries the two days have. The law holds while the two days together have fewer than 4,096
 /// versions.
-pub fn each_event_goes_on()
-    ensures { EachEventGoesOn }
+pub fn event_effect_is_same_next_day()
+    ensures { EventEffectIsSameNextDay }
 {}
 
 /// Does nothing. Its contract is a law: the counters that a site leaves for the next day have the same bounds as those

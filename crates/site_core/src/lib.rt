@@ -23,7 +23,7 @@ mod why;
 pub use auditing::AuditFault;
 pub use auditor::Auditor;
 pub use config::Config;
-pub use draft::{Begin, Commit, Draft, Ready, Spent};
+pub use draft::{Begin, Commit, Draft, DraftMemory, Ready};
 pub use events::{Answered, CallFault, Event, What};
 pub use opening::{Opening, OpeningFault};
 pub use site::Site;

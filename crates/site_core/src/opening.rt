@@ -3,7 +3,7 @@
 ghost use Rattle.std.specs.Prelude.{◌≡◌, ◌≢◌, ◌↔◌, ◌≤◌, All, IfSome, IsTrue, MatchOption};
 ghost use Rattle.program_slots.specs.Slots.{IsRule};
 ghost use Rattle.site_core.specs.Opening.{HaveOwnNumbers, IsNewNumber, IsOpening};
-ghost use Rattle.site_core.specs.Fitting.{AreFew, IsFirstGrown, Misfits};
+ghost use Rattle.site_core.specs.Fitting.{AreLastNumbersWithinLimit, IsFirstLimitFault, Misfits};
 
 use crate::same::{are_same_counters, are_same_points, are_same_rules};
 use counters::Counters;
@@ -23,7 +23,7 @@ const MOST_CLEARED: u64 = 1_000_000_000_000_000_000;
 const MOST_VERSIONS: u32 = 4_290_000_000;
 
 /// Why a site can't begin with an opening: the first fault that the opening has, in the order of these cases, or that
-/// memory ran out. The text that `fmt` writes of a case says what it means.
+/// memory ran out. The text that `fmt` writes for a case explains it.
 #[derive(Clone, Copy)]
 pub enum OpeningFault {
     Points,
@@ -34,7 +34,7 @@ pub enum OpeningFault {
     Versions,
     Slots,
     Rules,
-    Twice,
+    DuplicateVersion,
     OutOfMemory,
 }
 
@@ -60,7 +60,9 @@ impl fmt::Display for OpeningFault {
             OpeningFault::Rules => f.write_str(
                 "a slot of the opening has a version that was never loaded",
             ),
-            OpeningFault::Twice => f.write_str("two slots of the opening have one version"),
+            OpeningFault::DuplicateVersion => f.write_str(
+                "two slots of the opening have one version",
+            ),
             OpeningFault::OutOfMemory => f.write_str("out of memory (S31)"),
         }
     }
@@ -114,13 +116,13 @@ impl Opening {
         if !self.prices.iter().all(|price| *price <= 9_999_999) {
             return Some(OpeningFault::Prices);
         }
-        let grown = first_grown(
+        let limit_fault = first_limit_fault(
             self.points.as_slice(),
             self.cleared,
             self.clears,
             self.versions,
         );
-        if let Some(fault) = grown {
+        if let Some(fault) = limit_fault {
             return Some(fault);
         }
         if self.rules.len() != 16 {
@@ -130,14 +132,14 @@ impl Opening {
             return Some(OpeningFault::Rules);
         }
         if !have_own_numbers(&self.rules) {
-            return Some(OpeningFault::Twice);
+            return Some(OpeningFault::DuplicateVersion);
         }
         // This read gives the prover that there are 32 counters, each within its bound.
         let _counter = self.counters.get(0);
         None
     }
 
-    // A call of this function gives the prover that there are eight prices.
+    // Returns the prices. A call of this function gives the prover that there are eight of them.
     pub(crate) fn prices(&self) -> [u32; 8]
         ensures { result ≡ self.now.prices }
     {
@@ -172,15 +174,15 @@ impl Opening {
 /// Returns the first fault that these numbers would have in an opening, in the order of `OpeningFault`, or `None` if
 /// they have none. They are the numbers that only grow: those of the points' newest transactions, the total and the
 /// count of what was cleared, and the count of versions. Allocates no memory.
-pub(crate) fn first_grown(
+pub(crate) fn first_limit_fault(
     points: &[Point],
     cleared: u64,
     clears: u64,
     versions: u32,
 ) -> Option<OpeningFault>
-    ensures { IsFirstGrown points.now cleared clears versions result }
+    ensures { IsFirstLimitFault points.now cleared clears versions result }
 {
-    if !are_few(points) {
+    if !are_last_numbers_within_limit(points) {
         return Some(OpeningFault::Transactions);
     }
     if cleared > MOST_CLEARED {
@@ -197,8 +199,8 @@ pub(crate) fn first_grown(
 
 /// Returns whether the number of each point's newest transaction is small enough for an opening: at most
 /// `MOST_TRANSACTIONS`.
-fn are_few(points: &[Point]) -> bool
-    ensures { IsTrue result ↔ AreFew points.now }
+fn are_last_numbers_within_limit(points: &[Point]) -> bool
+    ensures { IsTrue result ↔ AreLastNumbersWithinLimit points.now }
 {
     points.iter().all(|point| point.last() <= MOST_TRANSACTIONS)
 }

@@ -1,4 +1,5 @@
-//! The effects of an event: a load makes a version; a dispenser's event and a till's request change the station.
+//! The effects of an event: a load installs a program as a new version; a dispenser's event and a till's request change
+//! the station.
 
 ghost use Rattle.std.specs.Prelude.{◌≡◌, ℕ, ◌+◌, ◌<◌, IfOk, IsOk, OnErr, length, List, None, Ok, Some};
 ghost use Rattle.std.specs.Arc.{arc_value};
@@ -12,13 +13,13 @@ ghost use Rattle.program_slots.specs.Slots.{version_in};
 ghost use Rattle.program_slots.specs.Value.{Version};
 ghost use Rattle.site_core.specs.declared.question.Question.{Question as AskedQuestion};
 ghost use Rattle.site_core.specs.Draft.{routed};
-ghost use Rattle.site_core.specs.Keeping.{Agrees, Performs, Loads};
+ghost use Rattle.site_core.specs.SiteInvariant.{Agrees, Performs, Loads};
 ghost use Rattle.site_core.specs.Site.{act_of};
 ghost use Rattle.site_core.specs.Step.{effect};
 
 use crate::config::Config;
 use crate::events::{Event, What};
-use crate::question::{Asks, Question, asks_of};
+use crate::question::{Question, RequestAction, request_action};
 use crate::replies::{NO_SUCH_SLOT, NO_SUCH_TILL, VERSIONS_FULL, no_program};
 use crate::station::Station;
 use decision_journal::{Entry, Run};
@@ -28,7 +29,7 @@ use std::alloc::{AllocError, Global};
 use std::sync::Arc;
 use till_request::{Act, Bytes, Reply, Request};
 
-/// Carries out an event, and returns its entry, which has the given number. The station must be that of a site of this
+/// Carries out an event, and returns its entry, which has the given number. The station must have as many points as the
 /// configuration, and the site's history must have room for the entry. The error is that memory ran out; then the
 /// station and the slots are unchanged.
 pub fn perform(
@@ -121,8 +122,9 @@ fn load(slots: &mut Slots, slot: u32, program: Arc<Program>) -> Result<Reply, Al
     }
 }
 
-/// Carries out a till's request, and returns the reply, and the run if a program is run. The station must be as
-/// `perform` demands. The error is that memory ran out; then the station is unchanged.
+/// Carries out a till's request, and returns the reply, and the run if a program is run. The station must have as many
+/// points as the configuration, and the site's history must have room for the entry. The error is that memory ran out;
+/// then the station is unchanged.
 fn ask(
     config: &Config,
     station: &mut Station,
@@ -147,10 +149,10 @@ fn ask(
     if !config.has_till(till) {
         return Ok((NO_SUCH_TILL, None));
     }
-    match asks_of(config, &request) {
-        Asks::Decision(question) => decide(station, slots, till, moment, question),
-        Asks::Command(n, command) => Ok((station.command(till, n, command), None)),
-        Asks::Show(n) => Ok((station.show(n), None)),
+    match request_action(config, &request) {
+        RequestAction::Decision(question) => decide(station, slots, till, moment, question),
+        RequestAction::Command(n, command) => Ok((station.command(till, n, command), None)),
+        RequestAction::Show(n) => Ok((station.show(n), None)),
     }
 }
 
@@ -168,9 +170,9 @@ pub fn asked_question(
     if !config.has_till(till) {
         return None;
     }
-    match asks_of(config, request) {
-        Asks::Decision(question) => station.admitted(question).ok(),
-        Asks::Command(_, _) | Asks::Show(_) => None,
+    match request_action(config, request) {
+        RequestAction::Decision(question) => station.admitted(question).ok(),
+        RequestAction::Command(_, _) | RequestAction::Show(_) => None,
     }
 }
 
@@ -182,9 +184,9 @@ pub fn routed(config: &Config, station: &Station, till: u32, request: &Request) 
     if !config.has_till(till) {
         return None;
     }
-    match asks_of(config, request) {
-        Asks::Decision(question) => station.routed(question),
-        Asks::Command(_, _) | Asks::Show(_) => None,
+    match request_action(config, request) {
+        RequestAction::Decision(question) => station.routed(question),
+        RequestAction::Command(_, _) | RequestAction::Show(_) => None,
     }
 }
 
@@ -230,5 +232,8 @@ fn decide(
         context,
         counts,
     };
-    Ok((station.settle(till, &question, version, r0), Some(run)))
+    Ok((
+        station.apply_answer(till, &question, version, r0),
+        Some(run),
+    ))
 }

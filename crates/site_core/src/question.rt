@@ -1,7 +1,7 @@
 //! What a till's request leads to: a question to a program, a command to a point, or a reply that shows a point.
 
 ghost use Rattle.std.specs.Prelude.{◌≡◌};
-ghost use Rattle.site_core.specs.Decide.{asks_of};
+ghost use Rattle.site_core.specs.Decide.{request_action};
 
 use crate::config::Config;
 use fuelling_point::Command;
@@ -30,7 +30,7 @@ pub struct Question {
 /// What a request leads to: a question to a program, a command to the point of this number, or a reply that shows the
 /// point of this number.
 #[derive(Clone, Copy)]
-pub enum Asks {
+pub enum RequestAction {
     Decision(Question),
     Command(u32, Command),
     Show(u32),
@@ -38,39 +38,39 @@ pub enum Asks {
 
 /// Returns what a till's request leads to at a site of this configuration. Doesn't check whether the request's point or
 /// product exists.
-pub fn asks_of(config: &Config, request: &Request) -> Asks
-    ensures { result ≡ asks_of config.now request.now }
+pub fn request_action(config: &Config, request: &Request) -> RequestAction
+    ensures { result ≡ request_action config.now request.now }
 {
     match *request {
-        Request::Release(point, asked) => Asks::Decision(Question {
+        Request::Release(point, asked) => RequestAction::Decision(Question {
             kind: Kind::Release,
             point,
             product: 0,
             asked,
             slot: config.release_slot(point),
         }),
-        Request::Preset(point, asked) => Asks::Decision(Question {
+        Request::Preset(point, asked) => RequestAction::Decision(Question {
             kind: Kind::Preset,
             point,
             product: 0,
             asked,
             slot: config.preset_slot(point),
         }),
-        Request::Price(product, asked) => Asks::Decision(Question {
+        Request::Price(product, asked) => RequestAction::Decision(Question {
             kind: Kind::Price,
             point: 0,
             product,
             asked,
             slot: config.price_slot(),
         }),
-        Request::OpenPoint(n) => Asks::Command(n, Command::OpenPoint),
-        Request::ClosePoint(n) => Asks::Command(n, Command::ClosePoint),
-        Request::Suspend(n) => Asks::Command(n, Command::Suspend),
-        Request::Resume(n) => Asks::Command(n, Command::Resume),
-        Request::Stop(n) => Asks::Command(n, Command::Stop),
-        Request::Lock(n, number) => Asks::Command(n, Command::Lock(number)),
-        Request::Unlock(n, number) => Asks::Command(n, Command::Unlock(number)),
-        Request::Clear(n, number) => Asks::Command(n, Command::Clear(number)),
-        Request::Show(n) => Asks::Show(n),
+        Request::OpenPoint(n) => RequestAction::Command(n, Command::OpenPoint),
+        Request::ClosePoint(n) => RequestAction::Command(n, Command::ClosePoint),
+        Request::Suspend(n) => RequestAction::Command(n, Command::Suspend),
+        Request::Resume(n) => RequestAction::Command(n, Command::Resume),
+        Request::Stop(n) => RequestAction::Command(n, Command::Stop),
+        Request::Lock(n, number) => RequestAction::Command(n, Command::Lock(number)),
+        Request::Unlock(n, number) => RequestAction::Command(n, Command::Unlock(number)),
+        Request::Clear(n, number) => RequestAction::Command(n, Command::Clear(number)),
+        Request::Show(n) => RequestAction::Show(n),
     }
 }

@@ -70,7 +70,8 @@ pub fn event_reply(outcome: Result<Option<Order>, PointFault>) -> Reply
     }
 }
 
-/// Returns the reply to a till or a dispenser whose command or event a point refused.
+/// Returns the refusal with which the site replies to a till's command or a dispenser's event, if the point refused it
+/// for this reason.
 pub fn fault_reply(fault: PointFault) -> Reply
     ensures { result ≡ fault_reply fault }
 {

@@ -19,7 +19,7 @@ pub fn seen(point: &Point) -> PointView
 }
 
 /// Sets `place` to `now`. Writes nothing if both are the same, so that other cores keep their cached copies of `place`.
-pub fn renew(place: &mut PointView, now: PointView)
+pub fn set_if_changed(place: &mut PointView, now: PointView)
     ensures { place.new ≡ now }
 {
     if *place != now {
@@ -27,7 +27,7 @@ pub fn renew(place: &mut PointView, now: PointView)
     }
 }
 
-/// Returns what programs can see of these points, of which there must be at most 32. The places behind the last point
+/// Returns what programs can see of these points, of which there must be at most 32. The places after the last point
 /// have zeros.
 pub fn seen_points(points: &[Point]) -> [PointView; 32]
     requires { length points.now ≤ POINTS }

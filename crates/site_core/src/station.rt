@@ -9,23 +9,23 @@ ghost use Rattle.bpf_model.specs.Runs.{Ended};
 ghost use Rattle.bpf_model.specs.Program.{outcome};
 ghost use Rattle.bpf_model.specs.declared.limits.TheConstants.{POINTS};
 ghost use Rattle.site_core.specs.Bounds.{Bounded, HasRoom};
-ghost use Rattle.site_core.specs.Context.{context, fields, product_of, told};
+ghost use Rattle.site_core.specs.Context.{context, fields, product_of, field_or_zero};
 ghost use Rattle.site_core.specs.Asked.{FitsContext};
-ghost use Rattle.site_core.specs.Decide.{replied, counts, grant, WellAsked, admitted, asked_at_point};
+ghost use Rattle.site_core.specs.Decide.{replied, counts, grant, HasPointOrValidPrice, admitted, asked_at_point};
 ghost use Rattle.site_core.specs.Draft.{routed_to};
-ghost use Rattle.site_core.specs.declared.question.Asks.TheVariants as Asks;
-ghost use Rattle.site_core.specs.Keeping.{settled, with_counters};
-ghost use Rattle.site_core.specs.Step.{commanded, reported, show_reply};
+ghost use Rattle.site_core.specs.declared.question.RequestAction.TheVariants as RequestAction;
+ghost use Rattle.site_core.specs.SiteInvariant.{applied_answer, with_counters};
+ghost use Rattle.site_core.specs.Step.{till_command_effect, dispenser_effect, show_reply};
 ghost use Rattle.interp.specs.Depends.{Agrees};
 ghost use Rattle.fuelling_point.specs.States.{state_number};
 
 use crate::config::Config;
 use crate::context::{Field, kind_number, lay};
-use crate::decision::{asked_at, command_of, granted_point, note_counts, price_at};
+use crate::decision::{asked_at, command_of, granted_amount, note_counts, price_at};
 use crate::opening::Opening;
 use crate::question::{Kind, Question};
 use crate::replies::{NO_SUCH_POINT, denied, event_reply, fault_reply};
-use crate::seeing::{renew, seen, seen_points};
+use crate::seeing::{seen, seen_points, set_if_changed};
 use bpf_model::context::{Context, Layout};
 use counters::Counters;
 use decision_journal::Counts;
@@ -146,7 +146,7 @@ impl Station {
     pub fn command(&mut self, till: u32, n: u32, command: Command) -> Reply
         requires bounded { HasRoom self.old }
         requires till { 0 < till }
-        ensures effect { commanded self.old till n command ≡ replied result self.new }
+        ensures effect { till_command_effect self.old till n command ≡ replied result self.new }
         ensures bounded { (k : ℕ) → Bounded k self.old → Bounded (k + 1) self.new }
         ensures points { length self.new.points ≡ length self.old.points }
     {
@@ -155,7 +155,7 @@ impl Station {
         }
         let point = &mut self.points[n as usize - 1];
         let outcome = point.on_command(till, command);
-        renew(&mut self.view.points[n as usize - 1], seen(point));
+        set_if_changed(&mut self.view.points[n as usize - 1], seen(point));
         match outcome {
             Err(fault) => fault_reply(fault),
             Ok(None) => Reply::Done,
@@ -172,7 +172,7 @@ impl Station {
     /// changes nothing. The site's history must have room for the event's entry.
     pub fn report(&mut self, n: u32, event: DispenserEvent) -> Reply
         requires { HasRoom self.old }
-        ensures effect { reported self.old n event ≡ replied result self.new }
+        ensures effect { dispenser_effect self.old n event ≡ replied result self.new }
         ensures bounded { (k : ℕ) → Bounded k self.old → Bounded (k + 1) self.new }
         ensures points { length self.new.points ≡ length self.old.points }
     {
@@ -181,7 +181,7 @@ impl Station {
         }
         let point = &mut self.points[n as usize - 1];
         let outcome = point.on_event(event);
-        renew(&mut self.view.points[n as usize - 1], seen(point));
+        set_if_changed(&mut self.view.points[n as usize - 1], seen(point));
         event_reply(outcome)
     }
 
@@ -205,7 +205,7 @@ impl Station {
         }
     }
 
-    /// Returns the point of this number, counted from 1, if there is one.
+    /// Returns the point of this number, counted from 1, or `None` if there is no such point.
     pub fn point(&self, n: u32) -> Option<&Point>
         ensures { option_copied result ≡ at_number self.now.points n }
     {
@@ -215,11 +215,11 @@ impl Station {
         self.points.get(n as usize - 1)
     }
 
-    /// Checks a question in the current state, and returns it. The error is the reply that refuses the question before
-    /// a program is run: that of `price_at` for a price change, else that of `asked_at_point`.
+    /// Returns the question if a program can be asked it in the current state. Otherwise the error is the refusal: that
+    /// of `price_at` for a price change, that of `asked_at_point` for a release or a preset.
     pub fn admitted(&self, question: Question) -> Result<Question, Reply>
         ensures question { result ≡ admitted self.now question }
-        ensures asked { IfOk result (λ q. WellAsked self.now q) }
+        ensures asked { IfOk result (λ q. HasPointOrValidPrice self.now q) }
     {
         match question.kind {
             Kind::Price => price_at(self.first_busy(), question),
@@ -227,11 +227,12 @@ impl Station {
         }
     }
 
-    /// Checks the question of a release or a preset in the current state, and returns it. The error is the reply that
-    /// refuses the question before a program is run: S20 if there is no such point, else that of `asked_at`.
+    /// Checks the question of a release or a preset in the current state, and returns it. The error is the refusal: S20
+    /// if there is no such point, else S25 for an amount out of range, else S22 if the point isn't ready, else S26 for
+    /// a release at a point with two unpaid transactions.
     fn asked_at_point(&self, question: Question) -> Result<Question, Reply>
         ensures question { result ≡ asked_at_point self.now question }
-        ensures asked { IfOk result (λ q. WellAsked self.now q) }
+        ensures asked { IfOk result (λ q. HasPointOrValidPrice self.now q) }
     {
         match self.point(question.point) {
             None => Err(NO_SUCH_POINT),
@@ -239,11 +240,11 @@ impl Station {
         }
     }
 
-    /// Returns the question, even if the current state refuses it; `None` if it is about a point that the site doesn't
-    /// have.
+    /// Returns the question without checking whether the current state refuses it. Returns `None` for a release or a
+    /// preset at a point that the site doesn't have.
     #[tactic(auto, unfolding(crate::specs::Draft::at_point))]
     pub fn routed(&self, question: Question) -> Option<Question>
-        ensures { result ≡ routed_to self.now (Asks.Decision question) }
+        ensures { result ≡ routed_to self.now (RequestAction.Decision question) }
     {
         match question.kind {
             Kind::Price => Some(question),
@@ -254,7 +255,7 @@ impl Station {
         }
     }
 
-    /// Returns the state of the first point that has a delivery authorised or under way, if there is one.
+    /// Returns the state of the first point that has a delivery authorised or under way, or `None` if no point has one.
     #[tactic(auto, unfolding(crate::specs::State::first_busy))]
     fn first_busy(&self) -> Option<State>
         ensures { result ≡ first_busy self.now }
@@ -304,10 +305,10 @@ impl Station {
         }
     }
 
-    /// Returns what a program's helpers can look up.
+    /// Returns what a program's helpers can look up: the points and the prices.
     pub fn view(&self) -> &View
         ensures view { result.now ≡ view_of self.now }
-        ensures few { length self.now.points ≤ POINTS }
+        ensures within_point_limit { length self.now.points ≤ POINTS }
     {
         &self.view
     }
@@ -343,7 +344,8 @@ impl Station {
         &self.counters
     }
 
-    /// Makes the context, in this layout, that a program is run on for a question.
+    /// Makes the context (the bytes that a program is run on) for a question, in this layout: 64 bytes in layout one,
+    /// 80 bytes in layout two.
     #[inline(always)]
     pub fn context(&self, layout: Layout, till: u32, moment: u64, question: &Question) -> Context
         ensures context { result ≡ context layout self.now till moment question.now }
@@ -371,7 +373,7 @@ impl Station {
         ensures fields { result ≡ fields Layout.Two self.now till moment question.now }
         ensures fits { FitsContext self.now question.now }
     {
-        let (state, nozzle, unpaid) = self.told_of(question.point);
+        let (state, nozzle, unpaid) = self.point_fields(question.point);
         let product = self.product_of(question);
         [
             Field::Four(till),
@@ -400,7 +402,7 @@ impl Station {
     {
         match question.kind {
             Kind::Price => question.product,
-            Kind::Release | Kind::Preset => self.told_of(question.point).1,
+            Kind::Release | Kind::Preset => self.point_fields(question.point).1,
         }
     }
 
@@ -410,7 +412,8 @@ impl Station {
     /// station is unchanged. For a program that declares no counter there is no error.
     pub fn run(&mut self, program: &Program, given: &Context) -> Result<(u64, Counts), AllocError>
         requires { layout_of given.now ≡ program.now.layout }
-        ensures ran { IfOk result (λ r. outcome program.now (bytes_of given.now) (view_of self.old) self.old.counters
+        ensures run_result { IfOk result (λ r. outcome program.now (bytes_of given.now) (view_of self.old)
+            self.old.counters
             ≡ Ended r.0 self.new.counters) }
         ensures noted { IfOk result (λ r. r.1 ≡ counts program.now.declared self.old.counters self.new.counters) }
         ensures rest { self.new ≡ with_counters self.old self.new.counters }
@@ -448,9 +451,10 @@ impl Station {
     ) -> Result<Counts, AllocError>
         requires layout { layout_of given.now ≡ program.now.layout }
         requires agree { Agrees program.now.declared before.now self.old.counters }
-        ensures ran { OnOk result ((r0 : ℕ)
+        ensures run_result { OnOk result ((r0 : ℕ)
             → outcome program.now (bytes_of given.now) (view_of self.old) before.now ≡ Ended r0 after.now
-            → outcome program.now (bytes_of given.now) (view_of self.old) self.old.counters ≡ Ended r0 self.new.counters) }
+            → outcome program.now (bytes_of given.now) (view_of self.old) self.old.counters
+            ≡ Ended r0 self.new.counters) }
         ensures noted { IfOk result (λ noted. noted ≡ counts program.now.declared self.old.counters self.new.counters) }
         ensures rest { self.new ≡ with_counters self.old self.new.counters }
         ensures unchanged { OnErr result (self.new ≡ self.old) }
@@ -468,14 +472,14 @@ impl Station {
 
     /// Carries out the answer `r0` of a program to a question, and returns the reply. The answer 0 is a denial: the
     /// reply is S24, and nothing changes. For any other answer `grant` is called, and the reply is `Granted` with what
-    /// was granted. `version` is the number of the program's version, which both replies name. The question must be one
-    /// that `admitted` accepts in the current state, and `till` must be at least 1. The site's history must have room
-    /// for the request's entry.
-    pub fn settle(&mut self, till: u32, question: &Question, version: u32, r0: u64) -> Reply
+    /// was granted. `version` is the number of the program's version, which both replies name. The question's point
+    /// must exist, or its product must be 1 to 8 and its price at most 9,999,999. `till` must be at least 1. The site's
+    /// history must have room for the request's entry.
+    pub fn apply_answer(&mut self, till: u32, question: &Question, version: u32, r0: u64) -> Reply
         requires bounded { HasRoom self.old }
         requires till { 0 < till }
-        requires asked { WellAsked self.old question.now }
-        ensures settled { settled self.old till question.now version r0 ≡ (result, self.new) }
+        requires asked { HasPointOrValidPrice self.old question.now }
+        ensures applied_answer { applied_answer self.old till question.now version r0 ≡ (result, self.new) }
         ensures bounded { (k : ℕ) → Bounded k self.old → Bounded (k + 1) self.new }
         ensures points { length self.new.points ≡ length self.old.points }
     {
@@ -485,14 +489,14 @@ impl Station {
         Reply::Granted(self.grant(till, question, r0), version)
     }
 
-    /// Grants what is asked: gives the point its command, or sets the price. Of an amount it grants at most `r0`, the
-    /// program's answer, and for a release also at most the point's preset, if the point has one. A price is granted as
-    /// it is asked. Returns what was granted: cents, or thousandths for a price. The same must hold of the arguments as
-    /// for `settle`.
+    /// Grants what is asked: gives the point its command, or sets the price if there is no such point. Of an amount it
+    /// grants at most `r0`, the program's answer, and for a release also at most the point's preset, if the point has
+    /// one. A price is granted as it is asked. Returns what was granted: cents, or thousandths for a price. The
+    /// arguments must be as for `apply_answer`.
     fn grant(&mut self, till: u32, question: &Question, r0: u64) -> u64
         requires bounded { HasRoom self.old }
         requires till { 0 < till }
-        requires asked { WellAsked self.old question.now }
+        requires asked { HasPointOrValidPrice self.old question.now }
         ensures grant { grant self.old till question.now r0 ≡ (result, self.new) }
         ensures bounded { (k : ℕ) → Bounded k self.old → Bounded (k + 1) self.new }
         ensures points { length self.new.points ≡ length self.old.points }
@@ -503,18 +507,18 @@ impl Station {
             return question.asked;
         }
         let point = &mut self.points[n as usize - 1];
-        let granted = granted_point(question.kind, question.asked, r0, point.preset());
+        let granted = granted_amount(question.kind, question.asked, r0, point.preset());
         let _ = point.on_command(till, command_of(question.kind, granted));
-        renew(&mut self.view.points[n as usize - 1], seen(point));
+        set_if_changed(&mut self.view.points[n as usize - 1], seen(point));
         granted
     }
 
     /// Returns the numbers of the state and of the lifted nozzle (0 for none) of point `n`, counted from 1, and how
     /// many of its transactions are unpaid. All three are 0 if there is no such point.
-    fn told_of(&self, n: u32) -> (u32, u32, u32)
-        ensures state { result.0 ≡ told (at_number self.now.points n) (λ p. state_number p.state) }
-        ensures nozzle { result.1 ≡ told (at_number self.now.points n) (λ p. p.nozzle) }
-        ensures unpaid { result.2 ≡ told (at_number self.now.points n) (λ p. length p.unpaid) }
+    fn point_fields(&self, n: u32) -> (u32, u32, u32)
+        ensures state { result.0 ≡ field_or_zero (at_number self.now.points n) (λ p. state_number p.state) }
+        ensures nozzle { result.1 ≡ field_or_zero (at_number self.now.points n) (λ p. p.nozzle) }
+        ensures unpaid { result.2 ≡ field_or_zero (at_number self.now.points n) (λ p. length p.unpaid) }
     {
         match self.point(n) {
             None => (0, 0, 0),

@@ -1,7 +1,7 @@
-//! The reasons why a decision that was run outside the site isn't entered.
+//! Why the history gets no entry for a decision whose program was run outside the site.
 
-/// Why a run can't be entered: the first difference between the site now and the draft that was run. The cases are in
-/// the order in which the differences are looked for.
+/// Why a run can't be entered in the history: the first difference between the site as it is now and the draft (a copy
+/// of what the run read). The cases are in the order in which the differences are looked for.
 #[derive(Clone, Copy, PartialEq)]
 pub enum Why {
     /// The slot has another version now, whose number is given. `None` if the slot has no version, or if the site
@@ -19,10 +19,10 @@ pub enum Why {
     Counter(u32, u64),
 }
 
-/// Why no entry was made for a run: something that the run depends on has changed since its draft was made (`Stale`),
-/// or memory ran out.
+/// Why no entry was made for a run. `Stale`: something that the run depends on has changed since its draft was made.
+/// `OutOfMemory`: nothing has changed, but memory ran out.
 #[derive(Drop)]
-pub enum Unsettled {
+pub enum CommitFault {
     Stale(Why),
     OutOfMemory,
 }

@@ -1,4 +1,4 @@
--- The day in a file's name, by what is before and after the first `.` of the name.
+-- The day that a file's name stands for: the part before its first `.` spells it, and the part after is the ending.
 use Rattle.std.proofs.Common.{◌≡◌, ℕ, ◌+◌, List, [], length, true, false, None, ap, ◌∙◌, sym, arith, if◌then◌else◌}
 use Rattle.std.proofs.lemmas.List.{drop_all}
 use Rattle.std.specs.List.{before_first, after_first, position_or_len}

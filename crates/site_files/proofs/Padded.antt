@@ -1,4 +1,4 @@
--- A number in six digits, as `{day:06}` writes it.
+-- A day's number in at least six digits, as `{day:06}` writes it.
 use Rattle.std.proofs.Common.{◌≡◌, ℕ, ◌-◌, ◌^◌, [], ◌++◌, length, false, decimal, replicate, ap, ◌∙◌, arith, append-nil}
 use Rattle.std.specs.Fmt.{padded_integral, format_spec, char_count}
 use Rattle.site_files.specs.Days.{six_digits}

@@ -1,4 +1,5 @@
--- Definitions: what the words of a job name (this profile).
+-- Definitions: whether an argument of a command line names standard input, and what messages call the file that it
+-- names (this profile).
 use Rattle.std.specs.Prelude.{ℕ, List, codes, Bool, false, ◌&&◌, ◌||◌, Option, Some, None, bytes_eq, if◌then◌else◌}
 
 -- whether an argument names standard input
@@ -14,8 +15,8 @@ may_be_input (Some word) = is_input word
 abbrev pub name_of : List ℕ → List ℕ
 name_of word = if is_input word then codes "standard input" else word
 
--- whether two of the three files of a job are standard input: the configuration, the opening, if there is one, and the
--- file that the job is about
+-- Whether two or all three of a job's files are standard input. The arguments name the configuration, the opening (if
+-- there is one), and the file that the job is about.
 abbrev pub reads_twice : List ℕ → Option (List ℕ) → List ℕ → Bool
 reads_twice config opening other =
     (is_input other && (is_input config || may_be_input opening)) || (is_input config && may_be_input opening)

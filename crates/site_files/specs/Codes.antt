@@ -1,5 +1,5 @@
--- Definitions: the number that is printed for a fault, as in `K1`, and the words that are printed with it (this
--- profile). The number is None for the fault that memory ran out, which has no number.
+-- Definitions: the number that is printed for a fault, such as `K1`, and the words that are printed with it (this
+-- profile). The fault that memory ran out has no number: None, or no bytes in `opening_words`.
 use Rattle.std.specs.Prelude.{ℕ, ◌==◌, List, [], codes, count_by, nat_le, Option, Some, None, if◌then◌else◌}
 use Rattle.site_config.specs.declared.fault.ConfigFault.{ConfigFault}
 use Rattle.site_config.specs.declared.fault.ConfigFault.TheVariants as config
@@ -29,23 +29,24 @@ journal_code (flaw.Program slot refused) = Some (codes "F2")
 journal_code (flaw.Entry difference) = Some (codes "F3")
 journal_code flaw.NoEntry = Some (codes "F3")
 
--- the system's error that is printed in place of a journal's fault: that of the last failed read, if the fault is that
--- a read failed
+-- The second argument, the system's error of the last failed read, if the fault is that a read failed. None for other
+-- faults.
 abbrev pub device_error : {T : Type 0} → JournalFault → Option T → Option T
 device_error (journal.BadEntry line) failure = None
 device_error journal.Cut failure = None
 device_error journal.Device failure = failure
 device_error journal.OutOfMemory failure = None
 
--- What is wrong with the line of this number, counted from 1, of a text that is no opening: the line itself, or that
--- the text has fewer lines that end with LF.
+-- What is printed about the line of this number (counted from 1) when the text isn't an opening:
+-- - if the text has at least this many LFs: that the line is no line of an opening
+-- - or else: that the text ends too early
 abbrev pub bad_line : List ℕ → ℕ → List ℕ
 bad_line text number =
     if nat_le number (count_by (λ byte. byte == 10) text) then codes "no line of an opening"
     else codes "the opening ends before its line 'journal'"
 
--- The words and the number that are printed for a flaw of an opening. For a refused program the words are empty, since
--- others are printed. If memory ran out, the words and the number are empty.
+-- The words and the number that are printed for a flaw of an opening. Both are empty if memory ran out. For a refused
+-- program, the words are empty: other words are printed.
 abbrev pub opening_words : List ℕ → OpeningFlaw → List ℕ × List ℕ
 opening_words text (opening.BadLine line) = (bad_line text line, codes "J1")
 opening_words text (opening.CutLine line) = (codes "the last line has no LF", codes "J2")

@@ -1,5 +1,5 @@
--- Definitions: the names of a day's files, the days that a folder has, and how a day begins (this profile). The names
--- have the day's number in six digits, with zeros in front where needed, or in more without a zero in front.
+-- Definitions: the names of a day's files, the days that a folder has, and how a day begins (this profile). A file's
+-- name begins with the day's number: six digits, such as `000002`, or more if the number needs more.
 use Rattle.std.specs.Prelude.{◌≡◌, ℕ, ◌+◌, ◌-◌, ◌==◌, ◌||◌, List, [], ◌∷◌, ◌++◌, length, codes, decimal, replicate, min, max, nat_lt, Bool, Option, Some, None, bytes_eq, if◌then◌else◌}
 use Rattle.std.specs.List.{before_first, after_first}
 use Rattle.std.specs.Result.{result_ok}
@@ -11,8 +11,8 @@ use Rattle.days.specs.Fitting.{BeginsWith}
 use Rattle.site_files.specs.declared.folder.Part.{Part}
 use Rattle.site_files.specs.declared.folder.Part.TheVariants as part
 use Rattle.site_files.specs.declared.folder.Span.{Span}
-use Rattle.site_files.specs.declared.newest.Going.{Going}
-use Rattle.site_files.specs.declared.newest.Going.TheVariants as going
+use Rattle.site_files.specs.declared.newest.DayToServe.{DayToServe}
+use Rattle.site_files.specs.declared.newest.DayToServe.TheVariants as going
 
 abbrev pub ending_of : Part → List ℕ
 ending_of part.Config = codes "toml"
@@ -31,14 +31,14 @@ abbrev pub without_zeros : List ℕ → List ℕ
 without_zeros [] = []
 without_zeros (digit ∷ digits) = if digit == 48 then without_zeros digits else digit ∷ digits
 
--- The day's number that these digits spell in a name: six digits, or more without a zero in front. None if they spell
--- none, or if the number is 0 or isn't below 2^32.
+-- The day's number that these digits spell in a file's name: six digits, or more without a zero in front. None for
+-- anything else, and if the number is 0 or isn't below 2^32.
 abbrev pub day_of : List ℕ → Option ℕ
 day_of digits =
     if length digits == 6 then result_ok (number 32 (without_zeros digits))
     else (if nat_lt 6 (length digits) then result_ok (number 32 digits) else None)
 
--- whether a file with this ending shows that there is a day: a journal or an opening does
+-- whether this is the ending of a journal or of an opening
 abbrev pub shows_day : List ℕ → Bool
 shows_day ending = bytes_eq ending (ending_of part.Journal) || bytes_eq ending (ending_of part.Opening)
 
@@ -49,13 +49,15 @@ is_dot byte = byte == 46
 unfoldable pub day_named : List ℕ → Option ℕ
 day_named name = if shows_day (after_first is_dot name) then day_of (before_first is_dot name) else None
 
--- with which day a station goes on: `With` the newest of its folder, or `Behind` the newest if a new day is asked for:
--- with the day after it, unless the newest has no entry; `With` day 1 if the folder has no day
-abbrev pub going_on : Option Span → Bool → Going
-going_on None is_new = going.With 1
-going_on (Some span) is_new = if is_new then going.Behind span.newest else going.With span.newest
+-- The day with which a station goes on:
+-- - `This` day 1 if its folder has no day
+-- - `After` the newest day if a new day is asked for (if the newest day has no entry, the station goes on with it)
+-- - or else `This` the newest day
+abbrev pub day_to_serve : Option Span → Bool → DayToServe
+day_to_serve None is_new = going.This 1
+day_to_serve (Some span) is_new = if is_new then going.After span.newest else going.This span.newest
 
--- a folder's oldest and newest day once this day is added to the days that it had
+-- the oldest and the newest day of a folder once this day is added; None stands for a folder without a day
 abbrev pub with_day : Option Span → ℕ → Span
 with_day None day = record { oldest = day; newest = day }
 with_day (Some span) day = record { oldest = min span.oldest day; newest = max span.newest day }
@@ -64,7 +66,7 @@ abbrev pub with_found : Option Span → Option ℕ → Option Span
 with_found span None = span
 with_found span (Some day) = Some (with_day span day)
 
--- the day after this one, or None if that would be after the newest
+-- the first number plus 1, or None if the first number isn't below the second (the newest day)
 abbrev pub day_after : ℕ → ℕ → Option ℕ
 day_after day newest = if nat_lt day newest then Some (day + 1) else None
 

@@ -1,6 +1,8 @@
--- Definitions: with which status a job stops, and with which a file of a site is refused (this profile). Status 0 says
--- that the job was done, 1 that the input was refused, 2 that the words name no job that can be done, and 3 that a
--- device failed, or memory or reads ran out.
+-- Definitions: the exit statuses of jobs (this profile).
+-- - 0: the job was done
+-- - 1: the input was refused
+-- - 2: the command line names no job that can be done
+-- - 3: a file or another device couldn't be used, the next day had begun already, or memory or reads ran out
 use Rattle.std.specs.Prelude.{◌≡◌, ◌⊎◌, ℕ, ⊤, Bool, true, false, Result, Ok, Err, if◌then◌else◌}
 use Rattle.site_core.specs.declared.opening.OpeningFault.{OpeningFault}
 use Rattle.site_core.specs.declared.opening.OpeningFault.TheVariants as fault
@@ -10,44 +12,42 @@ use Rattle.days.specs.declared.file.Uncarried.{Uncarried}
 use Rattle.days.specs.declared.file.Uncarried.TheVariants as uncarried
 use Rattle.days.specs.declared.beginning.Unfit.{Unfit}
 use Rattle.days.specs.declared.beginning.Unfit.TheVariants as unfit
-use Rattle.site_files.specs.declared.stop.Stop.{Stop}
-use Rattle.site_files.specs.declared.stop.Stop.TheVariants as stop
+use Rattle.site_files.specs.declared.job_error.JobError.{JobError}
+use Rattle.site_files.specs.declared.job_error.JobError.TheVariants as job_error
 
 -- a job's exit status after a print: the given status if the print succeeded, or 3 if it failed
 abbrev pub once_printed : {T E : Type 0} → Result T E → ℕ → ℕ
 once_printed (Ok printed) status = status
 once_printed (Err error) status = 3
 
--- The job's exit status, the second number, is the first one, or 3 because standard output can't be written or memory
--- ran out.
+-- The second number, a job's exit status, is the first number, or 3, which stands for a failure.
 abbrev pub EndsWith : ℕ → ℕ → Type 0
-EndsWith status told = (told ≡ status) ⊎ (told ≡ 3)
+EndsWith status actual = (actual ≡ status) ⊎ (actual ≡ 3)
 
--- The stop is `Failed`: its error isn't printed yet.
-abbrev pub IsFailed : Stop → Type 0
-IsFailed (stop.Said status) = ⊥
-IsFailed (stop.Failed error) = ⊤
+-- The job's error is `Failed`: its reason isn't printed yet.
+abbrev pub IsFailed : JobError → Type 0
+IsFailed (job_error.AlreadyReported status) = ⊥
+IsFailed (job_error.Failed error) = ⊤
 
--- The reason was printed, and the job ends with this status, or with 3 since standard output can't be written.
-abbrev pub Says : ℕ → Stop → Type 0
-Says status (stop.Said told) = EndsWith status told
-Says status (stop.Failed error) = ⊥
+-- The job's error is `AlreadyReported`, with this status or with 3.
+abbrev pub IsReported : ℕ → JobError → Type 0
+IsReported status (job_error.AlreadyReported actual) = EndsWith status actual
+IsReported status (job_error.Failed error) = ⊥
 
--- The reason was printed, and the job ends with this status or with 3. Or the stop is `Failed`: its error isn't printed
--- yet.
-abbrev pub SaysOrFails : ℕ → Stop → Type 0
-SaysOrFails status (stop.Said told) = EndsWith status told
-SaysOrFails status (stop.Failed error) = ⊤
+-- The job's error is `AlreadyReported`, with this status or with 3, or it is `Failed`.
+abbrev pub IsReportedOrFailed : ℕ → JobError → Type 0
+IsReportedOrFailed status (job_error.AlreadyReported actual) = EndsWith status actual
+IsReportedOrFailed status (job_error.Failed error) = ⊤
 
--- The stop is `Said` with status 3, or `Failed`, whose error isn't printed yet and ends the job with status 3.
-abbrev pub Fails : Stop → Type 0
-Fails (stop.Said told) = told ≡ 3
-Fails (stop.Failed error) = ⊤
+-- The job's error is `AlreadyReported` with status 3, or it is `Failed`.
+abbrev pub Fails : JobError → Type 0
+Fails (job_error.AlreadyReported actual) = actual ≡ 3
+Fails (job_error.Failed error) = ⊤
 
--- a stop once its reason is printed: with status 3 if nothing was printed before
-abbrev pub once_said : Stop → Stop
-once_said (stop.Said status) = stop.Said status
-once_said (stop.Failed error) = stop.Said 3
+-- the job's error once its reason is printed: `Failed` becomes `AlreadyReported` with status 3
+abbrev pub once_reported : JobError → JobError
+once_reported (job_error.AlreadyReported status) = job_error.AlreadyReported status
+once_reported (job_error.Failed error) = job_error.AlreadyReported 3
 
 -- whether a fault of an opening is that memory ran out
 abbrev pub is_out_of_memory : OpeningFault → Bool
@@ -57,21 +57,22 @@ is_out_of_memory _ = false
 abbrev pub opening_status : OpeningFault → ℕ
 opening_status fault = if is_out_of_memory fault then 3 else 1
 
--- the status for an opening that doesn't fit its configuration
+-- the exit status if no site of a configuration can begin with an opening: 3 if memory ran out, or else 1
 abbrev pub unfit_status : Unfit → ℕ
 unfit_status (unfit.Misfit misfit) = 1
 unfit_status (unfit.Fault fault) = opening_status fault
 
--- the status for a day that can't leave an opening
+-- the exit status if no opening can be made at the end of a day: 3 if memory ran out, or else 1
 abbrev pub uncarried_status : Uncarried → ℕ
 uncarried_status uncarried.LastDay = 1
 uncarried_status (uncarried.Fault fault) = opening_status fault
 
--- What the job's stop can be if the text of an opening has this flaw: `Said` with status 1, or with 3 because standard
--- output can't be written or memory ran out. For a refused program it can also be `Failed`: memory can run out while
--- that is printed.
-abbrev pub RefusesOpening : OpeningFlaw → Stop → Type 0
-RefusesOpening (flaw.BadLine line) told = Says 1 told
-RefusesOpening (flaw.CutLine line) told = Says 1 told
-RefusesOpening (flaw.BadProgram line refusal) told = SaysOrFails 1 told
-RefusesOpening flaw.OutOfMemory told = told ≡ stop.Said 3
+-- The job's error if the text of an opening has this flaw:
+-- - a bad line, or a last line without LF: `AlreadyReported` with status 1 or 3
+-- - a refused program: `AlreadyReported` with status 1 or 3, or `Failed`
+-- - memory ran out: `AlreadyReported` with status 3
+abbrev pub RefusesOpening : OpeningFlaw → JobError → Type 0
+RefusesOpening (flaw.BadLine line) actual = IsReported 1 actual
+RefusesOpening (flaw.CutLine line) actual = IsReported 1 actual
+RefusesOpening (flaw.BadProgram line refusal) actual = IsReportedOrFailed 1 actual
+RefusesOpening flaw.OutOfMemory actual = actual ≡ job_error.AlreadyReported 3

@@ -1,6 +1,5 @@
-//! Messages on standard error about what is refused and what fails: one line each, mostly with the file and the place
-//! in it. If such a line can't be written, the exit status stays the same. Also what is printed on standard output with
-//! an exit status, which is `FAILED` if it can't be written.
+//! Prints messages about refusals and failures on standard error, and texts and fault numbers on standard output. The
+//! exit status is `FAILED` if standard output can't be written. A failed write to standard error is ignored.
 ghost use Rattle.std.specs.Prelude.{◌≡◌, ◌≢◌, None, Some, IfSome, IfNone, option_map, codes};
 ghost use Rattle.site_files.specs.Statuses.{once_printed, EndsWith};
 ghost use Rattle.site_files.specs.Asked.{name_of};
@@ -87,22 +86,22 @@ impl Display for Place<'_> {
 }
 
 /// Prints a message on standard error, after the name of the program.
-pub fn tell<D: Display>(rt: &HostRuntime, words: &D) {
+pub fn print_message<D: Display>(rt: &HostRuntime, words: &D) {
     let _ = eprintln!(rt; "fc: {words}");
 }
 
 /// Prints a message on standard error, after the names of the program and of the place.
-pub fn tell_at<D: Display>(rt: &HostRuntime, place: Place<'_>, words: &D) {
+pub fn print_message_at<D: Display>(rt: &HostRuntime, place: Place<'_>, words: &D) {
     let _ = eprintln!(rt; "fc: {place}: {words}");
 }
 
 /// Prints a message about a fault on standard error: the place, the words, and the fault's number, as in `K1`.
-pub fn complain<D: Display>(rt: &HostRuntime, place: Place<'_>, words: &D, code: &str) {
+pub fn print_fault<D: Display>(rt: &HostRuntime, place: Place<'_>, words: &D, code: &str) {
     let _ = eprintln!(rt; "fc: {place}: {words} ({code})");
 }
 
-/// Returns `status` if printing succeeded, and `FAILED` if it failed. Prints on standard error why it failed, unless
-/// the reader of standard output closed the pipe.
+/// Returns `status` if `printed`, the result of a print on standard output, is Ok. Or else returns `FAILED`, and prints
+/// on standard error why the print failed, unless the reader of standard output closed the pipe.
 pub fn once_printed(rt: &HostRuntime, printed: io::Result<()>, status: u8) -> u8
     ensures exact { result ≡ once_printed printed status }
     ensures either { EndsWith status result }
@@ -110,7 +109,7 @@ pub fn once_printed(rt: &HostRuntime, printed: io::Result<()>, status: u8) -> u8
     match printed {
         Ok(()) => status,
         Err(error) => {
-            tell_write(rt, Some(&error));
+            print_write_error(rt, Some(&error));
             FAILED
         }
     }
@@ -118,7 +117,7 @@ pub fn once_printed(rt: &HostRuntime, printed: io::Result<()>, status: u8) -> u8
 
 /// Prints a text on standard output as it is, with no LF added, and returns `status`, or `FAILED` if the text can't be
 /// written.
-pub fn say(rt: &HostRuntime, text: &str, status: u8) -> u8
+pub fn print_output(rt: &HostRuntime, text: &str, status: u8) -> u8
     ensures { EndsWith status result }
 {
     once_printed(rt, print!(rt; "{text}"), status)
@@ -134,19 +133,20 @@ pub fn refuse(rt: &HostRuntime, fault: &str) -> u8
 
 /// Prints on standard error why standard output can't be written. Prints nothing if the reader of standard output
 /// closed the pipe. `failure` is the error of the write, or `None` if the error isn't known.
-pub fn tell_write(rt: &HostRuntime, failure: Option<&io::Error>) {
+pub fn print_write_error(rt: &HostRuntime, failure: Option<&io::Error>) {
     match failure {
         Some(error) if error.kind() == ErrorKind::BrokenPipe => (),
-        Some(_) | None => tell_loss(rt, failure),
+        Some(_) | None => print_any_write_error(rt, failure),
     }
 }
 
-/// Prints on standard error why standard output can't be written. Unlike `tell_write`, also prints the reason if the
-/// reader of standard output closed the pipe. `failure` is the error of the write, or `None` if the error isn't known.
-pub fn tell_loss(rt: &HostRuntime, failure: Option<&io::Error>) {
+/// Prints on standard error why standard output can't be written. Unlike `print_write_error`, also prints the reason if
+/// the reader of standard output closed the pipe. `failure` is the error of the write, or `None` if the error isn't
+/// known.
+pub fn print_any_write_error(rt: &HostRuntime, failure: Option<&io::Error>) {
     match failure {
-        Some(error) => complain(rt, Place::output(), error, "N2"),
-        None => complain(rt, Place::output(), &"a write failed", "N2"),
+        Some(error) => print_fault(rt, Place::output(), error, "N2"),
+        None => print_fault(rt, Place::output(), &"a write failed", "N2"),
     }
 }
 
@@ -159,7 +159,7 @@ pub fn refuse_length(rt: &HostRuntime, word: &str) -> u8
 }
 
 /// Prints why a file is refused: the place, the words and the fault's number on standard error, and the number on
-/// standard output too. Returns the exit status.
+/// standard output too. Returns the exit status: `REFUSED`, or `FAILED` if standard output can't be written.
 pub(crate) fn refuse_with<D: Display>(
     rt: &HostRuntime,
     place: Place<'_>,
@@ -168,32 +168,32 @@ pub(crate) fn refuse_with<D: Display>(
 ) -> u8
     ensures { EndsWith 1 result }
 {
-    complain(rt, place, words, code);
+    print_fault(rt, place, words, code);
     refuse(rt, code)
 }
 
-/// Prints on standard error why a file can't be opened, read or written, and returns the exit status, which is
-/// `FAILED`.
-pub fn cannot_use(rt: &HostRuntime, word: &str, error: &io::Error) -> u8
+/// Prints on standard error why a file can't be opened, read or written. If `error` is that memory ran out, prints only
+/// that. Returns the exit status, which is `FAILED`.
+pub fn report_file_error(rt: &HostRuntime, word: &str, error: &io::Error) -> u8
     ensures { result ≡ 3 }
 {
     if error.kind() == ErrorKind::OutOfMemory && error.raw_os_error().is_none() {
-        return out_of_memory(rt);
+        return report_out_of_memory(rt);
     }
-    tell_at(rt, Place::of(word), error);
+    print_message_at(rt, Place::of(word), error);
     FAILED
 }
 
 /// Prints on standard error that memory ran out.
-pub fn tell_out_of_memory(rt: &HostRuntime) {
-    tell(rt, &"out of memory");
+pub fn print_out_of_memory(rt: &HostRuntime) {
+    print_message(rt, &"out of memory");
 }
 
 /// Prints on standard error that memory ran out, and returns the exit status, which is `FAILED`.
-pub fn out_of_memory(rt: &HostRuntime) -> u8
+pub fn report_out_of_memory(rt: &HostRuntime) -> u8
     ensures { result ≡ 3 }
 {
-    tell_out_of_memory(rt);
+    print_out_of_memory(rt);
     FAILED
 }
 
@@ -221,14 +221,14 @@ pub(crate) fn refuse_config(rt: &HostRuntime, word: &str, flaw: &ConfigFlaw) -> 
 }
 
 /// Prints why a configuration is refused, and returns the exit status, as `refuse_config` does. `fault` has to be the
-/// fault of `flaw`: its number is printed, and the words of `flaw`.
+/// fault of `flaw`.
 fn refuse_fault(rt: &HostRuntime, word: &str, flaw: &ConfigFlaw, fault: ConfigFault) -> u8
     ensures refused { fault ≢ ConfigFault.OutOfMemory → EndsWith 1 result }
     ensures memory { fault ≡ ConfigFault.OutOfMemory → result ≡ 3 }
     ensures either { EndsWith 1 result }
 {
     let Some(code) = config_code(fault) else {
-        return out_of_memory(rt);
+        return report_out_of_memory(rt);
     };
     let place = match flaw.position() {
         Some((line, column)) => Place::of(word).line(line as u64).column(column as u64),
@@ -252,26 +252,32 @@ fn journal_code(flaw: &JournalFlaw) -> Option<&'static str>
     }
 }
 
-/// Prints on standard error why a journal is refused, with the line at fault if there is one.
-pub(crate) fn tell_journal(rt: &HostRuntime, word: &str, line: Option<u32>, flaw: &JournalFlaw) {
+/// Prints on standard error why a journal is refused, with the number `line` of the faulty line if it is known. If the
+/// flaw is that memory ran out, prints only that.
+pub(crate) fn print_journal_flaw(
+    rt: &HostRuntime,
+    word: &str,
+    line: Option<u32>,
+    flaw: &JournalFlaw,
+) {
     let file = Place::of(word);
     let place = match line {
         Some(line) => file.line(u64::from(line)),
         None => file,
     };
-    complain_journal(rt, place, flaw, flaw);
+    print_journal_flaw_at(rt, place, flaw, flaw);
 }
 
 /// Prints a message about a journal's flaw on standard error: the place, the words, and the flaw's number. If the flaw
 /// is that memory ran out, prints only that.
-pub(crate) fn complain_journal<D: Display>(
+pub(crate) fn print_journal_flaw_at<D: Display>(
     rt: &HostRuntime,
     place: Place<'_>,
     words: &D,
     flaw: &JournalFlaw,
 ) {
     match journal_code(flaw) {
-        Some(code) => complain(rt, place, words, code),
-        None => tell_out_of_memory(rt),
+        Some(code) => print_fault(rt, place, words, code),
+        None => print_out_of_memory(rt),
     }
 }

@@ -1,22 +1,21 @@
-//! The folder of a station's days. A day has up to three files there: its journal, such as `000002.journal`, the
-//! opening that the day begins with, and the configuration of its site. Each of these names has the day's number in six
-//! digits or more.
+//! The folder of a station's days. A day has up to three files there: its journal, the opening that it begins with, and
+//! the configuration of its site. Their names begin with the day's number, as in `000002.journal`.
 ghost use Rattle.std.specs.Prelude.{◌≡◌, true, false, IfOk, IfErr, string_bytes};
 ghost use Rattle.site_files.specs.Asked.{is_input};
 ghost use Rattle.site_files.specs.Statuses.{Fails};
 ghost use Rattle.site_files.specs.Days.{ending_of, path_of, without_zeros, day_of, shows_day, day_named, with_day};
 ghost use Rattle.site_files.specs.Days.{with_found, day_after};
 
-use crate::faults::{cannot_use, tell};
+use crate::faults::{print_message, report_file_error};
 use crate::files::is_input;
+use crate::job_error::JobError;
 use crate::statuses::USAGE;
-use crate::stop::Stop;
 use std::alloc::AllocError;
 use std::fs::{self, File, read_dir};
 use std::io::{self, ErrorKind, Write};
 use till_request::numbers::number_u32;
 
-/// Which file of a day is meant.
+/// One of the three files of a day.
 #[derive(Clone, Copy)]
 pub enum Part {
     Config,
@@ -52,14 +51,15 @@ pub struct Folder<'a> {
 impl<'a> Folder<'a> {
     /// Returns the folder that an argument names. If the argument is `-`, which is standard input, prints that a folder
     /// is needed; the error has the exit status.
-    pub fn named(rt: &HostRuntime, word: &'a str) -> Result<Folder<'a>, Stop>
+    pub fn named(rt: &HostRuntime, word: &'a str) -> Result<Folder<'a>, JobError>
         ensures folder { IfOk result (λ folder. folder.path.now ≡ word.now) }
-        ensures input { IfErr result (λ stop. (is_input word.now ≡ true) × (stop ≡ Stop.Said 2)) }
+        ensures input { IfErr result (λ job_error. (is_input word.now ≡ true)
+            × (job_error ≡ JobError.AlreadyReported 2)) }
         ensures named { IfOk result (λ _. is_input word.now ≡ false) }
     {
         if is_input(word) {
-            tell(rt, &"--days wants a folder, and - is standard input");
-            return Err(Stop::Said(USAGE));
+            print_message(rt, &"--days wants a folder, and - is standard input");
+            return Err(JobError::AlreadyReported(USAGE));
         }
         Ok(Folder { path: word })
     }
@@ -74,47 +74,50 @@ impl<'a> Folder<'a> {
     }
 
     /// Returns whether the folder has the file `part` of this day. If that can't be found out, prints why; the error
-    /// `Said` has the exit status. The error `Failed` means that memory ran out, which isn't printed yet.
-    pub fn has(self, rt: &HostRuntime, day: u32, part: Part) -> Result<bool, Stop>
+    /// `AlreadyReported` has the exit status. The error `Failed` means that memory ran out, which isn't printed yet.
+    pub fn has(self, rt: &HostRuntime, day: u32, part: Part) -> Result<bool, JobError>
         ensures { IfErr result Fails }
     {
         let path = self.file(rt, day, part)?;
         match fs::exists(rt, path.as_str()) {
             Ok(is_there) => Ok(is_there),
-            Err(error) => Err(Stop::Said(cannot_use(rt, &path, &error))),
+            Err(error) => Err(JobError::AlreadyReported(report_file_error(rt, &path, &error))),
         }
     }
 
     /// Returns whether the folder has the file `part` of this day, and the file isn't empty. If that can't be found
-    /// out, prints why; the error `Said` has the exit status. The error `Failed` means that memory ran out, which isn't
-    /// printed yet.
-    pub(crate) fn has_bytes(self, rt: &HostRuntime, day: u32, part: Part) -> Result<bool, Stop>
+    /// out, prints why; the error `AlreadyReported` has the exit status. The error `Failed` means that memory ran out,
+    /// which isn't printed yet.
+    pub(crate) fn has_bytes(self, rt: &HostRuntime, day: u32, part: Part) -> Result<bool, JobError>
         ensures { IfErr result Fails }
     {
         let path = self.file(rt, day, part)?;
         match fs::metadata(rt, path.as_str()) {
             Ok(metadata) => Ok(metadata.len() > 0),
             Err(error) if error.kind() == ErrorKind::NotFound => Ok(false),
-            Err(error) => Err(Stop::Said(cannot_use(rt, &path, &error))),
+            Err(error) => Err(JobError::AlreadyReported(report_file_error(rt, &path, &error))),
         }
     }
 
     /// Returns the oldest and the newest of the days that have a journal or an opening in the folder, or `None` if
     /// there is no such day. If the folder can't be read, prints why; the error has the exit status.
-    pub fn span(self, rt: &HostRuntime) -> Result<Option<Span>, Stop>
+    pub fn span(self, rt: &HostRuntime) -> Result<Option<Span>, JobError>
         ensures { IfErr result Fails }
     {
         match span_of(rt, self.path) {
             Ok(span) => Ok(span),
-            Err(error) => Err(Stop::Said(cannot_use(rt, self.path, &error))),
+            Err(error) => Err(JobError::AlreadyReported(report_file_error(rt, self.path, &error))),
         }
     }
 
     /// Writes `bytes` as the file `part` of this day: writes and syncs them under another name, renames that file, and
-    /// syncs the folder. So even if the program is stopped meanwhile, the folder has either the whole new file or what
-    /// was there before. If that fails, prints why; the error `Said` has the exit status. The error `Failed` means that
-    /// memory ran out, which isn't printed yet.
-    pub fn put(self, rt: &HostRuntime, day: u32, part: Part, bytes: &[u8]) -> Result<(), Stop>
+    /// syncs the folder. Even if the program is stopped meanwhile, the folder has either the whole new file or what was
+    /// there before.
+    /// Errors:
+    ///
+    /// - `AlreadyReported`, with the exit status: a step failed, which is printed
+    /// - `Failed`: memory ran out, which isn't printed yet
+    pub fn put(self, rt: &HostRuntime, day: u32, part: Part, bytes: &[u8]) -> Result<(), JobError>
         ensures { IfErr result Fails }
     {
         let path = self.file(rt, day, part)?;
@@ -122,15 +125,16 @@ impl<'a> Folder<'a> {
         match put_synced(rt, self.path, &beside, &path, bytes) {
             Ok(()) => Ok(()),
             Err(error) => {
-                // What was written of it is of no use. If it can't be removed, the next call overwrites it.
+                // The file `beside` is of no use. If it can't be removed, the next `put` of this file overwrites it.
                 let _ = fs::remove_file(rt, &beside);
-                Err(Stop::Said(cannot_use(rt, &path, &error)))
+                Err(JobError::AlreadyReported(report_file_error(rt, &path, &error)))
             }
         }
     }
 }
 
-/// Writes and syncs a file under the name `beside`, renames it to `path`, and syncs the folder.
+/// Writes `bytes` to the file `beside`, syncs this file, renames it to `path`, and syncs `folder`. The error is that of
+/// the first step that fails.
 fn put_synced(
     rt: &HostRuntime,
     folder: &str,
@@ -145,7 +149,8 @@ fn put_synced(
     File::open(rt, folder)?.sync_all()
 }
 
-/// Returns the oldest and the newest day of a folder, or `None` if it has no day.
+/// Returns the oldest and the newest of the days that have a journal or an opening in a folder, or `None` if there is
+/// no such day. The error is that the folder can't be read.
 fn span_of(rt: &HostRuntime, folder: &str) -> io::Result<Option<Span>> {
     let mut span = None;
     for entry in read_dir(rt, folder)? {
@@ -159,8 +164,8 @@ fn span_of(rt: &HostRuntime, folder: &str) -> io::Result<Option<Span>> {
     Ok(span)
 }
 
-/// Adds to `span` the day whose journal or opening has this name, and returns the result. Returns `span` as it is for
-/// any other name.
+/// Adds to `span` the day whose journal or opening is called `name`, and returns the result. For any other name,
+/// returns `span` as it is.
 fn with_name(span: Option<Span>, name: &str) -> Option<Span>
     ensures { result ≡ with_found span (day_named name.now) }
 {
@@ -196,15 +201,15 @@ fn day_named(name: &str) -> Option<u32>
     day_of(digits.as_bytes())
 }
 
-/// Returns whether a file with this ending shows that there is a day: a journal or an opening does.
+/// Returns whether `ending` is that of a journal or of an opening.
 fn shows_day(ending: &str) -> bool
     ensures { result ≡ shows_day ending.now }
 {
     ending == Part::Journal.ending() || ending == Part::Opening.ending()
 }
 
-/// Returns the day's number that these digits spell in a file's name: six digits, or more than six without a zero in
-/// front. Returns `None` if they aren't such digits, or if the number is 0 or isn't below 2^32.
+/// Returns the day's number that these digits spell in a file's name: six digits, or more without a zero in front.
+/// Returns `None` for anything else, and if the number is 0 or isn't below 2^32.
 fn day_of(digits: &[u8]) -> Option<u32>
     ensures { result ≡ day_of digits.now }
 {

@@ -1,25 +1,25 @@
-//! The files of a site: its configuration, its opening, its journal and the folder of its days. They are read and
-//! checked, the journal of a served site is opened, a day is closed, and why a file is refused is printed.
+//! Reads and checks the files of a site: its configuration, its opening, its journal and the folder of its days. Also
+//! opens the journal of a site to serve, closes a day, and prints why a file is refused.
 #![tactic(auto)]
 
 mod cut_line;
 pub mod faults;
 pub mod files;
 mod folder;
+mod job_error;
 pub mod kept;
 pub mod newest;
 pub mod opening;
 pub mod refused_journals;
 pub mod settings;
 mod statuses;
-mod stop;
 
 pub use faults::Place;
 pub use files::{Outlet, Source};
 pub use folder::{Folder, Part, Span, day_after};
+pub use job_error::JobError;
 pub use kept::Kept;
 pub use newest::Newest;
 pub use opening::Day;
 pub use settings::SiteFiles;
 pub use statuses::{DONE, FAILED, REFUSED, USAGE};
-pub use stop::Stop;

@@ -1,29 +1,29 @@
-//! The newest day of a station: closing it, and going on with it.
+//! Closes the newest day of a station, or continues with it.
 ghost use Rattle.std.specs.Prelude.{◌≡◌, ◌≢◌, ◌⊎◌, ◌+◌, Ok, [], IfOk, IfErr, IfSome, string_bytes};
-ghost use Rattle.site_files.specs.Statuses.{EndsWith, IsFailed, Fails, SaysOrFails, uncarried_status};
-ghost use Rattle.site_files.specs.Days.{path_of, going_on, BeginsDay};
+ghost use Rattle.site_files.specs.Statuses.{EndsWith, IsFailed, Fails, IsReportedOrFailed, uncarried_status};
+ghost use Rattle.site_files.specs.Days.{path_of, day_to_serve, BeginsDay};
 
-use crate::faults::{Place, cannot_use, complain, once_printed};
+use crate::faults::{Place, once_printed, print_fault, report_file_error};
 use crate::files::text_of;
 use crate::folder::{Folder, Part, Span, day_after};
-use crate::kept::{Closing, close_journal};
+use crate::job_error::JobError;
+use crate::kept::{LockedClose, close_journal};
 use crate::opening::{Day, begin_with, refuse_fault, refuse_words};
 use crate::settings::settings_in;
 use crate::statuses::{FAILED, REFUSED};
-use crate::stop::Stop;
 use days::writing::opening_text;
 use days::{Closed, Uncarried};
 use site_config::Settings;
 use site_core::Config;
 use std::fmt::{self, Display};
 
-/// The newest day of a folder, the path of the day's journal, and the text of the day's configuration, if it must still
-/// be written into the folder (`unkept`).
+/// The newest day of a folder, and the path of the day's journal. `config_to_write` is the text of the day's
+/// configuration, if the text must still be written into the folder.
 #[derive(Drop)]
 pub struct Newest {
     pub day: Day,
     pub journal: String,
-    pub unkept: Option<Vec<u8>>,
+    pub config_to_write: Option<Vec<u8>>,
 }
 
 /// The configuration that an argument names: its text, and the settings in it.
@@ -36,9 +36,9 @@ pub struct Given<'a> {
 
 /// Reads the configuration that an argument names. If it can't be read or is refused, prints why; the error has the
 /// exit status.
-pub fn read_given<'a>(rt: &HostRuntime, word: &'a str) -> Result<Given<'a>, Stop>
+pub fn read_given<'a>(rt: &HostRuntime, word: &'a str) -> Result<Given<'a>, JobError>
     ensures word { IfOk result (λ given. given.word.now ≡ word.now) }
-    ensures refused { IfErr result (SaysOrFails 1) }
+    ensures refused { IfErr result (IsReportedOrFailed 1) }
 {
     let text = text_of(rt, word)?;
     match settings_in(rt, word, &text) {
@@ -47,38 +47,43 @@ pub fn read_given<'a>(rt: &HostRuntime, word: &'a str) -> Result<Given<'a>, Stop
             text,
             settings,
         }),
-        Err(stop) => Err(stop),
+        Err(job_error) => Err(job_error),
     }
 }
 
 /// Returns the day that a station goes on with: the newest day of its folder, or day 1 if the folder has no day. If
-/// `is_new_day` and the newest day has an entry, closes that day first, and returns the next one. `given` says how the
-/// day is served. The configuration in `given` is used for a day that has none in the folder, or whose journal is
-/// missing or empty. If the day goes on with another configuration, prints that. If a file can't be used or is refused,
-/// or if the day to close isn't the newest any more, prints why; the error `Said` has the exit status. The error
-/// `Failed` means that memory ran out, which isn't printed yet.
+/// `is_new_day` and the newest day has an entry, closes that day and returns the next one.
+///
+/// The configuration in `given` is used for a day that has none in the folder, or whose journal is missing or empty.
+/// Other days keep the folder's; if the returned day keeps one that differs from the one in `given`, prints this.
+/// `given` also says how the day is served.
+/// Errors:
+///
+/// - `AlreadyReported`, with the exit status: a file can't be used or is refused, or the next day has begun already.
+///   This is printed.
+/// - `Failed`: memory ran out, which isn't printed yet
 pub fn newest_day(
     rt: &HostRuntime,
     folder: Folder<'_>,
     given: Given<'_>,
     is_new_day: bool,
-) -> Result<Newest, Stop>
+) -> Result<Newest, JobError>
     ensures journal { IfOk result (λ newest.
         string_bytes newest.journal ≡ path_of folder.entry.path.now newest.day.number Part.Journal) }
     ensures serve { IfOk result (λ newest. newest.day.serve ≡ given.entry.settings.serve) }
-    ensures unkept { IfOk result (λ newest. IfSome newest.unkept (λ text. text ≡ given.entry.text)) }
-    ensures refused { IfErr result (SaysOrFails 1) }
+    ensures config_to_write { IfOk result (λ newest. IfSome newest.config_to_write (λ text. text ≡ given.entry.text)) }
+    ensures refused { IfErr result (IsReportedOrFailed 1) }
 {
     let number = number_of(rt, folder, &given, is_new_day)?;
     let journal = folder.file(rt, number, Part::Journal)?;
-    let kept = settled_config(rt, folder, number)?;
-    tell_other(rt, folder, number, &given, &kept)?;
+    let kept = fixed_config(rt, folder, number)?;
+    print_other_config(rt, folder, number, &given, &kept)?;
     let Given {
         word: _,
         text,
         settings: Settings { config, serve },
     } = given;
-    let (config, unkept) = match kept {
+    let (config, config_to_write) = match kept {
         None => (config, Some(text)),
         Some(kept) => (kept, None),
     };
@@ -90,21 +95,21 @@ pub fn newest_day(
                 number,
             },
             journal,
-            unkept,
+            config_to_write,
         }),
-        Err(stop) => Err(stop),
+        Err(job_error) => Err(job_error),
     }
 }
 
-/// If `kept`, the configuration that the folder has for a day, isn't the one in `given`, prints on standard error that
-/// the day goes on with `kept`. Prints nothing if `kept` is `None`. The error is that memory ran out.
-fn tell_other(
+/// Prints on standard error that the day goes on with `kept`, the folder's configuration for it, if that differs from
+/// the one in `given`. Prints nothing if `kept` is `None`. The error is that memory ran out.
+fn print_other_config(
     rt: &HostRuntime,
     folder: Folder<'_>,
     day: u32,
     given: &Given<'_>,
     kept: &Option<Config>,
-) -> Result<(), Stop>
+) -> Result<(), JobError>
     ensures { IfErr result IsFailed }
 {
     let Some(kept) = kept else {
@@ -119,45 +124,54 @@ fn tell_other(
     Ok(())
 }
 
-/// The day with which a station goes on: the day of this number (`With`), or the day after it, once the day of this
-/// number is closed (`Behind`). A day without an entry isn't closed: the station goes on with it.
+/// The day with which a station goes on:
+///
+/// - `This`: the day of this number
+/// - `After`: the day after the day of this number, once this is closed, or the day of this number if it has no entry
 #[derive(Clone, Copy)]
-enum Going {
-    With(u32),
-    Behind(u32),
+enum DayToServe {
+    This(u32),
+    After(u32),
 }
 
-/// Returns the day with which a station goes on: `With` day 1 if `span` is `None`, `Behind` the newest day if
-/// `is_new_day`, and else `With` the newest day. `span` has the oldest and the newest day of the station's folder, or
-/// is `None` if the folder has no day.
-fn going_on(span: Option<Span>, is_new_day: bool) -> Going
-    ensures { result ≡ going_on span is_new_day }
+/// Returns the day with which a station goes on. `span` is `None` if the station's folder has no day.
+///
+/// - `This` day 1 if `span` is `None`
+/// - `After` the newest day if `is_new_day`
+/// - or else `This` the newest day
+fn day_to_serve(span: Option<Span>, is_new_day: bool) -> DayToServe
+    ensures { result ≡ day_to_serve span is_new_day }
 {
     match span {
-        None => Going::With(1),
-        Some(span) if is_new_day => Going::Behind(span.newest),
-        Some(span) => Going::With(span.newest),
+        None => DayToServe::This(1),
+        Some(span) if is_new_day => DayToServe::After(span.newest),
+        Some(span) => DayToServe::This(span.newest),
     }
 }
 
 /// Returns the number of the day that a station goes on with: the newest day of its folder, or 1 if the folder has no
-/// day. If `is_new_day` and the newest day has an entry, closes that day first, and returns the number of the next one.
+/// day. If `is_new_day` and the newest day has an entry, closes that day and returns the next number.
+///
 /// The configuration in `given` is used if the folder has none for the day to close, or if that day's journal is
-/// missing or empty. If a file can't be used or is refused, or if the day to close isn't the newest any more, prints
-/// why; the error `Said` has the exit status. The error `Failed` means that memory ran out, which isn't printed yet.
+/// missing or empty.
+/// Errors:
+///
+/// - `AlreadyReported`, with the exit status: a file can't be used or is refused, or the next day has begun already.
+///   This is printed.
+/// - `Failed`: memory ran out, which isn't printed yet
 fn number_of(
     rt: &HostRuntime,
     folder: Folder<'_>,
     given: &Given<'_>,
     is_new_day: bool,
-) -> Result<u32, Stop>
-    ensures { IfErr result (SaysOrFails 1) }
+) -> Result<u32, JobError>
+    ensures { IfErr result (IsReportedOrFailed 1) }
 {
-    let newest = match going_on(folder.span(rt)?, is_new_day) {
-        Going::With(day) => return Ok(day),
-        Going::Behind(newest) => newest,
+    let newest = match day_to_serve(folder.span(rt)?, is_new_day) {
+        DayToServe::This(day) => return Ok(day),
+        DayToServe::After(newest) => newest,
     };
-    match settled_config(rt, folder, newest)? {
+    match fixed_config(rt, folder, newest)? {
         Some(kept) => close_day(rt, folder, newest, kept, None),
         None => {
             let config = given.settings.config.copied(rt.alloc())?;
@@ -167,10 +181,14 @@ fn number_of(
 }
 
 /// Returns the configuration that a folder has for a day, or `None` if it has none. If the file can't be read or is
-/// refused, prints why; the error `Said` has the exit status. The error `Failed` means that memory ran out, which isn't
-/// printed yet.
-pub fn kept_config(rt: &HostRuntime, folder: Folder<'_>, day: u32) -> Result<Option<Config>, Stop>
-    ensures { IfErr result (SaysOrFails 1) }
+/// refused, prints why; the error `AlreadyReported` has the exit status. The error `Failed` means that memory ran out,
+/// which isn't printed yet.
+pub fn kept_config(
+    rt: &HostRuntime,
+    folder: Folder<'_>,
+    day: u32,
+) -> Result<Option<Config>, JobError>
+    ensures { IfErr result (IsReportedOrFailed 1) }
 {
     if !folder.has(rt, day, Part::Config)? {
         return Ok(None);
@@ -179,16 +197,18 @@ pub fn kept_config(rt: &HostRuntime, folder: Folder<'_>, day: u32) -> Result<Opt
     let text = text_of(rt, &path)?;
     match settings_in(rt, &path, &text) {
         Ok(settings) => Ok(Some(settings.config)),
-        Err(stop) => Err(stop),
+        Err(job_error) => Err(job_error),
     }
 }
 
-/// Returns the configuration with which a day goes on. Returns `None` if the folder has no configuration for the day,
-/// or if the day's journal is missing or empty: such a day can still begin with another configuration. If a file can't
-/// be used or is refused, prints why; the error `Said` has the exit status. The error `Failed` means that memory ran
-/// out, which isn't printed yet.
-fn settled_config(rt: &HostRuntime, folder: Folder<'_>, day: u32) -> Result<Option<Config>, Stop>
-    ensures { IfErr result (SaysOrFails 1) }
+/// Returns the configuration that the folder has for a day whose journal isn't empty. Returns `None` if the folder has
+/// none, or if the journal is missing or empty: then the day can still get another configuration.
+/// Errors:
+///
+/// - `AlreadyReported`, with the exit status: a file can't be used or is refused, which is printed
+/// - `Failed`: memory ran out, which isn't printed yet
+fn fixed_config(rt: &HostRuntime, folder: Folder<'_>, day: u32) -> Result<Option<Config>, JobError>
+    ensures { IfErr result (IsReportedOrFailed 1) }
 {
     if folder.has_bytes(rt, day, Part::Journal)? {
         kept_config(rt, folder, day)
@@ -197,30 +217,33 @@ fn settled_config(rt: &HostRuntime, folder: Folder<'_>, day: u32) -> Result<Opti
     }
 }
 
-/// Returns `config` with the opening in it that the folder has for this day. Returns `config` as it is for day 1, which
-/// has no opening. If the opening is missing, can't be read, is refused or belongs to another day, prints why; the
-/// error `Said` has the exit status. The error `Failed` means that memory ran out, which isn't printed yet.
+/// Returns `config` with the opening in it that the folder has for day `number`. Returns `config` as it is for day 1.
+/// Errors:
+///
+/// - `AlreadyReported`, with the exit status: the opening is missing, can't be read, is refused, doesn't fit `config`
+///   or belongs to another day. This is printed.
+/// - `Failed`: memory ran out, which isn't printed yet
 fn begin_day(
     rt: &HostRuntime,
     folder: Folder<'_>,
     number: u32,
     config: Config,
-) -> Result<Config, Stop>
+) -> Result<Config, JobError>
     ensures first { number ≡ 1 → result ≡ Ok config }
     ensures later { number ≢ 1 → IfOk result (BeginsDay config number) }
-    ensures refused { IfErr result (SaysOrFails 1) }
+    ensures refused { IfErr result (IsReportedOrFailed 1) }
 {
     if number == 1 {
         return Ok(config);
     }
     let path = folder.file(rt, number, Part::Opening)?;
     if !folder.has(rt, number, Part::Opening)? {
-        return Err(Stop::Said(refuse_link(rt, Place::of(&path), number, &UNOPENED)));
+        return Err(JobError::AlreadyReported(refuse_link(rt, Place::of(&path), number, &UNOPENED)));
     }
     let begun = begin_with(rt, &path, config)?;
     if begun.number != number {
         let status = refuse_link(rt, Place::of(&path), number, &OfDay(begun.number));
-        return Err(Stop::Said(status));
+        return Err(JobError::AlreadyReported(status));
     }
     Ok(begun.config)
 }
@@ -228,16 +251,17 @@ fn begin_day(
 /// The message for a day that has no opening.
 pub const UNOPENED: &str = "the day has no opening";
 
-/// Prints that a day doesn't follow the one before: `words`, which say why, on standard error, and the fault's number,
-/// O1, with the day's number on standard output. Returns the exit status.
+/// Prints that `day` doesn't follow the day before it: on standard error `place`, `words` (the reason) and the fault's
+/// number O1, and on standard output O1 and `day`. Returns the exit status.
 pub fn refuse_link<D: Display>(rt: &HostRuntime, place: Place<'_>, day: u32, words: &D) -> u8
     ensures { EndsWith 1 result }
 {
-    complain(rt, place, words, "O1");
+    print_fault(rt, place, words, "O1");
     once_printed(rt, println!(rt; "O1 {day}"), REFUSED)
 }
 
-/// The message for an opening that belongs to another day, the one of this number.
+/// The message that an opening belongs to another day than the one it was read for. The field is that other day's
+/// number.
 #[derive(Drop)]
 pub struct OfDay(pub u32);
 
@@ -252,64 +276,77 @@ impl Display for OfDay {
     }
 }
 
-/// Closes a day, unless it has no entry: syncs the day's journal, and writes the opening of the next day. Returns the
-/// number of the day that is then the newest. `config` is the configuration of the day's site, without an opening.
-/// `unkept` is the configuration's text, if closing the day must also write it into the folder. If a file can't be used
-/// or is refused, or if the next day has begun already, prints why; the error `Said` has the exit status. The error
-/// `Failed` means that memory ran out, which isn't printed yet.
+/// Closes day `number`, unless it has no entry. Returns the number of the day that is then the newest. `config` is the
+/// configuration of the day's site, without an opening. `config_to_write` is the configuration's text, if closing the
+/// day must also write it into the folder.
+/// Errors:
+///
+/// - `AlreadyReported`, with the exit status: a file can't be used or is refused, or the next day has begun already.
+///   This is printed.
+/// - `Failed`: memory ran out, which isn't printed yet
 fn close_day(
     rt: &HostRuntime,
     folder: Folder<'_>,
     number: u32,
     config: Config,
-    unkept: Option<&[u8]>,
-) -> Result<u32, Stop>
+    config_to_write: Option<&[u8]>,
+) -> Result<u32, JobError>
     ensures newest { IfOk result (λ newest. (newest ≡ number) ⊎ (newest ≡ number + 1)) }
-    ensures refused { IfErr result (SaysOrFails 1) }
+    ensures refused { IfErr result (IsReportedOrFailed 1) }
 {
     let path = folder.file(rt, number, Part::Journal)?;
     let config = begin_day(rt, folder, number, config)?;
     // The day's journal stays locked until the opening of the next day is written.
     let closing = close_journal(rt, &config, &path)?;
-    put_close(rt, folder, number, &path, &closing, unkept)
+    put_close(rt, folder, number, &path, &closing, config_to_write)
 }
 
-/// Finishes the close of a day, unless the day has no entry. First checks that the next day hasn't begun. Then writes
-/// `unkept`, the text of the day's configuration, unless that is `None`. Then syncs the day's journal, whose path is
-/// `journal`, and writes the opening of the next day. Returns the number of the day that is then the newest. If one of
-/// these steps fails, prints why; the error `Said` has the exit status. The error `Failed` means that memory ran out,
-/// which isn't printed yet.
+/// Finishes the close of day `number`, unless it has no entry. Returns the number of the day that is then the newest.
+/// The steps:
+///
+/// - checks that the next day hasn't begun
+/// - writes `config_to_write`, the text of the day's configuration, if it isn't `None`
+/// - syncs the day's journal, whose path is `journal`
+/// - writes the opening of the next day
+///
+/// If a step fails, prints why; the error `AlreadyReported` has the exit status. The error `Failed` means that memory
+/// ran out, which isn't printed yet.
 fn put_close(
     rt: &HostRuntime,
     folder: Folder<'_>,
     number: u32,
     journal: &str,
-    closing: &Closing,
-    unkept: Option<&[u8]>,
-) -> Result<u32, Stop>
+    closing: &LockedClose,
+    config_to_write: Option<&[u8]>,
+) -> Result<u32, JobError>
     ensures empty { closing.now.closed.site.history ≡ [] → result ≡ Ok number }
     ensures closed { closing.now.closed.site.history ≢ [] → IfOk result (λ newest. newest ≡ number + 1) }
     ensures newest { IfOk result (λ newest. (newest ≡ number) ⊎ (newest ≡ number + 1)) }
-    ensures refused { IfErr result (SaysOrFails 1) }
+    ensures refused { IfErr result (IsReportedOrFailed 1) }
 {
     if closing.closed.site.history().is_empty() {
         return Ok(number);
     }
     check_newest(rt, folder, number)?;
-    if let Some(text) = unkept {
+    if let Some(text) = config_to_write {
         folder.put(rt, number, Part::Config, text)?;
     }
     if let Err(error) = closing.file.sync_all() {
-        return Err(Stop::Said(cannot_use(rt, journal, &error)));
+        return Err(JobError::AlreadyReported(report_file_error(rt, journal, &error)));
     }
-    leave(rt, folder, number, &closing.closed)
+    write_next_opening(rt, folder, number, &closing.closed)
 }
 
-/// Writes the opening that a day leaves for the next one, and returns the number of the next one. If that fails, prints
-/// why; the error `Said` has the exit status. The error `Failed` means that memory ran out, which isn't printed yet.
-fn leave(rt: &HostRuntime, folder: Folder<'_>, number: u32, closed: &Closed) -> Result<u32, Stop>
+/// Writes the opening of the day after day `number`, and returns that next day's number. If this fails, prints why; the
+/// error `AlreadyReported` has the exit status. The error `Failed` means that memory ran out, which isn't printed yet.
+fn write_next_opening(
+    rt: &HostRuntime,
+    folder: Folder<'_>,
+    number: u32,
+    closed: &Closed,
+) -> Result<u32, JobError>
     ensures next { IfOk result (λ next. next ≡ number + 1) }
-    ensures refused { IfErr result (SaysOrFails 1) }
+    ensures refused { IfErr result (IsReportedOrFailed 1) }
 {
     let opening = match closed.opening(number) {
         Ok(opening) => opening,
@@ -323,11 +360,13 @@ fn leave(rt: &HostRuntime, folder: Folder<'_>, number: u32, closed: &Closed) -> 
     Ok(opening.day)
 }
 
-/// Checks that the day after this one hasn't begun. If it has, or if that can't be found out, prints why; the error
-/// `Said` has the exit status. The error `Failed` means that memory ran out, which isn't printed yet. If a caller has
-/// locked this day's journal and gets no error, this day stays the newest until the lock is released: to begin the next
-/// day, a process locks the same journal.
-pub fn check_newest(rt: &HostRuntime, folder: Folder<'_>, number: u32) -> Result<(), Stop>
+/// Checks that the day after day `number` hasn't begun: that it has no opening. If the caller has locked the journal of
+/// day `number` and gets no error, no other process begins the next day until the lock is released.
+/// Errors:
+///
+/// - `AlreadyReported`, with the exit status: the next day has begun, or that can't be found out. This is printed.
+/// - `Failed`: memory ran out, which isn't printed yet
+pub fn check_newest(rt: &HostRuntime, folder: Folder<'_>, number: u32) -> Result<(), JobError>
     ensures { IfErr result Fails }
 {
     let Some(next) = day_after(number, u32::MAX) else {
@@ -338,12 +377,12 @@ pub fn check_newest(rt: &HostRuntime, folder: Folder<'_>, number: u32) -> Result
     }
     let path = folder.file(rt, number, Part::Journal)?;
     let _ = eprintln!(rt; "fc: {path}: day {next} has begun");
-    Err(Stop::Said(FAILED))
+    Err(JobError::AlreadyReported(FAILED))
 }
 
 /// Prints why a day can't be closed. `journal` names the file of its journal. The result has the exit status.
-pub fn refuse_uncarried(rt: &HostRuntime, journal: &str, why: Uncarried) -> Stop
-    ensures { result ≡ Stop.Said (uncarried_status why) }
+pub fn refuse_uncarried(rt: &HostRuntime, journal: &str, why: Uncarried) -> JobError
+    ensures { result ≡ JobError.AlreadyReported (uncarried_status why) }
 {
     match why {
         Uncarried::Fault(fault) => refuse_fault(rt, journal, fault, &why),

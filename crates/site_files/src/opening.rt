@@ -2,22 +2,23 @@
 ghost use Rattle.std.specs.Prelude.{◌≡◌, ◌≤◌, IfOk, IfErr, vec_len};
 ghost use Rattle.days.specs.File.{IsOpeningFile};
 ghost use Rattle.days.specs.Fitting.{BeginsWith};
-ghost use Rattle.site_files.specs.Statuses.{Says, SaysOrFails, RefusesOpening, is_out_of_memory, opening_status, unfit_status};
+ghost use Rattle.site_files.specs.Statuses.{IsReported, IsReportedOrFailed, RefusesOpening, is_out_of_memory, opening_status, unfit_status};
 ghost use Rattle.site_files.specs.Codes.{bad_line, opening_words};
 ghost use Rattle.site_files.specs.Lines.{line_of};
 ghost use Rattle.site_files.specs.Days.{BeginsDay};
 
 use crate::faults::{
-    Place, complain, once_printed, out_of_memory, refuse_with, say, tell_at, tell_journal,
+    Place, once_printed, print_fault, print_journal_flaw, print_message_at, print_output,
+    refuse_with, report_out_of_memory,
 };
 use crate::files::{bytes_of, lines_in};
+use crate::job_error::JobError;
 use crate::statuses::REFUSED;
-use crate::stop::Stop;
 use days::beginning::begun;
 use days::reading::read_opening;
 use days::{OpeningFile, OpeningFlaw, Unfit};
 use job_texts::JournalFlaw;
-use job_texts::audit::told_audit_fault;
+use job_texts::audit::audit_fault_output;
 use job_texts::reasons::explain_refusal;
 use reg_types::Refusal;
 use site_config::Serve;
@@ -26,10 +27,11 @@ use std::alloc::{AllocError, Global};
 use std::fmt::Display;
 use std::str;
 
-/// The most bytes that the file of an opening may have. An opening with the longest programs has some 150,000.
+/// The greatest number of bytes that an opening's file is allowed to have. An opening with the longest programs has
+/// some 150,000.
 const MOST_OPENING: usize = 262_144;
 
-/// What a day of a site begins with: the site's configuration, with the opening in it if there is one, how the site is
+/// What a day of a site begins with: the configuration (with the opening in it, if there is one), how the site is
 /// served, and the day's number, which is 1 without an opening.
 #[derive(Drop)]
 pub struct Day {
@@ -45,42 +47,46 @@ pub(crate) struct Begun {
     pub number: u32,
 }
 
-/// Returns the configuration of a site that begins with the opening in the file that an argument names, and the day's
-/// number. If the opening can't be read, is refused or doesn't fit the configuration, prints why; the error `Said` has
-/// the exit status. The error `Failed` means that memory ran out, which isn't printed yet.
-pub(crate) fn begin_with(rt: &HostRuntime, word: &str, config: Config) -> Result<Begun, Stop>
+/// Reads the opening in the file that `word` names. Returns `config` with this opening in it, and the number of the
+/// opening's day.
+/// Errors:
+///
+/// - `AlreadyReported`, with the exit status: the opening can't be read, is refused or doesn't fit `config`, which is
+///   printed
+/// - `Failed`: memory ran out, which isn't printed yet
+pub(crate) fn begin_with(rt: &HostRuntime, word: &str, config: Config) -> Result<Begun, JobError>
     ensures begun { IfOk result (λ begun. BeginsDay config begun.number begun.config) }
-    ensures refused { IfErr result (SaysOrFails 1) }
+    ensures refused { IfErr result (IsReportedOrFailed 1) }
 {
     let file = opening_in(rt, word)?;
     let number = file.day;
     match opened(rt, word, config, file.opening) {
         Ok(config) => Ok(Begun { config, number }),
-        Err(stop) => Err(stop),
+        Err(job_error) => Err(job_error),
     }
 }
 
 /// Returns the bytes of an opening in the file that an argument names. If they can't be read or are more than
 /// `MOST_OPENING`, prints why; the error has the exit status.
-pub fn opening_bytes(rt: &HostRuntime, word: &str) -> Result<Vec<u8>, Stop>
+pub fn opening_bytes(rt: &HostRuntime, word: &str) -> Result<Vec<u8>, JobError>
     ensures few { IfOk result (λ bytes. vec_len bytes ≤ MOST_OPENING) }
-    ensures refused { IfErr result (SaysOrFails 1) }
+    ensures refused { IfErr result (IsReportedOrFailed 1) }
 {
     match bytes_of(rt, word, MOST_OPENING) {
         Ok(Some(bytes)) => Ok(bytes),
         Ok(None) => {
             let place = Place::of(word);
-            Err(Stop::Said(refuse_with(rt, place, &"over 262,144 bytes", "L1")))
+            Err(JobError::AlreadyReported(refuse_with(rt, place, &"over 262,144 bytes", "L1")))
         }
-        Err(stop) => Err(stop),
+        Err(job_error) => Err(job_error),
     }
 }
 
 /// Reads the opening in the file that an argument names. If it can't be read or is refused, prints why; the error
-/// `Said` has the exit status. The error `Failed` means that memory ran out, which isn't printed yet.
-fn opening_in(rt: &HostRuntime, word: &str) -> Result<OpeningFile, Stop>
+/// `AlreadyReported` has the exit status. The error `Failed` means that memory ran out, which isn't printed yet.
+fn opening_in(rt: &HostRuntime, word: &str) -> Result<OpeningFile, JobError>
     ensures good { IfOk result IsOpeningFile }
-    ensures refused { IfErr result (SaysOrFails 1) }
+    ensures refused { IfErr result (IsReportedOrFailed 1) }
 {
     let bytes = opening_bytes(rt, word)?;
     match read_opening(rt.alloc(), &bytes) {
@@ -89,11 +95,14 @@ fn opening_in(rt: &HostRuntime, word: &str) -> Result<OpeningFile, Stop>
     }
 }
 
-/// Prints why the text of an opening is refused: the line, the words and the fault's number (J1, J2 or F2) on standard
-/// error, and the fault's number and the line's number on standard output, for F2 with the program's V fault too. If
-/// `flaw` is that memory ran out, prints only that, on standard error. The result `Said` has the exit status. The
-/// result `Failed` means that memory ran out, which isn't printed yet.
-pub fn refuse_opening(rt: &HostRuntime, word: &str, text: &[u8], flaw: OpeningFlaw) -> Stop
+/// Prints why the text of an opening is refused. On standard error: the line, the words and the fault's number (J1, J2
+/// or F2). On standard output: the fault's number, the line's number, and for F2 the program's V fault. If `flaw` is
+/// that memory ran out, prints only that, on standard error.
+/// The result:
+///
+/// - `AlreadyReported`, with the exit status: this was printed
+/// - `Failed`: memory ran out, which isn't printed yet
+pub fn refuse_opening(rt: &HostRuntime, word: &str, text: &[u8], flaw: OpeningFlaw) -> JobError
     ensures { RefusesOpening flaw result }
 {
     let (words, code) = opening_words(text, flaw);
@@ -102,12 +111,12 @@ pub fn refuse_opening(rt: &HostRuntime, word: &str, text: &[u8], flaw: OpeningFl
             refuse_line(rt, word, line, words, code)
         }
         OpeningFlaw::BadProgram(line, refusal) => refuse_rule(rt, word, text, line, refusal),
-        OpeningFlaw::OutOfMemory => Stop::Said(out_of_memory(rt)),
+        OpeningFlaw::OutOfMemory => JobError::AlreadyReported(report_out_of_memory(rt)),
     }
 }
 
-/// Returns the words and the number that are printed for this flaw of an opening. The words for a refused program are
-/// empty, since `explain_rule` prints others. If memory ran out, both texts are empty.
+/// Returns the words and the number that are printed for this flaw of an opening. Both are empty if memory ran out. For
+/// a refused program, the words are empty: `explain_rule` prints others.
 fn opening_words(text: &[u8], flaw: OpeningFlaw) -> (&'static str, &'static str)
     ensures { (result.0.now, result.1.now) ≡ opening_words text.now flaw }
 {
@@ -119,8 +128,10 @@ fn opening_words(text: &[u8], flaw: OpeningFlaw) -> (&'static str, &'static str)
     }
 }
 
-/// Returns what is wrong with the line of this number, counted from 1: no opening has such a line at this place, or the
-/// text ends before this line.
+/// Returns what is printed about the line of this number (counted from 1) when the text isn't an opening:
+///
+/// - if the text has at least this many LFs: that the line is no line of an opening
+/// - or else: that the text ends too early
 fn bad_line(text: &[u8], number: u32) -> &'static str
     ensures { result.now ≡ bad_line text.now number }
 {
@@ -131,30 +142,30 @@ fn bad_line(text: &[u8], number: u32) -> &'static str
     }
 }
 
-fn refuse_line(rt: &HostRuntime, word: &str, line: u32, words: &str, code: &str) -> Stop
-    ensures { Says 1 result }
+fn refuse_line(rt: &HostRuntime, word: &str, line: u32, words: &str, code: &str) -> JobError
+    ensures { IsReported 1 result }
 {
-    complain(rt, Place::of(word).line(u64::from(line)), &words, code);
-    Stop::Said(once_printed(rt, println!(rt; "{code} {line}"), REFUSED))
+    print_fault(rt, Place::of(word).line(u64::from(line)), &words, code);
+    JobError::AlreadyReported(once_printed(rt, println!(rt; "{code} {line}"), REFUSED))
 }
 
 /// Prints why the verifier refuses the program in a line of an opening. `text` is the opening's text, and `line` is the
-/// line's number, counted from 1. The result `Said` has the exit status. The result `Failed` means that memory ran out,
-/// which isn't printed yet.
-fn refuse_rule(rt: &HostRuntime, word: &str, text: &[u8], line: u32, refusal: Refusal) -> Stop
-    ensures { SaysOrFails 1 result }
+/// line's number, counted from 1. The result `AlreadyReported` has the exit status. The result `Failed` means that
+/// memory ran out, which isn't printed yet.
+fn refuse_rule(rt: &HostRuntime, word: &str, text: &[u8], line: u32, refusal: Refusal) -> JobError
+    ensures { IsReportedOrFailed 1 result }
 {
     if explain_rule(rt, word, line, line_of(text, line), refusal).is_err() {
-        return Stop::Said(out_of_memory(rt));
+        return JobError::AlreadyReported(report_out_of_memory(rt));
     }
-    match told_audit_fault(rt.alloc(), AuditFault::BadProgram(line, refusal)) {
-        Ok(told) => Stop::Said(say(rt, &told.text, told.status)),
-        Err(refused) => Stop::from(refused),
+    match audit_fault_output(rt.alloc(), AuditFault::BadProgram(line, refusal)) {
+        Ok(output) => JobError::AlreadyReported(print_output(rt, &output.text, output.status)),
+        Err(refused) => JobError::from(refused),
     }
 }
 
 /// Prints on standard error the slot of the program in a line of an opening, and why the verifier refuses it. `line` is
-/// the line's bytes, and `number` its number, counted from 1.
+/// the line's bytes, and `number` its number, counted from 1. The error is that memory ran out.
 fn explain_rule(
     rt: &HostRuntime,
     word: &str,
@@ -167,7 +178,7 @@ fn explain_rule(
         return Err(AllocError);
     };
     let refused = explain_refusal(rt.alloc(), &program, refusal)?;
-    tell_journal(rt, word, Some(number), &JournalFlaw::Program(slot, refused));
+    print_journal_flaw(rt, word, Some(number), &JournalFlaw::Program(slot, refused));
     Ok(())
 }
 
@@ -182,8 +193,8 @@ fn line_of(text: &[u8], number: u32) -> &[u8]
     }
 }
 
-/// Returns the slot and the program of a line `version SLOT NUMBER MASK LOAD HEX`: its second word and its last. The
-/// other words aren't checked. Returns `None` if one of these two can't be read, or if memory ran out.
+/// Returns the slot and the program of a line `version SLOT NUMBER MASK LOAD HEX`, without checking the other words.
+/// Returns `None` if the slot or the program can't be read, or if memory ran out.
 fn rule_in(alloc: Global, line: &[u8]) -> Option<(u32, Vec<u8>)> {
     let text = str::from_utf8(line).ok()?;
     let (_, digits) = text.rsplit_once(' ')?;
@@ -192,11 +203,17 @@ fn rule_in(alloc: Global, line: &[u8]) -> Option<(u32, Vec<u8>)> {
     Some((slot, program))
 }
 
-/// Returns the configuration of a site that begins with an opening. The counters have the bounds of `config`. `word`
-/// names the opening's file. If the opening doesn't fit the configuration, prints why; the error has the exit status.
-fn opened(rt: &HostRuntime, word: &str, config: Config, opening: Opening) -> Result<Config, Stop>
+/// Returns `config` with `opening` in it, for a site that begins with this opening. The opening's counters get their
+/// bounds from `config`. If no site of `config` can begin with `opening`, or if memory ran out, prints this; the error
+/// has the exit status. `word` names the opening's file.
+fn opened(
+    rt: &HostRuntime,
+    word: &str,
+    config: Config,
+    opening: Opening,
+) -> Result<Config, JobError>
     ensures begun { IfOk result (BeginsWith config opening) }
-    ensures refused { IfErr result (Says 1) }
+    ensures refused { IfErr result (IsReported 1) }
 {
     match begun(rt.alloc(), config, opening) {
         Ok(config) => Ok(config),
@@ -204,9 +221,10 @@ fn opened(rt: &HostRuntime, word: &str, config: Config, opening: Opening) -> Res
     }
 }
 
-/// Prints why an opening doesn't fit a configuration. `word` names the opening's file. The result has the exit status.
-pub fn refuse_unfit(rt: &HostRuntime, word: &str, unfit: Unfit) -> Stop
-    ensures { result ≡ Stop.Said (unfit_status unfit) }
+/// Prints why no site of a configuration can begin with an opening, or that memory ran out. `word` names the opening's
+/// file. The result has the exit status.
+pub fn refuse_unfit(rt: &HostRuntime, word: &str, unfit: Unfit) -> JobError
+    ensures { result ≡ JobError.AlreadyReported (unfit_status unfit) }
 {
     match unfit {
         Unfit::Misfit(misfit) => refuse_words(rt, word, &misfit),
@@ -214,18 +232,18 @@ pub fn refuse_unfit(rt: &HostRuntime, word: &str, unfit: Unfit) -> Stop
     }
 }
 
-/// Prints `words`, which say why no site can begin with an opening. If `fault` is that memory ran out, prints that
-/// instead. The result has the exit status.
+/// Prints `words`, which say what is wrong with the file that `word` names. If `fault` is that memory ran out, prints
+/// that instead. The result has the exit status.
 pub(crate) fn refuse_fault<D: Display>(
     rt: &HostRuntime,
     word: &str,
     fault: OpeningFault,
     words: &D,
-) -> Stop
-    ensures { result ≡ Stop.Said (opening_status fault) }
+) -> JobError
+    ensures { result ≡ JobError.AlreadyReported (opening_status fault) }
 {
     if is_out_of_memory(fault) {
-        return Stop::Said(out_of_memory(rt));
+        return JobError::AlreadyReported(report_out_of_memory(rt));
     }
     refuse_words(rt, word, words)
 }
@@ -244,15 +262,15 @@ fn is_out_of_memory(fault: OpeningFault) -> bool
         | OpeningFault::Versions
         | OpeningFault::Slots
         | OpeningFault::Rules
-        | OpeningFault::Twice => false,
+        | OpeningFault::DuplicateVersion => false,
     }
 }
 
 /// Prints on standard error what is wrong with a file, without a fault's number. Prints nothing on standard output. The
 /// result has the exit status, which is `REFUSED`.
-pub fn refuse_words<D: Display>(rt: &HostRuntime, word: &str, words: &D) -> Stop
-    ensures { result ≡ Stop.Said 1 }
+pub fn refuse_words<D: Display>(rt: &HostRuntime, word: &str, words: &D) -> JobError
+    ensures { result ≡ JobError.AlreadyReported 1 }
 {
-    tell_at(rt, Place::of(word), words);
-    Stop::Said(REFUSED)
+    print_message_at(rt, Place::of(word), words);
+    JobError::AlreadyReported(REFUSED)
 }

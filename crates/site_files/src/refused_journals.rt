@@ -1,17 +1,17 @@
-//! What is printed of a journal that is refused or can't be read.
+//! Prints why a journal is refused or can't be read.
 ghost use Rattle.std.specs.Prelude.{◌≡◌};
-ghost use Rattle.decision_journal.specs.Journal.{IsWant};
+ghost use Rattle.decision_journal.specs.Journal.{IsDeviceOrOutOfMemory};
 ghost use Rattle.job_texts.specs.JournalFlaws.{line_in};
-ghost use Rattle.site_files.specs.Statuses.{SaysOrFails, IsFailed};
+ghost use Rattle.site_files.specs.Statuses.{IsReportedOrFailed, IsFailed};
 ghost use Rattle.site_files.specs.Codes.{device_error};
 
-use crate::faults::{Place, complain_journal, say, tell_journal};
+use crate::faults::{Place, print_journal_flaw, print_journal_flaw_at, print_output};
 use crate::files::{Source, source_of, stream};
+use crate::job_error::JobError;
 use crate::statuses::FAILED;
-use crate::stop::Stop;
 use decision_journal::JournalFault;
 use job_texts::JournalFlaw;
-use job_texts::audit::{journal_fault_line, told_audit_fault};
+use job_texts::audit::{audit_fault_output, journal_fault_output};
 use job_texts::journal_reasons::journal_flaw;
 use site_core::{AuditFault, Config};
 use std::io;
@@ -29,24 +29,30 @@ pub fn explain_journal(rt: &HostRuntime, word: &str, config: Config) {
 /// refused any more.
 fn explain_source(rt: &HostRuntime, word: &str, config: Config, input: &mut StreamIn<Source>) {
     match journal_flaw(rt.alloc(), config, input) {
-        Ok(Some((line, flaw))) => tell_journal(rt, word, line, &flaw),
+        Ok(Some((line, flaw))) => print_journal_flaw(rt, word, line, &flaw),
         // The journal isn't at fault any more: another process changed the file since the audit.
         Ok(None) => (),
-        Err(fault) => tell_unread(rt, word, fault, input.reader.failure()),
+        Err(fault) => print_journal_read_error(rt, word, fault, input.reader.failure()),
     }
 }
 
-/// Prints on standard error why a journal can't be read, with the system's error if a read failed.
-fn tell_unread(rt: &HostRuntime, word: &str, fault: JournalFault, failure: Option<&io::Error>) {
+/// Prints on standard error why a journal can't be read: the system's error `failure` if a read failed and the error is
+/// known, or else the words for `fault`.
+fn print_journal_read_error(
+    rt: &HostRuntime,
+    word: &str,
+    fault: JournalFault,
+    failure: Option<&io::Error>,
+) {
     let flaw = JournalFlaw::Text(fault);
     match device_error(fault, failure) {
-        Some(error) => complain_journal(rt, Place::of(word), error, &flaw),
-        None => tell_journal(rt, word, line_in(fault), &flaw),
+        Some(error) => print_journal_flaw_at(rt, Place::of(word), error, &flaw),
+        None => print_journal_flaw(rt, word, line_in(fault), &flaw),
     }
 }
 
-/// Returns `failure`, the system's error of a failed read, if `fault` is that a read failed. Returns `None` for other
-/// faults.
+/// Returns `failure`, the system's error of the last failed read, if `fault` is that a read failed. Returns `None` for
+/// other faults.
 fn device_error(fault: JournalFault, failure: Option<&io::Error>) -> Option<&io::Error>
     ensures { result ≡ device_error fault failure.entry }
 {
@@ -56,7 +62,7 @@ fn device_error(fault: JournalFault, failure: Option<&io::Error>) -> Option<&io:
     }
 }
 
-/// Returns the number of the line that a fault of a journal's text names, if it names one.
+/// Returns the number of the line that a fault of a journal's text names, or `None` if it names none.
 fn line_in(fault: JournalFault) -> Option<u32>
     ensures { result ≡ line_in fault }
 {
@@ -66,35 +72,42 @@ fn line_in(fault: JournalFault) -> Option<u32>
     }
 }
 
-/// Prints on standard error why a journal can't be read. For a fault of its text, also prints the fault (`J1 LINE` or
-/// `J2`) on standard output. `failure` is the system's error of the last failed read, if one failed. The result `Said`
-/// has the exit status. The result `Failed` means that memory ran out, which isn't printed yet.
-pub fn tell_journal_fault(
+/// Prints on standard error why a journal can't be read. If a line is faulty or cut off, also prints `J1 LINE` or `J2`
+/// on standard output. `failure` is the system's error of the last failed read, if one failed.
+/// The result:
+///
+/// - `AlreadyReported`, with the exit status: this was printed
+/// - `Failed`: memory ran out here, which isn't printed yet
+pub fn report_journal_fault(
     rt: &HostRuntime,
     word: &str,
     fault: JournalFault,
     failure: Option<&io::Error>,
-) -> Stop
-    ensures want { IsWant fault → result ≡ Stop.Said 3 }
-    ensures text { ¬ IsWant fault → SaysOrFails 1 result }
-    ensures either { SaysOrFails 1 result }
+) -> JobError
+    ensures device_or_memory { IsDeviceOrOutOfMemory fault → result ≡ JobError.AlreadyReported 3 }
+    ensures text { ¬ IsDeviceOrOutOfMemory fault → IsReportedOrFailed 1 result }
+    ensures either { IsReportedOrFailed 1 result }
 {
-    tell_unread(rt, word, fault, failure);
-    match journal_fault_line(rt.alloc(), fault) {
-        Ok(Some(told)) => Stop::Said(say(rt, &told.text, told.status)),
-        Ok(None) => Stop::Said(FAILED),
-        Err(refused) => Stop::from(refused),
+    print_journal_read_error(rt, word, fault, failure);
+    match journal_fault_output(rt.alloc(), fault) {
+        Ok(Some(output)) => JobError::AlreadyReported(print_output(
+            rt,
+            &output.text,
+            output.status,
+        )),
+        Ok(None) => JobError::AlreadyReported(FAILED),
+        Err(refused) => JobError::from(refused),
     }
 }
 
 /// Prints the line for a fault of an audit, such as `F3 5`, on standard output. The result has the exit status. If the
 /// fault is that memory ran out, or if memory runs out here, prints nothing, and returns `Failed`.
-pub fn refused(rt: &HostRuntime, fault: AuditFault) -> Stop
-    ensures said { SaysOrFails 1 result }
+pub fn refused(rt: &HostRuntime, fault: AuditFault) -> JobError
+    ensures reported { IsReportedOrFailed 1 result }
     ensures memory { fault ≡ AuditFault.OutOfMemory → IsFailed result }
 {
-    match told_audit_fault(rt.alloc(), fault) {
-        Ok(told) => Stop::Said(say(rt, &told.text, told.status)),
-        Err(refused) => Stop::from(refused),
+    match audit_fault_output(rt.alloc(), fault) {
+        Ok(output) => JobError::AlreadyReported(print_output(rt, &output.text, output.status)),
+        Err(refused) => JobError::from(refused),
     }
 }

@@ -1,15 +1,15 @@
 //! Reading of the files that say what a site begins with: its configuration, and its opening.
 ghost use Rattle.std.specs.Prelude.{◌≡◌, ◌&&◌, false, None, Some, Ok, Err, IfOk, IfErr, IsSome, IsTrue, option_map};
-ghost use Rattle.site_config.specs.Ranges.{config_of, told};
+ghost use Rattle.site_config.specs.Ranges.{config_of, settings_view};
 ghost use Rattle.site_files.specs.Asked.{is_input, may_be_input, reads_twice};
-ghost use Rattle.site_files.specs.Statuses.{Says, SaysOrFails};
+ghost use Rattle.site_files.specs.Statuses.{IsReported, IsReportedOrFailed};
 ghost use Rattle.site_files.specs.Days.{BeginsDay};
 
-use crate::faults::{refuse_config, tell};
+use crate::faults::{print_message, refuse_config};
 use crate::files::{Source, is_input, source_of, text_of};
+use crate::job_error::JobError;
 use crate::opening::{Begun, Day, begin_with};
 use crate::statuses::USAGE;
-use crate::stop::Stop;
 use site_config::Settings;
 use site_config::ranges::read_settings;
 use site_core::Config;
@@ -48,14 +48,14 @@ impl<'a> SiteFiles<'a> {
 }
 
 /// Reads the configuration of a site, and then its opening, if it has one. If one of them can't be read or is refused,
-/// or if both are standard input, prints why; the error `Said` has the exit status. The error `Failed` means that
-/// memory ran out, which isn't printed yet.
-pub fn day_of(rt: &HostRuntime, site: SiteFiles<'_>) -> Result<Day, Stop>
+/// or if both are standard input, prints why; the error `AlreadyReported` has the exit status. The error `Failed` means
+/// that memory ran out, which isn't printed yet.
+pub fn day_of(rt: &HostRuntime, site: SiteFiles<'_>) -> Result<Day, JobError>
     ensures twice { IsTrue (is_input site.entry.config.now && may_be_input (option_map (λ w. w.now) site.entry.opening))
-        → result ≡ Err (Stop.Said 2) }
+        → result ≡ Err (JobError.AlreadyReported 2) }
     ensures first { site.entry.opening ≡ None → IfOk result (λ day. day.number ≡ 1) }
     ensures once { is_input site.entry.config.now && may_be_input (option_map (λ w. w.now) site.entry.opening) ≡ false
-        → IfErr result (SaysOrFails 1) }
+        → IfErr result (IsReportedOrFailed 1) }
 {
     if is_input(site.config) && site.is_opening_input() {
         return Err(refuse_twice(rt));
@@ -68,17 +68,21 @@ pub fn day_of(rt: &HostRuntime, site: SiteFiles<'_>) -> Result<Day, Stop>
             serve,
             number,
         }),
-        Err(stop) => Err(stop),
+        Err(job_error) => Err(job_error),
     }
 }
 
-/// Returns `config`, with the site's opening in it if the site has one, and the day's number, which is 1 without an
-/// opening. If the opening can't be read or is refused, prints why; the error `Said` has the exit status. The error
-/// `Failed` means that memory ran out, which isn't printed yet.
-fn begun_by(rt: &HostRuntime, site: SiteFiles<'_>, config: Config) -> Result<Begun, Stop>
+/// Returns `config`, with the site's opening in it if there is one, and the day's number, which is 1 without an
+/// opening.
+/// Errors:
+///
+/// - `AlreadyReported`, with the exit status: the opening can't be read, is refused or doesn't fit `config`, which is
+///   printed
+/// - `Failed`: memory ran out, which isn't printed yet
+fn begun_by(rt: &HostRuntime, site: SiteFiles<'_>, config: Config) -> Result<Begun, JobError>
     ensures first { site.entry.opening ≡ None → result ≡ Ok (record { config = config; number = 1 }) }
     ensures opened { IsSome site.entry.opening → IfOk result (λ begun. BeginsDay config begun.number begun.config) }
-    ensures refused { IfErr result (SaysOrFails 1) }
+    ensures refused { IfErr result (IsReportedOrFailed 1) }
 {
     match site.opening {
         Some(opening) => begin_with(rt, opening, config),
@@ -87,36 +91,43 @@ fn begun_by(rt: &HostRuntime, site: SiteFiles<'_>, config: Config) -> Result<Beg
 }
 
 /// Prints that the command line names standard input for two files. The result has the exit status.
-fn refuse_twice(rt: &HostRuntime) -> Stop
-    ensures { result ≡ Stop.Said 2 }
+fn refuse_twice(rt: &HostRuntime) -> JobError
+    ensures { result ≡ JobError.AlreadyReported 2 }
 {
-    tell(
+    print_message(
         rt,
         &"- is standard input, which is read once: name one of the two files",
     );
-    Stop::Said(USAGE)
+    JobError::AlreadyReported(USAGE)
 }
 
 /// Reads the settings in `text`, the text of a configuration. If the text is refused, prints why; the error has the
 /// exit status. `word` names the configuration's file.
-pub fn settings_in(rt: &HostRuntime, word: &str, text: &[u8]) -> Result<Settings, Stop>
-    ensures read { IfOk result (λ settings. config_of text.now ≡ Ok (told settings)) }
-    ensures refused { IfErr result (Says 1) }
+pub fn settings_in(rt: &HostRuntime, word: &str, text: &[u8]) -> Result<Settings, JobError>
+    ensures read { IfOk result (λ settings. config_of text.now ≡ Ok (settings_view settings)) }
+    ensures refused { IfErr result (IsReported 1) }
 {
     match read_settings(rt.alloc(), text) {
         Ok(settings) => Ok(settings),
-        Err(flaw) => Err(Stop::Said(refuse_config(rt, word, &flaw))),
+        Err(flaw) => Err(JobError::AlreadyReported(refuse_config(rt, word, &flaw))),
     }
 }
 
-/// Reads the configuration of a site, and its opening, if it has one, and opens the file that `other` names. If one of
-/// them can't be read or is refused, or if two are standard input, prints why; the error `Said` has the exit status.
-/// The error `Failed` means that memory ran out, which isn't printed yet.
-pub fn day_and(rt: &HostRuntime, site: SiteFiles<'_>, other: &str) -> Result<(Day, Source), Stop>
+/// Reads the site's configuration, and its opening, if it has one. Then opens the file that `other` names.
+/// Errors:
+///
+/// - `AlreadyReported`, with the exit status: a file can't be used or is refused, or two of them are standard input.
+///   This is printed.
+/// - `Failed`: memory ran out, which isn't printed yet
+pub fn day_and(
+    rt: &HostRuntime,
+    site: SiteFiles<'_>,
+    other: &str,
+) -> Result<(Day, Source), JobError>
     ensures twice { IsTrue (reads_twice site.entry.config.now (option_map (λ w. w.now) site.entry.opening) other.now)
-        → result ≡ Err (Stop.Said 2) }
+        → result ≡ Err (JobError.AlreadyReported 2) }
     ensures once { reads_twice site.entry.config.now (option_map (λ w. w.now) site.entry.opening) other.now ≡ false
-        → IfErr result (SaysOrFails 1) }
+        → IfErr result (IsReportedOrFailed 1) }
 {
     if is_input(other) && (is_input(site.config) || site.is_opening_input()) {
         return Err(refuse_twice(rt));

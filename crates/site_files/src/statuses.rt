@@ -5,6 +5,6 @@ pub const DONE: u8 = 0;
 pub const REFUSED: u8 = 1;
 /// The command line isn't valid.
 pub const USAGE: u8 = 2;
-/// The job couldn't be done, or its result couldn't be printed: a file, a socket or a lock couldn't be had or failed,
-/// the next day had begun already, a session needed more reads than it is allowed to make, or memory ran out.
+/// The job couldn't be done, or its result couldn't be printed: a file, a socket or a lock couldn't be used, the next
+/// day had begun already, a session needed more reads than it is allowed to make, or memory ran out.
 pub const FAILED: u8 = 3;

@@ -8,8 +8,8 @@ use Rattle.site_lock.specs.declared.close.CloseRefusal.{CloseRefusal}
 use Rattle.site_lock.specs.declared.close.CloseRefusal.TheVariants.{PassMissing, NotInHistory, OtherConfig}
 use Rattle.site_lock.specs.Passes.{PassView, Opened}
 use Rattle.site_lock.specs.Merge.{AreAll, IsMergeSince, IsFault, IsFaultSince}
-use Rattle.site_lock.specs.LockedSites.{LockedSiteValue, Stands}
-use Rattle.site_lock.specs.Closing.{Closes, ClosesSince, HaltedValue, HindersSince, IsClear, IsHalted, IsWrong, Refuses, RefusesSince}
+use Rattle.site_lock.specs.LockedSites.{LockedSiteValue, MatchesJournal}
+use Rattle.site_lock.specs.Closing.{Closes, ClosesSince, HaltedValue, PreventsClose, IsClosable, IsHalted, IsWrong, Refuses, RefusesSince}
 
 pub none_missing : (f : Opened) (n : ℕ) (xs ys : List PassView) (r : Bool) → r ≡ true → IsTrue r ↔ AreAll n xs → xs ≡ ys → n ≡ f.passes → AreAll f.passes ys
 none_missing f n xs ys r e h same num =
@@ -25,22 +25,22 @@ some_missing f n xs ys r e h same num all =
     absurd (cc)
 
 hinders : (h : HaltedValue) (ys : List PassView) (w : CloseRefusal) → AreAll h.opened.passes ys → h.locked_site.total ≡ sum_by (λ (p : PassView). p.amount) ys
-    → HindersSince (length h.opened.base) h.locked_site ys w → RefusesSince h ys w
+    → PreventsClose (length h.opened.base) h.locked_site ys w → RefusesSince h ys w
 hinders h ys PassMissing all total fault = absurd fault
 hinders h ys (NotInHistory id n) all total fault = (all, total, fault)
 hinders h ys OtherConfig all total fault = fault
 
 refused : (h : HaltedValue) (base : List Entry) (xs ys : List PassView) (v : LockedSiteValue) (w : CloseRefusal)
     → AreAll h.opened.passes ys → xs ≡ ys → base ≡ h.opened.base → v ≡ h.locked_site → v.total ≡ sum_by (λ (p : PassView). p.amount) ys
-    → HindersSince (length base) v xs w → RefusesSince h ys w
+    → PreventsClose (length base) v xs w → RefusesSince h ys w
 refused h base xs ys v w all same from is total fault =
-    let P : List PassView → Type 0 = λ zs. HindersSince (length base) v zs w in
-    let Q : LockedSiteValue → Type 0 = λ u. HindersSince (length base) u ys w in
-    let R : List Entry → Type 0 = λ b. HindersSince (length b) h.locked_site ys w in
+    let P : List PassView → Type 0 = λ zs. PreventsClose (length base) v zs w in
+    let Q : LockedSiteValue → Type 0 = λ u. PreventsClose (length base) u ys w in
+    let R : List Entry → Type 0 = λ b. PreventsClose (length b) h.locked_site ys w in
     hinders h ys w all (ap (λ (u : LockedSiteValue). u.total) (sym is) ∙ total) (subst R from (subst Q is (subst P same fault)))
 
 clear : (f : Opened) (ys : List PassView) (v : LockedSiteValue) → AreAll f.passes ys → v.total ≡ sum_by (λ (p : PassView). p.amount) ys
-    → IsClear f.base f.taken v f.config ys → ClosesSince f ys v.site v.written
+    → IsClosable f.base f.taken v f.config ys → ClosesSince f ys v.site v.written
 clear f ys v all total h = record {
   all = all;
   config = h.config_is;
@@ -55,18 +55,18 @@ clear f ys v all total h = record {
 closed : (h : HaltedValue) (base : List Entry) (taken : Option (List ℕ)) (xs ys : List PassView) (v : LockedSiteValue) (config : ConfigValue)
     → AreAll h.opened.passes ys → xs ≡ ys → config ≡ h.opened.config → base ≡ h.opened.base → taken ≡ h.opened.taken → v ≡ h.locked_site
     → v.total ≡ sum_by (λ (p : PassView). p.amount) ys
-    → IsClear base taken v config xs → ClosesSince h.opened ys h.locked_site.site h.locked_site.written
+    → IsClosable base taken v config xs → ClosesSince h.opened ys h.locked_site.site h.locked_site.written
 closed h base taken xs ys v config all same is from took locked_site total good =
-    let P : List PassView → Type 0 = λ zs. IsClear base taken v config zs in
-    let Q : ConfigValue → Type 0 = λ k. IsClear base taken v k ys in
-    let R : List Entry → Type 0 = λ b. IsClear b taken v h.opened.config ys in
-    let T : Option (List ℕ) → Type 0 = λ t. IsClear h.opened.base t v h.opened.config ys in
+    let P : List PassView → Type 0 = λ zs. IsClosable base taken v config zs in
+    let Q : ConfigValue → Type 0 = λ k. IsClosable base taken v k ys in
+    let R : List Entry → Type 0 = λ b. IsClosable b taken v h.opened.config ys in
+    let T : Option (List ℕ) → Type 0 = λ t. IsClosable h.opened.base t v h.opened.config ys in
     let U : LockedSiteValue → Type 0 = λ u. ClosesSince h.opened ys u.site u.written in
     subst U locked_site (clear h.opened ys v all total (subst T took (subst R from (subst Q is (subst P same good)))))
 
 pub refused_some : (h : HaltedValue) (base : List Entry) (xs ys : List PassView) (v : LockedSiteValue) (r : Option CloseRefusal)
     → AreAll h.opened.passes ys → xs ≡ ys → base ≡ h.opened.base → v ≡ h.locked_site → v.total ≡ sum_by (λ (p : PassView). p.amount) ys
-    → IfSome r (λ w. HindersSince (length base) v xs w) → IfSome r (λ w. RefusesSince h ys w)
+    → IfSome r (λ w. PreventsClose (length base) v xs w) → IfSome r (λ w. RefusesSince h ys w)
 refused_some h base xs ys v None all same from is total fault = tt
 refused_some h base xs ys v (Some w) all same from is total fault = refused h base xs ys v w all same from is total fault
 
@@ -74,7 +74,7 @@ pub closed_none : (h : HaltedValue) (base : List Entry) (taken : Option (List �
     (r : Option CloseRefusal)
     → AreAll h.opened.passes ys → xs ≡ ys → config ≡ h.opened.config → base ≡ h.opened.base → taken ≡ h.opened.taken → v ≡ h.locked_site
     → v.total ≡ sum_by (λ (p : PassView). p.amount) ys
-    → IfNone r (IsClear base taken v config xs) → IfNone r (ClosesSince h.opened ys h.locked_site.site h.locked_site.written)
+    → IfNone r (IsClosable base taken v config xs) → IfNone r (ClosesSince h.opened ys h.locked_site.site h.locked_site.written)
 closed_none h base taken xs ys v config None all same is from took locked_site total good =
     closed h base taken xs ys v config all same is from took locked_site total good
 closed_none h base taken xs ys v config (Some w) all same is from took locked_site total good = tt
@@ -92,19 +92,19 @@ closes_new f ys s written none h = record {
   merge = subst (λ (b : List Entry). IsMergeSince (length b) s.history ys) none h.merge;
 }
 
-wrong_new : (h : HaltedValue) (ys : List PassView) (id n : ℕ) (stopped : Bool) → h.opened.base ≡ []
-    → Stands stopped h.opened.base h.opened.taken ⊥ h.locked_site.site.history h.locked_site.total h.locked_site.written
-    → IsWrong stopped (length h.opened.base) h.locked_site.site.history ys id n
+wrong_new : (h : HaltedValue) (ys : List PassView) (id n : ℕ) (journal_failed : Bool) → h.opened.base ≡ []
+    → MatchesJournal journal_failed h.opened.base h.opened.taken ⊥ h.locked_site.site.history h.locked_site.total h.locked_site.written
+    → IsWrong journal_failed (length h.opened.base) h.locked_site.site.history ys id n
     → (length h.locked_site.site.history ≡ h.locked_site.total) × IsFault h.locked_site.site.history ys id n
-wrong_new h ys id n false none stands fault = (
-  ap length (from_none h.opened.base stands.since h.locked_site.site.history none stands.history_is) ∙ stands.counted,
+wrong_new h ys id n false none matches_journal fault = (
+  ap length (from_none h.opened.base matches_journal.since h.locked_site.site.history none matches_journal.history_is) ∙ matches_journal.counted,
   subst (λ (b : List Entry). IsFaultSince (length b) h.locked_site.site.history ys id n) none fault,
 )
-wrong_new h ys id n true none stands fault = absurd stands.0
+wrong_new h ys id n true none matches_journal fault = absurd matches_journal.0
 
 pub refuses_new : (f : Opened) (h : HaltedValue) (ys : List PassView) (w : CloseRefusal) → f.base ≡ [] → h.opened ≡ f → IsHalted ⊥ h
     → RefusesSince h ys w → Refuses h ys w
 refuses_new f h ys PassMissing none is halted why = why
 refuses_new f h ys (NotInHistory id n) none is halted why =
-    let wrong = wrong_new h ys id n h.locked_site.stopped (ap (λ (o : Opened). o.base) is ∙ none) halted.stands why.2 in (why.0, wrong.0 ∙ why.1, wrong.1)
+    let wrong = wrong_new h ys id n h.locked_site.journal_failed (ap (λ (o : Opened). o.base) is ∙ none) halted.matches_journal why.2 in (why.0, wrong.0 ∙ why.1, wrong.1)
 refuses_new f h ys OtherConfig none is halted why = why

@@ -40,7 +40,8 @@ pub record FitsIn (config : ConfigValue) (pass moment : ℕ) (act : Act) (a : An
 abbrev pub RoseWithin : ℕ → ℕ → ℕ → ℕ → Type 0
 RoseWithin least most before now = (k : ℕ) × (least ≤ k) × (k ≤ most) × RoseBy k before now
 
--- the result of a call at a site whose journal can't fail
+-- the result of a call with its error as a CallFault, at a site whose journal can't fail; the error `Journal`, which
+-- never comes there, becomes `OutOfMemory`
 abbrev pub unjournalled_of : Result Answered EnterFault → Result Answered CallFault
 unjournalled_of (Ok a) = Ok a
 unjournalled_of (Err (Call fault)) = Err fault

@@ -8,7 +8,7 @@ use Rattle.site_core.specs.Site.{SiteValue, Upholds}
 use Rattle.site_lock.specs.declared.close.CloseRefusal.{CloseRefusal}
 use Rattle.site_lock.specs.declared.close.CloseRefusal.TheVariants.{PassMissing, NotInHistory, OtherConfig}
 use Rattle.site_lock.specs.Passes.{PassView, Opened}
-use Rattle.site_lock.specs.LockedSites.{LockedSiteValue, IsWhole, Stands}
+use Rattle.site_lock.specs.LockedSites.{LockedSiteValue, IsWhole, MatchesJournal}
 use Rattle.site_lock.specs.Merge.{AreAll, IsFault, IsFaultSince, IsMerge, IsMergeSince}
 
 -- The site has the configuration at the start. Its history is legal, is the merge of the passes' receipts, and has as
@@ -44,24 +44,24 @@ pub record HaltedValue : Type 0 where
 pub record IsHalted (may_fail : Type 0) (h : HaltedValue) : Type 0 where
   pub config : h.locked_site.site.config ≡ h.opened.config
   pub legal : Upholds h.locked_site.site
-  pub stands : Stands h.locked_site.stopped h.opened.base h.opened.taken may_fail h.locked_site.site.history h.locked_site.total h.locked_site.written
+  pub matches_journal : MatchesJournal h.locked_site.journal_failed h.opened.base h.opened.taken may_fail h.locked_site.site.history h.locked_site.total h.locked_site.written
 
 -- the last entry has this pass and number
 abbrev pub IsLast : List Entry → ℕ → ℕ → Type 0
 IsLast history id number =
     (last : Entry) × (slice_get history (length history - 1) ≡ Some last) × (last.pass ≡ id) × (last.number ≡ number)
 
--- a receipt or an entry of this pass and number is wrong; if the journal failed, it is the last entry, which wasn't
--- answered
+-- The receipt or the entry with this number, of this pass, is wrong. If the journal failed, it is the last entry, which
+-- wasn't answered.
 abbrev pub IsWrong : Bool → ℕ → List Entry → List PassView → ℕ → ℕ → Type 0
 IsWrong false base history passes id number = IsFaultSince base history passes id number
 IsWrong true base history passes id number = IsLast history id number
 
 -- Why a forecourt can't be closed although all its passes are given: a receipt or an entry is wrong.
-abbrev pub HindersSince : ℕ → LockedSiteValue → List PassView → CloseRefusal → Type 0
-HindersSince base v passes PassMissing = ⊥
-HindersSince base v passes (NotInHistory id number) = IsWrong v.stopped base v.site.history passes id number
-HindersSince base v passes OtherConfig = ⊥
+abbrev pub PreventsClose : ℕ → LockedSiteValue → List PassView → CloseRefusal → Type 0
+PreventsClose base v passes PassMissing = ⊥
+PreventsClose base v passes (NotInHistory id number) = IsWrong v.journal_failed base v.site.history passes id number
+PreventsClose base v passes OtherConfig = ⊥
 
 -- Why a close was refused. Either these aren't all passes of the forecourt, each once. Or they are, and a receipt or an
 -- entry is wrong; all passes together then have as many receipts as calls were answered.
@@ -70,7 +70,7 @@ RefusesSince h passes PassMissing = ¬ AreAll h.opened.passes passes
 RefusesSince h passes (NotInHistory id number) =
     AreAll h.opened.passes passes
     × (h.locked_site.total ≡ sum_by (λ (p : PassView). p.amount) passes)
-    × IsWrong h.locked_site.stopped (length h.opened.base) h.locked_site.site.history passes id number
+    × IsWrong h.locked_site.journal_failed (length h.opened.base) h.locked_site.site.history passes id number
 RefusesSince h passes OtherConfig = ⊥
 
 -- why a close was refused, if the history at the start was empty and no journal can fail
@@ -82,8 +82,8 @@ Refuses h passes (NotInHistory id number) =
     × IsFault h.locked_site.site.history passes id number
 Refuses h passes OtherConfig = ⊥
 
--- a forecourt that has this site and journal under its lock can be closed with these passes
-pub record IsClear (base : List Entry) (taken : Option (List ℕ)) (v : LockedSiteValue) (config : ConfigValue) (passes : List PassView) : Type 0 where
+-- a forecourt with this site and journal under its lock can be closed with these passes
+pub record IsClosable (base : List Entry) (taken : Option (List ℕ)) (v : LockedSiteValue) (config : ConfigValue) (passes : List PassView) : Type 0 where
   pub config_is : v.site.config ≡ config
   pub legal : Upholds v.site
   pub merge : IsMergeSince (length base) v.site.history passes

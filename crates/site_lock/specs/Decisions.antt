@@ -27,15 +27,17 @@ pub record IsAnswerOf (config : ConfigValue) (pass : ℕ) (run : ReadyValue) (a 
   pub config_is : site.config ≡ config
   pub committed : Commits site pass run (Done a) after
 
--- What the answer comes from. If no run was made, it isn't a program's answer. If one run was made and the answer is a
--- program's, it is that of the run. There are at most two runs.
+-- The answer follows from these runs. If there was no run, the answer isn't a program's. If there was one, and the
+-- answer is a program's, it is that of the run. If there were two, nothing is said about the answer. There are never
+-- more.
 abbrev pub DecidedAfter : ConfigValue → ℕ → List ReadyValue → Answered → Type 0
 DecidedAfter config pass [] a = is_decided a.reply ≡ false
 DecidedAfter config pass (run ∷ []) a = is_decided a.reply ≡ true → IsAnswerOf config pass run a
 DecidedAfter config pass (first ∷ second ∷ []) a = Unit {0}
 DecidedAfter config pass (first ∷ second ∷ third ∷ runs) a = ⊥
 
--- The gate made runs only for this till's request at this moment, and the answer follows from them.
+-- The gate made runs only for this till's request at this moment, and the answer follows from them, as `DecidedAfter`
+-- says.
 pub record DecidedBy {G : Type 0} (makes : G → ReadyValue → G → Type 0) (config : ConfigValue) (pass till moment : ℕ) (request : Request) (before now : G)
     (a : Answered) : Type 0 where
   pub runs : List ReadyValue

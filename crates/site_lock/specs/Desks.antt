@@ -1,8 +1,8 @@
 -- Definitions: the answers of a desk over a forecourt and a pass (this profile).
 use Rattle.std.specs.Prelude.{◌≡◌, ℕ, ◌≤◌, length, true, Option, Some, None, Result, Ok, Err}
 use Rattle.reg_types.specs.declared.refusal.Refusal.{Refusal}
-use Rattle.reg_types.specs.Refusals.{shown_by}
-use Rattle.reg_types.specs.Shown.{IsRefusal}
+use Rattle.reg_types.specs.Refusals.{refusal_numbers}
+use Rattle.reg_types.specs.RefusedPrograms.{IsRefusal}
 use Rattle.till_request.specs.declared.act.Act.{Act}
 use Rattle.till_request.specs.declared.act.Act.TheVariants.{Till, Dispenser, Load}
 use Rattle.till_request.specs.declared.act.Reply.{Reply}
@@ -36,7 +36,7 @@ pub record DeskRefuses (before now : PassView) (act : Act) (number : ℕ) (unit 
   pub refusal : Refusal
   pub refused : IsRefusedAct act refusal
   pub answers : IsRefusal (load_refusal act) refusal
-  pub shown : shown_by refusal ≡ Some (number, unit, part)
+  pub shown : refusal_numbers refusal ≡ Some (number, unit, part)
   pub same : now ≡ before
 
 -- What holds after each answer of the desk. After an answer without an entry the pass is unchanged. The answer that the
@@ -49,18 +49,18 @@ DeskAnswers config may_fail before now act moment (Line fault) = ⊥
 DeskAnswers config may_fail before now act moment (Program number unit part) = DeskRefuses before now act number unit part
 DeskAnswers config may_fail before now act moment JournalFailed = (now ≡ before) × may_fail
 
--- the answer to a till is a grant or S24 (a denial) only if the gate was called, once or twice
-abbrev pub AsksGate : ℕ → ℕ → Answer → Act → Type 0
-AsksGate before now (Entered number reply) (Till till request) = is_decided reply ≡ true → RoseWithin 1 2 before now
-AsksGate before now (Entered number reply) (Dispenser point event) = Unit {0}
-AsksGate before now (Entered number reply) (Load slot mask layout bytes) = Unit {0}
-AsksGate before now JournalFull act = Unit {0}
-AsksGate before now OutOfMemory act = Unit {0}
-AsksGate before now (Line fault) act = Unit {0}
-AsksGate before now (Program number unit part) act = Unit {0}
-AsksGate before now JournalFailed act = Unit {0}
+-- the answer to a till's request can be a program's grant or denial (S24) only if the gate was called once or twice
+abbrev pub CallsGate : ℕ → ℕ → Answer → Act → Type 0
+CallsGate before now (Entered number reply) (Till till request) = is_decided reply ≡ true → RoseWithin 1 2 before now
+CallsGate before now (Entered number reply) (Dispenser point event) = Unit {0}
+CallsGate before now (Entered number reply) (Load slot mask layout bytes) = Unit {0}
+CallsGate before now JournalFull act = Unit {0}
+CallsGate before now OutOfMemory act = Unit {0}
+CallsGate before now (Line fault) act = Unit {0}
+CallsGate before now (Program number unit part) act = Unit {0}
+CallsGate before now JournalFailed act = Unit {0}
 
--- the answer to a till follows from the runs that the gate made
+-- the answer to a till's request follows from the runs that the gate made, as `DecidedBy` says
 abbrev pub DeskDecides : {G : Type 0} → (G → ReadyValue → G → Type 0) → ConfigValue → ℕ → ℕ → G → G → Answer → Act → Type 0
 DeskDecides makes config pass moment before now (Entered number reply) (Till till request) =
     DecidedBy makes config pass till moment request before now (record { number = number; reply = reply })
@@ -73,8 +73,8 @@ DeskDecides makes config pass moment before now (Program number unit part) act =
 DeskDecides makes config pass moment before now JournalFailed act = Unit {0}
 
 -- the desk's answer for the result of a call
-abbrev pub said_of : Result Answered EnterFault → Answer
-said_of (Ok a) = Entered a.number a.reply
-said_of (Err (enter.Call fault.JournalFull)) = JournalFull
-said_of (Err (enter.Call fault.OutOfMemory)) = OutOfMemory
-said_of (Err enter.Journal) = JournalFailed
+abbrev pub answer_of_call : Result Answered EnterFault → Answer
+answer_of_call (Ok a) = Entered a.number a.reply
+answer_of_call (Err (enter.Call fault.JournalFull)) = JournalFull
+answer_of_call (Err (enter.Call fault.OutOfMemory)) = OutOfMemory
+answer_of_call (Err enter.Journal) = JournalFailed

@@ -14,9 +14,9 @@ IsEntryOf history id r = (0 < r.number) × IsSomeAnd (slice_get history (r.numbe
 
 -- Each receipt agrees with the entry of its number, and has a greater number than the receipt before it. The first has
 -- a number above `last`.
-abbrev pub StandsFrom : List Entry → ℕ → ℕ → List Receipt → Type 0
-StandsFrom history id last [] = Unit {0}
-StandsFrom history id last (r ∷ rs) = (last < r.number) × IsEntryOf history id r × StandsFrom history id r.number rs
+abbrev pub AgreesFrom : List Entry → ℕ → ℕ → List Receipt → Type 0
+AgreesFrom history id last [] = Unit {0}
+AgreesFrom history id last (r ∷ rs) = (last < r.number) × IsEntryOf history id r × AgreesFrom history id r.number rs
 
 -- Some receipt is wrong, and the first wrong one has this number. A receipt is wrong if no entry has its number, if it
 -- disagrees with that entry, or if its number isn't above that of the receipt before it (for the first receipt, above
@@ -42,7 +42,7 @@ Covered passes e = Any (Covers e) passes
 -- The history agrees with the receipts: each receipt agrees with its entry, each pass's numbers rise, and each entry
 -- has a receipt in its pass.
 abbrev pub IsMerge : List Entry → List PassView → Type 0
-IsMerge history passes = All (λ p. StandsFrom history p.id 0 p.receipts) passes × All (Covered passes) history
+IsMerge history passes = All (λ p. AgreesFrom history p.id 0 p.receipts) passes × All (Covered passes) history
 
 -- Either the first wrong receipt of this pass has this number. Or the entry of this number is one of this pass, and the
 -- pass has no receipt of it.
@@ -54,7 +54,7 @@ IsFault history passes id n =
 -- The history agrees with the receipts, if its first `base` entries are older than the passes: the receipts' numbers
 -- are above `base`, and each later entry has a receipt in its pass.
 abbrev pub IsMergeSince : ℕ → List Entry → List PassView → Type 0
-IsMergeSince base history passes = All (λ p. StandsFrom history p.id base p.receipts) passes × All (Covered passes) (drop base history)
+IsMergeSince base history passes = All (λ p. AgreesFrom history p.id base p.receipts) passes × All (Covered passes) (drop base history)
 
 -- `IsFault` for a history whose first `base` entries are older than the passes
 abbrev pub IsFaultSince : ℕ → List Entry → List PassView → ℕ → ℕ → Type 0

@@ -1,7 +1,7 @@
 //! The comparison of a history with the receipts of the passes.
 ghost use Rattle.std.specs.Prelude.{◌≡◌, ◌↔◌, IsTrue, IfNone, IfSome, All, Any, count_by, ◌==◌};
 ghost use Rattle.std.specs.Prelude.{◌≤◌, ℕ, length, drop};
-ghost use Rattle.site_lock.specs.Merge.{Matches, IsEntryOf, StandsFrom, FailsFrom, HasNumber, Covers, Covered, IsMerge};
+ghost use Rattle.site_lock.specs.Merge.{Matches, IsEntryOf, AgreesFrom, FailsFrom, HasNumber, Covers, Covered, IsMerge};
 ghost use Rattle.site_lock.specs.Merge.{IsMergeSince, IsFault, IsFaultSince, AreAll};
 
 use super::pass::{Pass, Receipt, SiteLedger};
@@ -18,7 +18,7 @@ fn matches(id: u32, receipt: &Receipt, entry: &Entry) -> bool
 
 // Returns whether a receipt of the pass `id` agrees with the entry whose number the receipt has. The result is false if
 // there is no such entry.
-fn stands(history: &[Entry], id: u32, receipt: &Receipt) -> bool
+fn agrees_with_entry(history: &[Entry], id: u32, receipt: &Receipt) -> bool
     ensures { IsTrue result ↔ IsEntryOf history.now id receipt.now }
 {
     if receipt.number == 0 {
@@ -34,13 +34,13 @@ fn stands(history: &[Entry], id: u32, receipt: &Receipt) -> bool
 // if no entry has its number, if it disagrees with that entry, if its number is at most `base`, or if its number is at
 // most that of the receipt before it.
 fn wrong_receipt(history: &[Entry], base: u32, id: u32, receipts: &[Receipt]) -> Option<u32>
-    ensures none { IfNone result (StandsFrom history.now id base receipts.now) }
+    ensures none { IfNone result (AgreesFrom history.now id base receipts.now) }
     ensures some { IfSome result (λ n. FailsFrom history.now id base receipts.now n) }
 {
     let mut last = base;
     let mut rest = receipts;
     while let Some((receipt, tail)) = rest.split_first() {
-        if receipt.number <= last || !stands(history, id, receipt) {
+        if receipt.number <= last || !agrees_with_entry(history, id, receipt) {
             return Some(receipt.number);
         }
         last = receipt.number;
@@ -50,7 +50,7 @@ fn wrong_receipt(history: &[Entry], base: u32, id: u32, receipts: &[Receipt]) ->
 }
 
 fn wrong_pass<L: SiteLedger>(history: &[Entry], base: u32, passes: &[Pass<L>]) -> Option<(u32, u32)>
-    ensures none { IfNone result (All (λ p. StandsFrom history.now p.id base p.receipts) passes.now) }
+    ensures none { IfNone result (All (λ p. AgreesFrom history.now p.id base p.receipts) passes.now) }
     ensures some { IfSome result
         (λ x. Any (λ p. (p.id ≡ x.0) × FailsFrom history.now p.id base p.receipts x.1) passes.now) }
 {
@@ -97,7 +97,7 @@ fn is_covered<L: SiteLedger>(passes: &[Pass<L>], entry: &Entry) -> bool
 
 // Does what `is_covered` does, faster, for passes whose receipts' numbers rise. For other passes it can wrongly return
 // false.
-fn is_covered_soon<L: SiteLedger>(passes: &[Pass<L>], entry: &Entry) -> bool
+fn is_covered_fast<L: SiteLedger>(passes: &[Pass<L>], entry: &Entry) -> bool
     ensures { IsTrue result → Covered passes.now entry.now }
 {
     for pass in passes {
@@ -108,10 +108,10 @@ fn is_covered_soon<L: SiteLedger>(passes: &[Pass<L>], entry: &Entry) -> bool
     false
 }
 
-fn is_covered_at_all<L: SiteLedger>(passes: &[Pass<L>], entry: &Entry) -> bool
+fn is_covered_any_order<L: SiteLedger>(passes: &[Pass<L>], entry: &Entry) -> bool
     ensures { IsTrue result ↔ Covered passes.now entry.now }
 {
-    is_covered_soon(passes, entry) || is_covered(passes, entry)
+    is_covered_fast(passes, entry) || is_covered(passes, entry)
 }
 
 fn uncovered<L: SiteLedger>(history: &[Entry], passes: &[Pass<L>]) -> Option<(u32, u32)>
@@ -120,7 +120,7 @@ fn uncovered<L: SiteLedger>(history: &[Entry], passes: &[Pass<L>]) -> Option<(u3
         (λ x. Any (λ e. (e.pass ≡ x.0) × (e.number ≡ x.1) × ¬ Covered passes.now e) history.now) }
 {
     for entry in history {
-        if !is_covered_at_all(passes, entry) {
+        if !is_covered_any_order(passes, entry) {
             return Some((entry.pass, entry.number));
         }
     }
@@ -148,10 +148,12 @@ fn uncovered_since<L: SiteLedger>(
     uncovered(behind(base, history), passes)
 }
 
-/// Compares a history with the receipts of the passes. Returns `None` if they agree, or else the number of a pass and
-/// the number of an entry. There are two cases. Either the first wrong receipt of the pass has that entry number: the
-/// history has no such entry, the entry has another pass, moment, act or reply, or the number isn't above that of the
-/// receipt before this one. Or the entry of that number is one of this pass, and the pass has no receipt of it.
+/// Compares a history with the receipts of the passes. Returns `None` if they agree. Otherwise returns the number of a
+/// pass and the number of an entry, in one of two cases:
+///
+/// - The pass's first wrong receipt has this entry number. A receipt is wrong if the history has no such entry, if the
+///   entry has another pass, moment, act or reply, or if its number isn't above that of the receipt before it.
+/// - The entry is one of this pass, and the pass has no receipt of it.
 pub fn fault<L: SiteLedger>(history: &[Entry], passes: &[Pass<L>]) -> Option<(u32, u32)>
     ensures none { IfNone result (IsMerge history.now passes.now) }
     ensures some { IfSome result (λ x. IsFault history.now passes.now x.0 x.1) }

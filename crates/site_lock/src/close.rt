@@ -47,7 +47,7 @@ pub struct CloseFault<L: SiteLedger, J: Journal = NoJournal> {
     pub passes: Vec<Pass<L>>,
 }
 
-/// What remains of a closed forecourt.
+/// What remains of a closed forecourt: its site.
 #[derive(Drop)]
 pub struct Closed {
     pub site: Site,

@@ -1,12 +1,12 @@
 //! A desk that calls a forecourt with a pass.
 ghost use Rattle.std.specs.Prelude.{◌≡◌, ℕ};
 ghost use Rattle.till_request.specs.declared.act.Act.{Act};
-ghost use Rattle.reg_types.specs.Shown.{IsRefusal};
+ghost use Rattle.reg_types.specs.RefusedPrograms.{IsRefusal};
 ghost use Rattle.site_core.specs.Audit.{IsRefusedAct};
 ghost use Rattle.site_core.specs.Histories.{load_refusal};
 ghost use Rattle.site_core.specs.Limits.{ConfigValue};
 ghost use Rattle.site_lock.specs.Passes.{PassView};
-ghost use Rattle.site_lock.specs.Desks.{AsksGate, DeskAnswers, DeskDecides, said_of};
+ghost use Rattle.site_lock.specs.Desks.{CallsGate, DeskAnswers, DeskDecides, answer_of_call};
 
 use super::enter_fault::EnterFault;
 use super::forecourt::Forecourt;
@@ -65,12 +65,12 @@ impl<'a, L: SiteLedger, R: Wait, G: Gate + Drop, J: Journal> PassDesk<'a, L, R, 
 
 impl<L: SiteLedger, R: Wait, G: Gate + Drop, J: Journal> Desk for PassDesk<'_, L, R, G, J> {
     ghost use Rattle.site_lock.specs.Calls.{RoseWithin};
-    ghost use Rattle.site_lock.specs.Desks.{DeskAnswers, DeskDecides, AsksGate};
+    ghost use Rattle.site_lock.specs.Desks.{DeskAnswers, DeskDecides, CallsGate};
 
     ghost step = { λ desk act moment answer after. DeskAnswers L.config J.may_fail desk.pass
         after.pass act moment answer
         × RoseWithin 0 2 (G.calls desk.gate) (G.calls after.gate)
-        × AsksGate (G.calls desk.gate) (G.calls after.gate) answer act
+        × CallsGate (G.calls desk.gate) (G.calls after.gate) answer act
         × DeskDecides G.makes L.config desk.pass.id moment desk.gate after.gate answer act };
 
     fn answer(&mut self, act: Act, moment: u64) -> Answer {
@@ -79,20 +79,22 @@ impl<L: SiteLedger, R: Wait, G: Gate + Drop, J: Journal> Desk for PassDesk<'_, L
         // This call gives the prover that the forecourt's configuration is `L.config`.
         let _ = forecourt.config();
         match &act {
-            Act::Till { till, request } => said(forecourt.ask(
+            Act::Till { till, request } => answer_of(forecourt.ask(
                 rt, pass, gate, *till, moment, *request,
             )),
-            Act::Dispenser { point, event } => said(forecourt.report(rt, pass, *point, *event)),
+            Act::Dispenser { point, event } => answer_of(forecourt.report(
+                rt, pass, *point, *event,
+            )),
             Act::Load { .. } => match event_of(alloc, &act) {
-                Ok(what) => said(forecourt.enter_event(rt, pass, 0, act, what)),
+                Ok(what) => answer_of(forecourt.enter_event(rt, pass, 0, act, what)),
                 Err(refusal) => refused::<G, J>(refusal),
             },
         }
     }
 }
 
-fn said(called: Result<Answered, EnterFault>) -> Answer
-    ensures { result ≡ said_of called }
+fn answer_of(called: Result<Answered, EnterFault>) -> Answer
+    ensures { result ≡ answer_of_call called }
 {
     match called {
         Ok(answered) => Answer::Entered {
@@ -111,11 +113,11 @@ fn said(called: Result<Answered, EnterFault>) -> Answer
 fn refused<G: Gate, J: Journal>(refusal: Refusal) -> Answer
     ensures answers { (config : ConfigValue) (pass : PassView) (act : Act) (moment : ℕ) → IsRefusedAct act refusal
         → IsRefusal (load_refusal act) refusal → DeskAnswers config J.may_fail pass pass act moment result }
-    ensures asks { (calls : ℕ) (act : Act) → AsksGate calls calls result act }
+    ensures asks { (calls : ℕ) (act : Act) → CallsGate calls calls result act }
     ensures decides { (config : ConfigValue) (pass moment : ℕ) (gate : G) (act : Act)
         → DeskDecides G.makes config pass moment gate gate result act }
 {
-    match refusal.shown() {
+    match refusal.fault_numbers() {
         Some((number, unit, part)) => Answer::Program(number, unit, part),
         None => Answer::OutOfMemory,
     }

@@ -4,8 +4,8 @@ use site_core::{Answered, Draft};
 /// The result of the first step of a till's request, which is made under the lock.
 #[derive(Drop)]
 pub(super) enum FirstStep {
-    /// No program would be run for the request, so it was entered.
+    /// The request was entered, since no program has to be run for it.
     Entered(Answered),
-    /// A program is to be run for the request, on this draft.
+    /// The request wasn't entered yet. A program has to be run for it, on this draft.
     Run(Draft),
 }

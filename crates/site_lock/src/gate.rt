@@ -3,8 +3,8 @@ ghost use Rattle.std.specs.Prelude.{◌≡◌};
 
 use site_core::{Draft, Ready};
 
-/// What runs a draft while the caller doesn't hold the site's lock. A gate counts its calls in 64 bits, and the count
-/// wraps.
+/// A runner of drafts. A draft is what a program is to be run on for a till's request. The gate runs the program while
+/// the caller doesn't hold the site's lock. It counts its calls in 64 bits, and the count wraps.
 pub trait Gate {
     ghost use Rattle.std.specs.Prelude.{◌≡◌, ℕ};
     ghost use Rattle.till_request.specs.Count.{RoseBy};
@@ -17,15 +17,15 @@ pub trait Gate {
     /// state.
     ghost makes: { Self → ReadyValue → Self → Type 0 };
 
-    /// Runs the draft of a request of the till `till`, and returns it with the program's answer and the counters after
-    /// the run. Counts one call.
+    /// Runs the program on a draft, and returns the draft with the program's answer and the counters after the run.
+    /// `till` is the till whose request the draft is for. Counts one call.
     fn run(&mut self, till: u32, draft: Draft) -> Ready
         ensures run { result.draft ≡ draft }
         ensures made { makes self.old result self.new }
         ensures counted { RoseBy 1 (calls self.old) (calls self.new) };
 }
 
-/// A gate that runs each draft at once, on the caller's thread.
+/// A gate that runs each draft's program at once, on the caller's thread.
 #[derive(Clone, Copy)]
 pub struct Straight {
     pub calls: u64,

@@ -72,7 +72,7 @@ impl<L: SiteLedger, J: Journal> Halted<L, J> {
     /// Returns the history.
     pub fn history(&self) -> &[Entry]
         ensures same { result.now ≡ self.now.locked_site.site.history }
-        ensures stands { IsHalted J.may_fail self.now }
+        ensures matches_journal { IsHalted J.may_fail self.now }
     {
         // Reading a field gives the prover that the forecourt's configuration is `L.config`.
         let _ = &self.config;
@@ -80,10 +80,10 @@ impl<L: SiteLedger, J: Journal> Halted<L, J> {
     }
 
     /// Returns whether the journal failed. If so, the last entry wasn't answered.
-    pub fn has_stopped(&self) -> bool
-        ensures { result ≡ self.now.locked_site.stopped }
+    pub fn journal_has_failed(&self) -> bool
+        ensures { result ≡ self.now.locked_site.journal_failed }
     {
-        self.locked_site.has_stopped()
+        self.locked_site.journal_has_failed()
     }
 
     /// Opens the forecourt again, for further calls and another close. A journal that failed stays failed.
@@ -104,7 +104,7 @@ impl<L: SiteLedger, J: Journal> Halted<L, J> {
     /// the length of that line.
     pub fn into_journal(self) -> J
         ensures written { J.written result ≡ self.locked_site.written }
-        ensures stands { IsHalted J.may_fail self }
+        ensures matches_journal { IsHalted J.may_fail self }
     {
         // Reading a field gives the prover that the forecourt's configuration is `L.config`.
         let _ = &self.config;

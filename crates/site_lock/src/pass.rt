@@ -1,7 +1,7 @@
 //! Passes: the rights of callers to call a forecourt, with the receipts of what they were answered.
 ghost use Rattle.std.specs.Prelude.{◌≡◌, length, [], None};
 
-use site_core::Spent;
+use site_core::DraftMemory;
 use std::alloc::Global;
 use std::marker::{Brand, Model};
 use std::sync::ledger::{Ledger, Share};
@@ -47,14 +47,14 @@ pub struct Receipt {
     pub reply: Reply,
 }
 
-/// The pass of a caller: its number, counted from 1, its share of the ledger, and the receipts of all answered calls,
-/// the oldest first. It also keeps the memory of the last run for the next one.
+/// The pass of a caller (its right to call the forecourt): its number, counted from 1, its share of the ledger, and the
+/// receipts of its answered calls, the oldest first. It also keeps the memory of the last run for the next one.
 #[derive(Drop)]
 pub struct Pass<L: SiteLedger> {
     pub(super) id: u32,
     pub(super) share: Share<L>,
     pub(super) receipts: Vec<Receipt>,
-    pub(super) spent: Option<Spent>,
+    pub(super) draft_memory: Option<DraftMemory>,
 }
 
 impl<L: SiteLedger> Model for Pass<L> {
@@ -71,7 +71,7 @@ impl<L: SiteLedger> Model for Pass<L> {
 impl<L: SiteLedger> Pass<L> {
     ghost use Rattle.site_lock.specs.Passes.{new_pass};
 
-    /// Makes the pass with number `id`. No call was made with it yet, so it has no receipts.
+    /// Makes the pass with number `id`, without receipts. `share` must have one part, and count no call.
     pub(super) fn new(alloc: Global, id: u32, share: Share<L>) -> Pass<L>
         requires { (share.parts ≡ 1) × (share.amount ≡ 0) }
         ensures { result ≡ new_pass id }
@@ -80,15 +80,15 @@ impl<L: SiteLedger> Pass<L> {
             id,
             share,
             receipts: Vec::new(alloc),
-            spent: None,
+            draft_memory: None,
         }
     }
 
     /// Keeps the memory of a run for the next one.
-    pub(super) fn keep(&mut self, spent: Spent)
+    pub(super) fn keep(&mut self, draft_memory: DraftMemory)
         ensures { self.new ≡ self.old }
     {
-        self.spent = Some(spent);
+        self.draft_memory = Some(draft_memory);
     }
 
     /// Returns the number of the pass.
@@ -107,7 +107,7 @@ impl<L: SiteLedger> Pass<L> {
         self.receipts.as_slice()
     }
 
-    /// Returns an empty share of the same ledger.
+    /// Returns an empty share of the same ledger: it has no part, and counts no call.
     pub(super) fn lend_none(&mut self) -> Share<L>
         ensures parts { result.parts ≡ 0 }
         ensures amount { result.amount ≡ 0 }

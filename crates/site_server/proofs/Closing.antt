@@ -1,12 +1,12 @@
--- If all workers have returned their passes, then what a close of the forecourt returns is what serving the site
--- promises.
+-- If a close of a forecourt is tried with the passes that all workers returned, the promises of serving hold:
+-- `IsServed` if the close succeeds, `ServingFails` if it is refused.
 use Rattle.std.proofs.Common.{◌≡◌, ℕ, List, Option, Result, Ok, Err, IfOk, IfErr, subst, sym}
 use Rattle.site_core.specs.Site.{SiteValue}
 use Rattle.site_lock.specs.Closing.{ClosesSince}
 use Rattle.site_lock.specs.Passes.{PassView, Opened}
 use Rattle.site_lock.specs.Merge.{AreAll}
 use Rattle.site_server.specs.Plans.{Plan}
-use Rattle.site_server.specs.Ending.{HaveWorked, Leaves, Refuses, Spoils, Stays}
+use Rattle.site_server.specs.Ending.{HaveWorked, IsServed, RefusesWithFault, ServingFails, StaysUnclosed}
 use Rattle.site_server.specs.declared.serving.ServeFault.{ServeFault}
 use Rattle.site_server.specs.declared.serving.ServeFault.TheVariants.{OutOfMemory, Journal, NotClosed}
 
@@ -18,26 +18,27 @@ pub if_err_more : {T E : Type 0} (P Q : E → Type 0) (r : Result T E) → ((e :
 if_err_more P Q (Ok x) more h = h
 if_err_more P Q (Err e) more h = more e h
 
--- a close of a forecourt with the plan's opening, with the passes that the plan's workers returned
+-- A forecourt started with `from`, as the plan says, and workers of the plan returned `passes`. Then a close with these
+-- passes is tried.
 module _ (plan : Plan) (from : Opened) (same : from ≡ plan.from) (passes : List PassView) (clean : ℕ) (worked : HaveWorked plan passes clean) where
   pub leaves_so : (counted : ℕ) (site : SiteValue) (written : Option (List ℕ)) → counted ≡ clean → ClosesSince from passes site written
-      → Leaves plan counted site written
+      → IsServed plan counted site written
   leaves_so counted site written is h = record {
     passes = passes;
     closes = subst (λ (o : Opened). ClosesSince o passes site written) same h;
     worked = subst (λ (n : ℕ). HaveWorked plan passes n) (sym is) worked;
   }
 
-  refused_so : (fault : ServeFault) → AreAll plan.from.passes passes → Refuses from plan.may_fail passes fault → Stays plan fault
+  refused_so : (fault : ServeFault) → AreAll plan.from.passes passes → RefusesWithFault from plan.may_fail passes fault → StaysUnclosed plan fault
   refused_so fault all h = record {
     passes = passes;
     clean = clean;
     all = all;
     worked = worked;
-    refused = subst (λ (o : Opened). Refuses o plan.may_fail passes fault) same h;
+    refused = subst (λ (o : Opened). RefusesWithFault o plan.may_fail passes fault) same h;
   }
 
-  pub spoils_so : (fault : ServeFault) → AreAll plan.from.passes passes → Refuses from plan.may_fail passes fault → Spoils plan fault
+  pub spoils_so : (fault : ServeFault) → AreAll plan.from.passes passes → RefusesWithFault from plan.may_fail passes fault → ServingFails plan fault
   spoils_so OutOfMemory all h = tt
   spoils_so Journal all h = refused_so Journal all h
   spoils_so (NotClosed why) all h = refused_so (NotClosed why) all h

@@ -1,4 +1,5 @@
--- The passes and the numbers of connections that are collected from the tasks are those that all workers returned.
+-- What is collected from the finished tasks is what the workers returned: their passes, and how many connections ended
+-- without a SessionFault.
 use Rattle.std.proofs.Common.{◌≡◌, ℕ, ◌+◌, ◌<◌, List, [], ◌∷◌, ◌++◌, length, map, slice_index_or, Option, Some, None, slice_get, refl, sym, ◌∙◌, ap, subst}
 use Rattle.std.proofs.Common.{◌*◌, ◌≤◌, Ok, Err, arith, zero, suc}
 use Rattle.std.proofs.lemmas.List.{length-map}
@@ -12,12 +13,12 @@ use Rattle.site_core.specs.Limits.{ConfigValue}
 use Rattle.site_server.specs.declared.crew.Worker.{Worker}
 use Rattle.site_server.specs.Crews.{roles_of}
 use Rattle.site_server.specs.Plans.{Plan}
-use Rattle.site_server.specs.Ending.{HandedBack, HandsBack, HaveWorked, all_clean}
+use Rattle.site_server.specs.Ending.{IsReturned, AreReturned, HaveWorked, all_clean}
 use Rattle.site_server.specs.Collecting.{AreWaiting, RunsWorker, collected, clean_in}
 use Rattle.site_server.specs.Tasks.{Worked}
 use Rattle.site_server.proofs.Numbering.{all_worked}
 
--- the results of the tasks that have one, in the order of the tasks
+-- the results of the finished tasks, in the order of the tasks; an unfinished task is None and has no result
 abbrev pub results : List (Option (PassView × ℕ)) → List (PassView × ℕ)
 results [] = []
 results (None ∷ tasks) = results tasks
@@ -33,7 +34,7 @@ clean_first [] = refl
 clean_first (None ∷ tasks) = omega (arith, clean_first tasks)
 clean_first (Some r ∷ tasks) = ap (λ (n : ℕ). r.1 + n) (clean_first tasks)
 
--- the number of sessions without fault is at most the number of all sessions
+-- the connections that ended without a SessionFault aren't more than all connections
 good_few : (outcomes : List Outcome) → good outcomes ≤ length outcomes
 good_few [] = omega arith
 good_few (None ∷ outcomes) = omega (arith, good_few outcomes)
@@ -57,11 +58,12 @@ module _ (may_fail : Type 0) (workers : List Worker) (connections : ℕ) (from :
   abbrev pub plan : Plan
   plan = record { from = from; may_fail = may_fail; roles = roles_of workers; connections = connections }
 
-  -- each of the tasks has the result of its worker; the first task is that of the worker with pass b + 1
+  -- `AllBack b tasks`: all tasks are finished. The first has the result of the worker with pass b + 1, the second that
+  -- of the worker with pass b + 2, and so on.
   abbrev pub AllBack : ℕ → List (Option (PassView × ℕ)) → Type 0
   AllBack b [] = Unit {0}
   AllBack b (None ∷ tasks) = ⊥
-  AllBack b (Some r ∷ tasks) = HandedBack plan b r × AllBack (b + 1) tasks
+  AllBack b (Some r ∷ tasks) = IsReturned plan b r × AllBack (b + 1) tasks
 
   one_back : (b : ℕ) (worker : Worker) (y : Option (PassView × ℕ)) (rest : List (Option (PassView × ℕ))) → slice_get workers b ≡ Some worker
       → RunsWorker own may_fail connections (Some (new_pass (b + 1), worker)) y → AllBack (b + 1) rest → AllBack b (y ∷ rest)
@@ -76,7 +78,7 @@ module _ (may_fail : Type 0) (workers : List Worker) (connections : ℕ) (from :
     more,
   )
 
-  -- the task at place k holds the new pass with the number n + 1 and the worker at place n
+  -- `WaitsAt tasks k n e`: the task at place k holds the worker at place n, and a new pass with the number n + 1
   abbrev WaitsAt : List (Option (PassView × Worker)) → ℕ → ℕ → Option (PassView × Worker) → Type 0
   WaitsAt tasks k n e = (worker : Worker) × (slice_get workers n ≡ Some worker) × (slice_index_or tasks k e ≡ Some (new_pass (n + 1), worker))
 
@@ -93,7 +95,8 @@ module _ (may_fail : Type 0) (workers : List Worker) (connections : ℕ) (from :
       (subst (λ (z : Option (PassView × Worker)). RunsWorker own may_fail connections z (d y)) first.2 (manned 0 x (omega arith)))
       (all_back w d (b + 1) xs ys (omega arith) (λ k n e num lt. waiting (suc k) n e (omega arith) (omega arith)) (λ k e lt. manned (suc k) e (omega arith)))
 
-  -- If each task held a new pass and its worker, and each worker has run, then each task has the result of its worker.
+  -- `tasks` wait to be run, and `ys` are the same tasks after each worker has run. Then each of `ys` has the result of
+  -- its worker, and there is one for each worker.
   pub all_done : {P : Type 0} (w : P → Option (PassView × Worker)) (d : P → Option (PassView × ℕ)) (tasks xs ys : List P)
       → tasks ≡ xs → length ys ≡ length xs → AreWaiting workers (map w tasks)
       → ((k : ℕ) (e : P) → k < length xs → RunsWorker own may_fail connections (w (slice_index_or xs k e)) (d (slice_index_or ys k e)))
@@ -107,23 +110,24 @@ module _ (may_fail : Type 0) (workers : List Worker) (connections : ℕ) (from :
         length-map ys d ∙ as_many ∙ sym (length-map xs w) ∙ there.0,
       )
 
-  one_few : (b : ℕ) (r : PassView × ℕ) → HandedBack plan b r → r.1 ≤ connections
+  one_few : (b : ℕ) (r : PassView × ℕ) → IsReturned plan b r → r.1 ≤ connections
   one_few b r h = omega (arith, h.3.counted, h.3.all_asked, good_few h.3.outcomes)
 
-  -- at most 2^32 connections a task end without fault, so a number of 64 bits can count them
+  -- If each worker serves fewer than 2^32 connections, then in n tasks at most 2^32 * n connections ended without a
+  -- SessionFault.
   pub well_few : (b : ℕ) (tasks : List (Option (PassView × ℕ))) → AllBack b tasks → connections < 4294967296 → clean_in tasks ≤ 4294967296 * length tasks
   well_few b [] h few = omega arith
   well_few b (None ∷ tasks) h few = absurd h
   well_few b (Some r ∷ tasks) h few = omega (arith, well_few (b + 1) tasks h.1 few, one_few b r h.0, few)
 
   back_at : (b : ℕ) (tasks : List (Option (PassView × ℕ))) → AllBack b tasks → (k n : ℕ) (d : PassView × ℕ) → n ≡ b + k → k < length (results tasks)
-      → HandedBack plan n (slice_index_or (results tasks) k d)
+      → IsReturned plan n (slice_index_or (results tasks) k d)
   back_at b [] h k n d e lt = absurd (omega arith)
   back_at b (None ∷ tasks) h k n d e lt = absurd h
-  back_at b (Some r ∷ tasks) h zero n d e lt = subst (λ (m : ℕ). HandedBack plan m r) (omega arith) h.0
+  back_at b (Some r ∷ tasks) h zero n d e lt = subst (λ (m : ℕ). IsReturned plan m r) (omega arith) h.0
   back_at b (Some r ∷ tasks) h (suc k) n d e lt = back_at (b + 1) tasks h.1 k n d (omega arith) (omega arith)
 
-  hands_back : (tasks : List (Option (PassView × ℕ))) → AllBack 0 tasks → HandsBack plan (results tasks)
+  hands_back : (tasks : List (Option (PassView × ℕ))) → AllBack 0 tasks → AreReturned plan (results tasks)
   hands_back tasks h k d lt = back_at 0 tasks h k k d (omega arith) lt
 
   handed_length : (b : ℕ) (tasks : List (Option (PassView × ℕ))) → AllBack b tasks → length (collected tasks) ≡ length tasks
@@ -131,7 +135,8 @@ module _ (may_fail : Type 0) (workers : List Worker) (connections : ℕ) (from :
   handed_length b (None ∷ tasks) h = absurd h
   handed_length b (Some r ∷ tasks) h = (let more = handed_length (b + 1) tasks h.1 in omega arith)
 
-  -- the passes that were collected into an empty list are all passes of the plan, after their workers' work
+  -- If each task has the result of its worker, then `HaveWorked` holds for the passes that are collected from the tasks
+  -- into an empty list, and for the number of connections that is collected from them.
   pub have_worked : (tasks : List (Option (PassView × ℕ))) (room passes : List PassView) (clean : ℕ) → AllBack 0 tasks → room ≡ []
       → passes ≡ room ++ collected tasks → clean ≡ clean_in tasks → HaveWorked plan passes clean
   have_worked tasks room passes clean back none are counted = record {
@@ -167,7 +172,7 @@ waits_at k e p (q ∷ ps) [] is lt = absurd (omega arith)
 waits_at zero e p (q ∷ ps) (worker ∷ workers) is lt = (worker, refl, ap (λ (o : Option PassView). option_map (λ (x : PassView). (x, worker)) o) is)
 waits_at (suc k) e p (q ∷ ps) (worker ∷ workers) is lt = waits_at k e p ps workers is (omega arith)
 
--- the tasks that are made of new passes and workers: each holds a new pass and the worker at the same place
+-- `tasks` are made of the new passes `ps` and of `workers`: each holds a pass, and the worker at the same place.
 module _ {P : Type 0} (w : P → Option (PassView × Worker)) (tasks : List P) (ps : List PassView) (workers : List Worker)
     (are : map w tasks ≡ map here (zip ps workers)) (new : AreNew (length workers) ps) where
   pub are_waiting : AreWaiting workers (map w tasks)

@@ -10,12 +10,12 @@ use Rattle.site_lock.specs.Merge.{AreAll}
 use Rattle.site_server.specs.Plans.{Plan}
 use Rattle.site_server.specs.Ending.{HaveWorked}
 
--- the list is `before` + 1, `before` + 2 and so on
+-- `Numbers before list`: the elements of the list are before + 1, before + 2 and so on
 abbrev Numbers : ℕ → List ℕ → Type 0
 Numbers before [] = Unit {0}
 Numbers before (n ∷ ns) = (n ≡ before + 1) × Numbers (before + 1) ns
 
--- how many numbers in the list are j
+-- `count j list`: how often the number j is in the list
 abbrev count : ℕ → List ℕ → ℕ
 count j [] = 0
 count j (n ∷ ns) = cond (n == j) (1 + count j ns) (count j ns)

@@ -1,4 +1,5 @@
--- With one more door at the end of a list of doors, the posts at this door come after the posts at all others.
+-- A post is the role and the listener of a worker. If a door is appended to a list of doors, its posts come after the
+-- posts at the other doors.
 use Rattle.std.proofs.Common.{◌≡◌, ◌++◌, List, [], ◌∷◌, sym, ◌∙◌, ap}
 use Rattle.std.proofs.lemmas.List.{append_assoc, append-nil}
 use Rattle.till_request.specs.declared.act.Role.{Role}

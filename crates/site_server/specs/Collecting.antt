@@ -6,36 +6,37 @@ use Rattle.site_server.specs.declared.crew.Worker.{Worker}
 use Rattle.site_server.specs.Crews.{IsCrew}
 use Rattle.site_server.specs.Tasks.{Worked}
 
--- task k, counted from 0, holds the pass with the number k + 1, without receipts, and the worker at place k
+-- There is one task for each worker. The task at place k, counted from 0, holds the worker at place k, and a new pass
+-- with the number k + 1.
 abbrev pub AreWaiting : List Worker → List (Option (PassView × Worker)) → Type 0
 AreWaiting workers tasks =
     (length tasks ≡ length workers)
     × ((k : ℕ) (d : Option (PassView × Worker)) → k < length workers
     → (worker : Worker) × (slice_get workers k ≡ Some worker) × (slice_index_or tasks k d ≡ Some (new_pass (k + 1), worker)))
 
--- the tasks are those of some crew, and have not run yet
+-- these are the tasks of a crew of 1 to 96 workers, and none of them has run yet
 abbrev pub HasCrew : List (Option (PassView × Worker)) → Type 0
 HasCrew tasks = (workers : List Worker) × IsCrew (length workers) × AreWaiting workers tasks
 
--- If the task held a pass and a worker, it now holds the same pass, which has served this number of connections in the
--- worker's role.
+-- A task ran. If it held a pass and a worker before, then this number of connections was served with the pass, in the
+-- worker's role, and the task now holds the pass, and how many of these connections ended without a SessionFault.
 abbrev pub RunsWorker : ConfigValue → Type 0 → ℕ → Option (PassView × Worker) → Option (PassView × ℕ) → Type 0
 RunsWorker config may_fail connections None after = Unit {0}
 RunsWorker config may_fail connections (Some w) None = ⊥
 RunsWorker config may_fail connections (Some w) (Some d) = (d.0.id ≡ w.0.id) × Worked config may_fail w.1.role connections d.1 w.0 d.0
 
--- the passes in the finished tasks, in the order of the tasks
+-- the passes of the finished tasks, in the order of the tasks
 abbrev pub collected : List (Option (PassView × ℕ)) → List PassView
 collected [] = []
 collected (None ∷ tasks) = collected tasks
 collected (Some d ∷ tasks) = d.0 ∷ collected tasks
 
--- the number of connections that ended without a SessionFault in a task
+-- the number of a task's connections that ended without a SessionFault; 0 if the task isn't finished
 abbrev pub clean_at : Option (PassView × ℕ) → ℕ
 clean_at None = 0
 clean_at (Some d) = d.1
 
--- the number of connections that ended without a SessionFault in all tasks
+-- the number of connections that ended without a SessionFault, in all finished tasks together
 abbrev pub clean_in : List (Option (PassView × ℕ)) → ℕ
 clean_in [] = 0
 clean_in (task ∷ tasks) = clean_at task + clean_in tasks

@@ -1,5 +1,5 @@
--- Definitions: who serves whom (this profile). Passes are numbered from 1, and the places of workers from 0. The worker
--- at place k has the pass with the number k + 1.
+-- Definitions: the workers of a site, their roles and their listeners (this profile). The worker at place k, counted
+-- from 0, has the pass with the number k + 1.
 use Rattle.std.specs.Prelude.{ℕ, ◌<◌, ◌≤◌, ◌++◌, List, [], ◌∷◌, map, replicate}
 use Rattle.std.specs.Arc.{arc_value}
 use Rattle.till_request.specs.declared.act.Role.{Role}
@@ -7,8 +7,7 @@ use Rattle.site_server.specs.declared.crew.OpenDoor.{OpenDoor}
 use Rattle.site_server.specs.declared.crew.Worker.{Worker}
 use Rattle.site_server.specs.declared.listener.Listener.{Listener}
 
--- A crew has 1 to 96 workers. A configuration limits them further: at most 64 workers are for tills, and 31 for
--- dispensers.
+-- a crew can have this number of workers: 1 to 96
 abbrev pub IsCrew : ℕ → Type 0
 IsCrew workers = (0 < workers) × (workers ≤ 96)
 
@@ -20,11 +19,11 @@ roles_of workers = map (λ (w : Worker). w.role) workers
 abbrev pub posts_of : List Worker → List (Role × Listener)
 posts_of workers = map (λ (w : Worker). (w.role, arc_value w.listener)) workers
 
--- the posts at a door: one for each of its workers, with the door's role and listener
+-- one post for each worker of the door: the door's role and listener
 abbrev pub posts_at : OpenDoor → List (Role × Listener)
 posts_at door = replicate door.workers (door.role, door.listener)
 
--- the posts at all doors, in the order of the doors
+-- one post for each worker of these doors, in the order of the doors: the role and the listener of the worker's door
 abbrev pub all_posts : List OpenDoor → List (Role × Listener)
 all_posts [] = []
 all_posts (door ∷ doors) = posts_at door ++ all_posts doors

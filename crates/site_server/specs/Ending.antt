@@ -1,4 +1,4 @@
--- Promises: how serving ends.
+-- Promises: what holds when the serving of a site ends, with a closed site or with a fault.
 use Rattle.std.specs.Prelude.{◌≡◌, ℕ, ◌+◌, ◌<◌, Bool, true, false, List, [], ◌∷◌, length, map, slice_get, slice_index_or, Option, Some, if◌then◌else◌}
 use Rattle.till_request.specs.declared.act.Role.{Role}
 use Rattle.site_core.specs.Site.{SiteValue}
@@ -14,75 +14,78 @@ use Rattle.site_server.specs.Tasks.{Worked}
 use Rattle.site_server.specs.declared.serving.ServeFault.{ServeFault}
 use Rattle.site_server.specs.declared.serving.ServeFault.TheVariants.{OutOfMemory, Journal, NotClosed}
 
--- What the worker with pass k + 1 returns after it served its connections in the role at place k. It is that pass, and
--- the number of these connections that ended without a SessionFault.
-abbrev pub HandedBack : Plan → ℕ → PassView × ℕ → Type 0
-HandedBack plan k done =
+-- `IsReturned plan k done`: the worker with pass k + 1 served its connections, in the plan's role at place k. It
+-- returned `done`: its pass, and how many of these connections ended without a SessionFault.
+abbrev pub IsReturned : Plan → ℕ → PassView × ℕ → Type 0
+IsReturned plan k done =
     (done.0.id ≡ k + 1) × (role : Role) × (slice_get plan.roles k ≡ Some role)
     × Worked plan.from.config plan.may_fail role plan.connections done.1 (new_pass (k + 1)) done.0
 
--- what all workers return, in the order of their passes
-abbrev pub HandsBack : Plan → List (PassView × ℕ) → Type 0
-HandsBack plan done = (k : ℕ) (d : PassView × ℕ) → k < length done → HandedBack plan k (slice_index_or done k d)
+-- the list has what the workers with the passes 1, 2, 3 and so on returned, in this order
+abbrev pub AreReturned : Plan → List (PassView × ℕ) → Type 0
+AreReturned plan done = (k : ℕ) (d : PassView × ℕ) → k < length done → IsReturned plan k (slice_index_or done k d)
 
 -- the number of connections that ended without a SessionFault, at all workers
 abbrev pub all_clean : List (PassView × ℕ) → ℕ
 all_clean [] = 0
 all_clean (d ∷ done) = d.1 + all_clean done
 
--- Each pass served its connections in its role. Of all these connections `clean` ended without a SessionFault.
+-- Workers of the plan served their connections, and returned `passes`. In all, `clean` of these connections ended
+-- without a SessionFault.
 pub record HaveWorked (plan : Plan) (passes : List PassView) (clean : ℕ) : Type 0 where
   pub done : List (PassView × ℕ)
   pub passes_are : passes ≡ map (λ (d : PassView × ℕ). d.0) done
-  pub each : HandsBack plan done
+  pub each : AreReturned plan done
   pub counted : clean ≡ all_clean done
 
--- If the tasks were those of some workers and had not run yet, then `passes` are all passes of a forecourt with this
--- opening, each after its work, as `HaveWorked` says.
-abbrev pub WorksOff : Opened → Type 0 → ℕ → List (Option (PassView × Worker)) → List PassView → ℕ → Type 0
-WorksOff from may_fail connections tasks passes clean =
+-- What running all tasks gives. If the tasks held new passes and their workers, then the workers have served their
+-- connections, at a forecourt that started with `from`. The result is all these passes, and how many of the connections
+-- ended without a SessionFault.
+abbrev pub RunsAllTasks : Opened → Type 0 → ℕ → List (Option (PassView × Worker)) → List PassView → ℕ → Type 0
+RunsAllTasks from may_fail connections tasks passes clean =
     (workers : List Worker) → AreWaiting workers tasks
     → HaveWorked (record { from = from; may_fail = may_fail; roles = roles_of workers; connections = connections }) passes clean
     × AreAll (length workers) passes
 
--- What is left after serving. The site's history is the one at the start, followed by the entries that the passes got
--- as answers. The journal took exactly the text of these entries.
-pub record Leaves (plan : Plan) (clean : ℕ) (site : SiteValue) (written : Option (List ℕ)) : Type 0 where
+-- A site was served and closed. Its history is the one at the start, followed by the entries that the passes have
+-- receipts of. While it was served, the journal took exactly the text of the entries that have receipts.
+pub record IsServed (plan : Plan) (clean : ℕ) (site : SiteValue) (written : Option (List ℕ)) : Type 0 where
   pub passes : List PassView
   pub closes : ClosesSince plan.from passes site written
   pub worked : HaveWorked plan passes clean
 
--- A forecourt with this opening (`from`) refused a close with these passes, for the reason `why`. `has_stopped` is true
--- if its journal had failed.
-pub record Halts (from : Opened) (may_fail : Type 0) (passes : List PassView) (has_stopped : Bool) (why : CloseRefusal) : Type 0 where
+-- A forecourt that started with `from` refused a close with these passes, for the reason `why`. `journal_has_failed`
+-- says whether the forecourt's journal had failed.
+pub record RefusesClose (from : Opened) (may_fail : Type 0) (passes : List PassView) (journal_has_failed : Bool) (why : CloseRefusal) : Type 0 where
   pub forecourt : HaltedValue
   pub opened_is : forecourt.opened ≡ from
   pub halted : IsHalted may_fail forecourt
-  pub stopped_is : forecourt.locked_site.stopped ≡ has_stopped
+  pub stopped_is : forecourt.locked_site.journal_failed ≡ journal_has_failed
   pub refused : RefusesSince forecourt passes why
 
 -- the fault that is returned for a refused close: `Journal` if the journal failed, or else the refusal
 abbrev pub fault_of_close : CloseRefusal → Bool → ServeFault
-fault_of_close why has_stopped = if has_stopped then Journal else NotClosed why
+fault_of_close why journal_has_failed = if journal_has_failed then Journal else NotClosed why
 
 -- A close with these passes was refused. The fault is `Journal` exactly if the journal had failed.
-abbrev pub Refuses : Opened → Type 0 → List PassView → ServeFault → Type 0
-Refuses from may_fail passes OutOfMemory = ⊥
-Refuses from may_fail passes Journal = (why : CloseRefusal) × Halts from may_fail passes true why
-Refuses from may_fail passes (NotClosed why) = Halts from may_fail passes false why
+abbrev pub RefusesWithFault : Opened → Type 0 → List PassView → ServeFault → Type 0
+RefusesWithFault from may_fail passes OutOfMemory = ⊥
+RefusesWithFault from may_fail passes Journal = (why : CloseRefusal) × RefusesClose from may_fail passes true why
+RefusesWithFault from may_fail passes (NotClosed why) = RefusesClose from may_fail passes false why
 
--- All passes were returned after their work, but the close with them was refused with this fault. The reason is not a
--- missing pass or another configuration, but that the receipts differ from the history.
-pub record Stays (plan : Plan) (fault : ServeFault) : Type 0 where
+-- The workers returned all passes, but the close with these passes was refused with `fault`: their receipts differ from
+-- the history.
+pub record StaysUnclosed (plan : Plan) (fault : ServeFault) : Type 0 where
   pub passes : List PassView
   pub clean : ℕ
   pub all : AreAll plan.from.passes passes
   pub worked : HaveWorked plan passes clean
-  pub refused : Refuses plan.from plan.may_fail passes fault
+  pub refused : RefusesWithFault plan.from plan.may_fail passes fault
 
--- What a fault of serving means. `OutOfMemory` comes before anything is served. Every other fault means that all passes
--- were returned, and that the close was refused.
-abbrev pub Spoils : Plan → ServeFault → Type 0
-Spoils plan OutOfMemory = Unit {0}
-Spoils plan Journal = Stays plan Journal
-Spoils plan (NotClosed why) = Stays plan (NotClosed why)
+-- What holds if serving ended with this fault:
+-- - `OutOfMemory`: nothing is claimed.
+-- - `Journal` or `NotClosed`: the workers returned all passes, but the close with them was refused.
+abbrev pub ServingFails : Plan → ServeFault → Type 0
+ServingFails plan OutOfMemory = Unit {0}
+ServingFails plan Journal = StaysUnclosed plan Journal
+ServingFails plan (NotClosed why) = StaysUnclosed plan (NotClosed why)

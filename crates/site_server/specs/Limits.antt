@@ -6,16 +6,18 @@ use Rattle.std.specs.Prelude.{ℕ, ◌+◌, ◌==◌, nat_lt, min, if◌then◌e
 -- since.
 pub record LimiterValue : Type 0 where
   pub second : ℕ
-  pub told : ℕ
+  pub allowed : ℕ
   pub held : ℕ
 
--- how many lines were held back before a line that comes in this second; None if that line is held back itself
+-- The answer to a line that comes in this second:
+-- - Some n: the line is let through, and n lines were held back since the last one that was let through
+-- - None: the line is held back
 abbrev pub admitted : LimiterValue → ℕ → Option ℕ
-admitted l second = if second == l.second then (if nat_lt l.told 10 then Some 0 else None) else Some l.held
+admitted l second = if second == l.second then (if nat_lt l.allowed 10 then Some 0 else None) else Some l.held
 
--- the state of the limiter after a line that comes in this second; at most 2^64 - 1 lines are counted as held back
+-- the limiter after a line came in this second; its count `held` goes up to 2^64 - 1 at most
 abbrev pub after_line : LimiterValue → ℕ → LimiterValue
 after_line l second =
     if second == l.second then
-    (if nat_lt l.told 10 then record { second = second; told = l.told + 1; held = l.held } else record { second = second; told = l.told; held = min (l.held + 1) 18446744073709551615 })
-    else record { second = second; told = 1; held = 0 }
+    (if nat_lt l.allowed 10 then record { second = second; allowed = l.allowed + 1; held = l.held } else record { second = second; allowed = l.allowed; held = min (l.held + 1) 18446744073709551615 })
+    else record { second = second; allowed = 1; held = 0 }

@@ -5,7 +5,8 @@ use Rattle.line_session.specs.Words.{session_fault_text}
 use Rattle.site_server.specs.declared.notices.SessionFailure.{SessionFailure}
 use Rattle.site_server.specs.declared.notices.SessionFailure.TheVariants.{Line, Session}
 
--- besides a line that is too long, only a line without its LF ends a session
+-- The words for this failure. Of the line faults only `TooLong` and `CutLine` end a session; the others have the words
+-- of `CutLine`.
 abbrev pub session_failure_text : SessionFailure → List ℕ
 session_failure_text (Line TooLong) = codes "ended by a line of more than 8,400 bytes"
 session_failure_text (Line BadLine) = codes "ended in mid-line"

@@ -7,8 +7,7 @@ use std::alloc::{AllocError, Global};
 use std::sync::Arc;
 use till_request::Role;
 
-/// A door that is open. Here a door is a listener with its workers, not one connection: whose lines are taken, where
-/// connections come in, and how many workers serve them.
+/// A door: a listener with its workers. `role` says whose lines the workers take, and `workers` how many there are.
 #[derive(Drop)]
 pub struct OpenDoor {
     pub role: Role,
@@ -16,8 +15,8 @@ pub struct OpenDoor {
     pub workers: u32,
 }
 
-/// A worker of a site: whose lines it takes, and where its connections come in. The workers of one door share its
-/// listener, which is closed with the last of them.
+/// A worker of a site: whose lines it takes, and where its connections come in. All workers of a door share one
+/// listener, which is closed when the last of them is dropped.
 #[derive(Drop)]
 pub(crate) struct Worker {
     pub role: Role,
@@ -41,8 +40,8 @@ fn count_workers(doors: &[OpenDoor]) -> u32
     door.workers.saturating_add(count_workers(rest))
 }
 
-/// Appends the workers of a door to `workers`. The error is that memory ran out: then some of them may have been
-/// appended.
+/// Appends the workers of `door` to `workers`. If memory runs out, that is the error, and some of the door's workers
+/// may have been appended.
 fn push_workers(alloc: Global, workers: &mut Vec<Worker>, door: OpenDoor) -> Result<(), AllocError>
     ensures { IfOk result (λ _. posts_of workers.new.items ≡ posts_of workers.old.items ++ posts_at door) }
 {
@@ -71,9 +70,8 @@ fn workers_of(alloc: Global, doors: Vec<OpenDoor>) -> Result<Vec<Worker>, AllocE
 }
 
 impl Crew {
-    /// Makes the workers of these doors, in their order. Each door gets as many workers as it asks for, each with its
-    /// role and a share of its listener. Returns `None` if the doors ask for no worker, or for more than 96 in all. The
-    /// error is that memory ran out.
+    /// Makes a crew: for each door as many workers as it asks for, in the order of the doors. Returns `None` if the
+    /// doors ask for no worker, or for more than 96 in all. The error is that memory ran out.
     pub fn new(alloc: Global, doors: Vec<OpenDoor>) -> Result<Option<Crew>, AllocError>
         ensures there { IfOk result (λ made. IsSome made ↔ IsCrew (length (all_posts doors.items))) }
         ensures memory { OnErr result (IsCrew (length (all_posts doors.items))) }
@@ -86,8 +84,7 @@ impl Crew {
         Ok(Some(Crew { workers }))
     }
 
-    /// Returns the number of the crew's workers, 1 to 96. Each has one pass, its right to call the forecourt, so this
-    /// is the number of passes too.
+    /// Returns how many passes the crew needs, 1 to 96: one for each worker.
     pub fn passes(&self) -> u32
         ensures number { result ≡ length self.now.workers.items }
         ensures some { (0 < result) × (result ≤ 96) }

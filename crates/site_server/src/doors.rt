@@ -1,11 +1,11 @@
 //! The connections of a listener, which a worker opens one after another.
 ghost use Rattle.std.specs.Prelude.{◌≡◌, IfSome};
 ghost use Rattle.till_request.specs.Count.{RoseBy};
-ghost use Rattle.site_server.specs.Pauses.{longer_pause, told_of};
+ghost use Rattle.site_server.specs.Pauses.{longer_pause, reported_failure};
 
 use crate::listener::Listener;
 use crate::notices::{Notices, SessionFailure};
-use crate::silence::Hearing;
+use crate::silence::IdleLimitedReader;
 use crate::stream::Stream;
 use line_session::{Doors, Ended, SessionFault};
 use std::time::{Clock, Duration};
@@ -13,20 +13,15 @@ use std::{io, thread};
 use till_request::devices::{Ahead, StreamIn, StreamOut};
 use till_request::{DeviceFault, Role};
 
-type Connection<'a, N> = (Ahead<StreamIn<Hearing<'a, N>>>, StreamOut<Stream>);
+type Connection<'a, N> = (Ahead<StreamIn<IdleLimitedReader<'a, N>>>, StreamOut<Stream>);
 
-/// The connections of a listener, for one worker. Other workers can use the same listener.
+/// Opens the connections of a listener one after another, for one worker. Other workers can use the same listener.
 ///
-/// Input is read ahead, in blocks of 4,096 bytes. What is written is sent at once: connections at a port have
-/// `TCP_NODELAY`.
-///
-/// If a connection can't be opened, for example because no file descriptor is free, the worker waits before it tries
-/// again. It waits 10 milliseconds at first, then twice as long each time, and at most 1 second. Only the first failure
-/// since a connection was opened is reported to an operator.
-///
-/// If `idle_seconds` isn't 0, it limits how long a peer is allowed to send nothing, and how long it is allowed to take
-/// no bytes of an answer. A peer that sends nothing for longer is reported to an operator, and its connection ends. If
-/// a peer takes no bytes for longer, the write fails.
+/// - Input is read ahead, in blocks of 4,096 bytes. Output is sent at once; a port's connections have `TCP_NODELAY`.
+/// - If a connection can't be opened, the worker waits before it tries again: at first 10 milliseconds, then twice as
+///   long each time, and at most 1 second. Of several failures in a row only the first is reported to an operator.
+/// - If a peer sends nothing for `idle_seconds`, that is reported to an operator, and the input ends. If a peer takes
+///   no bytes of an answer for `idle_seconds`, the write fails. If `idle_seconds` is 0, there are no such limits.
 #[derive(Drop)]
 pub struct SocketDoors<'a, R: Clock, N: Notices> {
     rt: &'a R,
@@ -36,7 +31,8 @@ pub struct SocketDoors<'a, R: Clock, N: Notices> {
     pass: u32,
     idle_seconds: u32,
     asked: u64,
-    /// The last wait in milliseconds, or 0 if there was none since a connection was opened.
+    /// How many milliseconds the worker waited after the last failure to open a connection. 0 if a connection was
+    /// opened since then, or if there was no failure.
     pause: u64,
 }
 
@@ -57,7 +53,7 @@ fn longer(pause: u64) -> u64
 /// Returns the failure to report to an operator, or `None` if the session ended after a whole line, or before the peer
 /// sent anything.
 fn failure_of(outcome: &Result<Ended, SessionFault>) -> Option<SessionFailure>
-    ensures { result ≡ told_of outcome.now }
+    ensures { result ≡ reported_failure outcome.now }
 {
     match outcome {
         Ok(ended) => ended.cut.map(SessionFailure::Line),
@@ -66,9 +62,8 @@ fn failure_of(outcome: &Result<Ended, SessionFault>) -> Option<SessionFailure>
 }
 
 impl<'a, R: Clock, N: Notices> SocketDoors<'a, R, N> {
-    /// Makes the doors of a listener, for the worker that has this pass and takes the lines of this role. No connection
-    /// has been asked for yet. A peer is allowed to send nothing, or to take no bytes of an answer, for at most
-    /// `idle_seconds`; 0 is no limit.
+    /// Prepares to open connections of `listener`, for the worker with this role and the pass with the number `pass`. A
+    /// peer is allowed to send nothing, or to take no bytes of an answer, for at most `idle_seconds`; 0 is no limit.
     pub fn new(
         rt: &'a R,
         listener: &'a Listener,
@@ -103,7 +98,7 @@ impl<'a, R: Clock, N: Notices> SocketDoors<'a, R, N> {
         }
         let stream = writer.try_clone()?;
         let input = Ahead::new(StreamIn {
-            reader: Hearing {
+            reader: IdleLimitedReader {
                 stream,
                 notices: self.notices,
                 role: self.role,
@@ -121,9 +116,9 @@ impl<'a, R: Clock, N: Notices> SocketDoors<'a, R, N> {
         Ok((input, output))
     }
 
-    /// Waits after a connection couldn't be opened, for as long as `longer` returns. Before that, reports the error to
-    /// an operator, if no other attempt failed since a connection was opened.
-    fn hold(&mut self, error: &io::Error)
+    /// Waits after a connection couldn't be opened, for as long as `longer` returns. Before that, reports `error` to an
+    /// operator, unless the previous attempt failed too.
+    fn wait_after_failure(&mut self, error: &io::Error)
         ensures asked { self.new.asked ≡ self.old.asked }
         ensures pause { self.new.pause ≡ longer_pause self.old.pause }
         ensures role { self.new.role ≡ self.old.role }
@@ -141,7 +136,8 @@ impl<'a, R: Clock, N: Notices> SocketDoors<'a, R, N> {
     /// Reports to an operator why a session failed. Reports nothing if the session ended after a whole line, or before
     /// the peer sent anything.
     fn report(&self, outcome: &Result<Ended, SessionFault>)
-        ensures { IfSome (told_of outcome.now) (λ failure. N.failure_told self.now.role self.now.pass failure) }
+        ensures { IfSome (reported_failure outcome.now) (λ failure. N.failure_reported self.now.role self.now.pass
+            failure) }
     {
         if let Some(failure) = failure_of(outcome) {
             self.notices.session_failed(self.role, self.pass, failure);
@@ -150,7 +146,7 @@ impl<'a, R: Clock, N: Notices> SocketDoors<'a, R, N> {
 }
 
 impl<'a, R: Clock, N: Notices> Doors for SocketDoors<'a, R, N> {
-    type In = Ahead<StreamIn<Hearing<'a, N>>>;
+    type In = Ahead<StreamIn<IdleLimitedReader<'a, N>>>;
 
     type Out = StreamOut<Stream>;
 
@@ -162,8 +158,9 @@ impl<'a, R: Clock, N: Notices> Doors for SocketDoors<'a, R, N> {
         × (after.role ≡ before.role) × (after.pass ≡ before.pass) × (after.idle_seconds ≡ before.idle_seconds)
         × (after.listener.now ≡ before.listener.now) };
 
-    ghost told = { λ doors outcome. IfSome (told_of outcome) (λ failure. N.failure_told doors.role doors.pass failure)
-        × N.end_told doors.role doors.pass };
+    ghost reported = { λ doors outcome. IfSome (reported_failure outcome) (λ failure. N.failure_reported doors.role
+        doors.pass failure)
+        × N.end_reported doors.role doors.pass };
 
     fn next(&mut self) -> Result<(Self::In, Self::Out), DeviceFault> {
         self.asked = self.asked.wrapping_add(1);
@@ -174,13 +171,13 @@ impl<'a, R: Clock, N: Notices> Doors for SocketDoors<'a, R, N> {
                 Ok(connection)
             }
             Err(error) => {
-                self.hold(&error);
+                self.wait_after_failure(&error);
                 Err(DeviceFault)
             }
         }
     }
 
-    // The block that was read last can hold the next line too: then that line is in memory already.
+    // Input is read in blocks. If the last block has the next line too, that line is in memory already.
     fn has_buffered_line(&self, input: &Self::In) -> bool {
         input.holds_line()
     }

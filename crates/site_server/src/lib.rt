@@ -1,5 +1,5 @@
-//! Serving a site over sockets: the connections of tills, dispensers and the owner, a worker for each pass, and one
-//! journal for all of them.
+//! Serves a site over sockets to tills, dispensers and the owner. Each worker has one pass (the right to call the
+//! site), and the site has one journal.
 #![tactic(auto)]
 
 mod crew;
@@ -21,8 +21,8 @@ pub use limiter::Limiter;
 pub use line_session::SessionFault;
 pub use listener::Listener;
 pub use notices::{Notices, SessionFailure};
-pub use serving::{Outside, ServeFault, Served, Serving, Unclosed};
-pub use silence::Hearing;
+pub use serving::{ServeFault, Served, Serving, ServingHooks, Unclosed};
+pub use silence::IdleLimitedReader;
 pub use site_lock::{CloseRefusal, Forecourt, Journal, LineJournal, Look, NoJournal, SiteLedger};
 pub use stream::Stream;
 pub use watcher::{NoWatcher, Watcher};

@@ -4,11 +4,11 @@ ghost use Rattle.site_server.specs.Limits.{admitted, after_line};
 
 use std::marker::Model;
 
-/// Lets at most ten lines a second through, and counts the others.
+/// A limiter of lines. It lets at most ten lines a second through, and counts those that it holds back.
 #[derive(Drop)]
 pub struct Limiter {
     second: u64,
-    told: u32,
+    allowed: u32,
     held: u64,
 }
 
@@ -18,29 +18,28 @@ impl Model for Limiter {
 
     ghost Value = { LimiterValue };
 
-    ghost view = { λ l. record { second = l.second; told = l.told; held = l.held } };
+    ghost view = { λ l. record { second = l.second; allowed = l.allowed; held = l.held } };
 
-    ghost invariant = { λ l. l.told ≤ 10 };
+    ghost invariant = { λ l. l.allowed ≤ 10 };
 }
 
 impl Limiter {
     /// Makes a limiter that has seen no line yet.
     pub fn new() -> Limiter
         ensures second { result.second ≡ 0 }
-        ensures told { result.told ≡ 0 }
+        ensures allowed { result.allowed ≡ 0 }
         ensures held { result.held ≡ 0 }
     {
         Limiter {
             second: 0,
-            told: 0,
+            allowed: 0,
             held: 0,
         }
     }
 
-    /// Decides whether a line that comes in the second with the number `second` is let through: the first ten lines of
-    /// a second are. If the line before came in a second with another number, a new second begins. Returns how many
+    /// Lets a line through if it is among the first ten lines in a row that come with this `second`. Returns how many
     /// lines were held back since the last one that was let through, at most 2^64 - 1, or `None` if this line is held
-    /// back itself.
+    /// back.
     pub fn admit(&mut self, second: u64) -> Option<u64>
         ensures admitted { result ≡ admitted self.old second }
         ensures after { self.new ≡ after_line self.old second }
@@ -49,13 +48,13 @@ impl Limiter {
             let held = self.held;
             *self = Limiter {
                 second,
-                told: 1,
+                allowed: 1,
                 held: 0,
             };
             return Some(held);
         }
-        if self.told < 10 {
-            self.told += 1;
+        if self.allowed < 10 {
+            self.allowed += 1;
             Some(0)
         } else {
             self.held = self.held.saturating_add(1);

@@ -17,8 +17,8 @@ pub enum Listener {
 }
 
 impl Listener {
-    /// Opens a port of 127.0.0.1, to which only this machine can connect. For 0 the system chooses a free port. A port
-    /// above 65,535 gives the error `InvalidInput`.
+    /// Opens a port of 127.0.0.1, to which only this machine can connect. If `port` is 0, the system chooses a free
+    /// one. The error is `InvalidInput` for a port above 65,535, or that the system couldn't open the port.
     pub fn on_port<R: Net<Listener = TcpListener, Stream = TcpStream>>(
         rt: &R,
         port: u32,
@@ -32,8 +32,8 @@ impl Listener {
         Ok(Listener::Port(TcpListener::bind(rt, address)?))
     }
 
-    /// Waits for the next connection, and returns it. What is written to it is sent at once, without a delay to gather
-    /// more bytes.
+    /// Waits for the next connection, and returns it. What is written to the connection is sent at once. The error is
+    /// that the connection couldn't be opened.
     pub(crate) fn accept(&self) -> io::Result<Stream> {
         match self {
             Listener::Port(listener) => {

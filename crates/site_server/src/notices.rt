@@ -23,33 +23,33 @@ impl fmt::Display for SessionFailure {
             SessionFailure::Line(LineFault::TooLong) => {
                 f.write_str("ended by a line of more than 8,400 bytes")
             }
-            // Besides a line that is too long, only a line without its LF ends a session.
+            // Of the line faults only `TooLong`, which is handled above, and `CutLine` end a session.
             SessionFailure::Line(_) => f.write_str("ended in mid-line"),
             SessionFailure::Session(fault) => fault.fmt(f),
         }
     }
 }
 
-/// Receives reports from the workers of a site: on what went wrong, for an operator to read, and on connections, so
-/// that they can be counted. All workers share one receiver, and a report has no answer.
+/// Receives the reports of a site's workers: on failures, for an operator to read, and on the start and end of
+/// connections, so that they can be counted. All workers share one receiver.
 pub trait Notices {
     ghost use Rattle.std.specs.Prelude.{ℕ};
     ghost use Rattle.till_request.specs.declared.act.Role.{Role};
     ghost use Rattle.site_server.specs.declared.notices.SessionFailure.{SessionFailure};
 
-    /// For proofs: a session of the worker with this role and this pass was reported to have ended with this failure.
-    ghost failure_told: { Role → ℕ → SessionFailure → Type 0 };
+    /// For proofs: it was reported that a session of the worker with this role and this pass ended with this failure.
+    ghost failure_reported: { Role → ℕ → SessionFailure → Type 0 };
 
-    /// For proofs: a session of the worker with this role and this pass was reported to have ended, with or without a
+    /// For proofs: it was reported that a session of the worker with this role and this pass ended, with or without a
     /// fault.
-    ghost end_told: { Role → ℕ → Type 0 };
+    ghost end_reported: { Role → ℕ → Type 0 };
 
     /// Reports that a connection couldn't be opened for the worker with this role and this pass.
     fn accept_failed(&self, role: Role, pass: u32, error: &io::Error);
 
     /// Reports that a session of the worker with this role and this pass ended with this failure.
     fn session_failed(&self, role: Role, pass: u32, failure: SessionFailure)
-        ensures { failure_told role pass failure };
+        ensures { failure_reported role pass failure };
 
     /// Reports that a peer of the worker with this role and this pass sent nothing for this many seconds, so its input
     /// ended.
@@ -60,7 +60,7 @@ pub trait Notices {
 
     /// Reports that a session of the worker with this role and this pass ended, with or without a fault.
     fn disconnected(&self, role: Role, pass: u32)
-        ensures { end_told role pass };
+        ensures { end_reported role pass };
 
     /// Reports that the worker with this role and this pass has served its last connection.
     fn left(&self, role: Role, pass: u32);

@@ -2,7 +2,7 @@
 ghost use Rattle.std.specs.Prelude.{◌≡◌, ◌<◌, ◌≤◌, ◌^◌, [], IfErr, IfOk, Some, length, map, vec_capacity};
 ghost use Rattle.site_lock.specs.Closing.{ClosesSince};
 ghost use Rattle.site_server.specs.Plans.{plan_of};
-ghost use Rattle.site_server.specs.Ending.{Leaves, Refuses, Spoils, WorksOff, fault_of_close};
+ghost use Rattle.site_server.specs.Ending.{IsServed, RefusesWithFault, ServingFails, RunsAllTasks, fault_of_close};
 ghost use Rattle.site_server.specs.Collecting.{AreWaiting, HasCrew, RunsWorker};
 
 use crate::crew::Crew;
@@ -27,16 +27,17 @@ pub struct Serving<J: Journal = NoJournal> {
     pub site: Site,
     pub journal: J,
     pub crew: Crew,
-    /// The number of connections that each worker serves, one after another. One that can't be opened counts too.
+    /// The number of connections that each worker serves, one after another. A connection that can't be opened counts
+    /// too.
     pub connections: u32,
-    /// For how many seconds at most a peer is allowed to send nothing, or to take no bytes of an answer; 0 is no limit.
+    /// How many seconds at most a peer is allowed to send nothing, or to take no bytes of an answer. 0 is no limit.
     pub idle_seconds: u32,
 }
 
-/// What serving a site needs besides the site: the receiver of the workers' reports, what decides when an answer is
-/// allowed to be sent, and what looks at the site while it is served.
+/// What serving a site needs besides the site: `notices` receives the workers' reports, `release` decides when an
+/// answer is allowed to be sent, and `watcher` looks at the site while it is served.
 #[derive(Clone, Copy)]
-pub struct Outside<'a, N: Notices, A: Release, W: Watcher> {
+pub struct ServingHooks<'a, N: Notices, A: Release, W: Watcher> {
     pub notices: &'a N,
     pub release: &'a A,
     pub watcher: &'a W,
@@ -47,7 +48,7 @@ pub struct Outside<'a, N: Notices, A: Release, W: Watcher> {
 pub struct Served<J: Journal = NoJournal> {
     /// The site, closed.
     pub site: Site,
-    /// The journal that was kept.
+    /// The site's journal.
     pub journal: J,
     /// The number of connections whose sessions ended without a `SessionFault`.
     pub clean: u64,
@@ -59,9 +60,8 @@ pub enum ServeFault {
     OutOfMemory,
     /// The journal failed, so the act of the last entry was never answered.
     Journal,
-    /// The close was refused because the workers' receipts differ from the site's history (C2). By the contract of
-    /// `Serving::run` the reason is never a missing pass (C1), or another configuration than the one that the forecourt
-    /// was made for (C3).
+    /// The close was refused because the workers' receipts differ from the site's history (C2). `Serving::run` returns
+    /// no other refusal.
     NotClosed(CloseRefusal),
 }
 
@@ -75,7 +75,7 @@ impl From<AllocError> for ServeFault {
     }
 }
 
-/// The result of serving that ended without a closed site.
+/// What serving a site returns if it ends without a closed site.
 #[derive(Drop)]
 pub struct Unclosed<J: Journal = NoJournal> {
     pub why: ServeFault,
@@ -83,7 +83,7 @@ pub struct Unclosed<J: Journal = NoJournal> {
     pub back: Option<(Site, J)>,
 }
 
-/// What is allocated before anything is served.
+/// What is allocated before the first connection is served.
 #[derive(Drop)]
 struct Prepared<L: SiteLedger> {
     builder: ForecourtBuilder<L>,
@@ -119,21 +119,23 @@ fn prepare<L: SiteLedger>(
     })
 }
 
-/// Returns why a site wasn't closed: that its journal failed, if `has_stopped` is true, or else `why`, the refusal to
-/// close it.
-fn why_not_closed(why: CloseRefusal, has_stopped: bool) -> ServeFault
-    ensures { result ≡ fault_of_close why has_stopped }
+/// Returns why a site wasn't closed: `Journal` if `journal_has_failed` is true, or else `NotClosed` with the refusal
+/// `why`.
+fn why_not_closed(why: CloseRefusal, journal_has_failed: bool) -> ServeFault
+    ensures { result ≡ fault_of_close why journal_has_failed }
 {
-    if has_stopped {
+    if journal_has_failed {
         ServeFault::Journal
     } else {
         ServeFault::NotClosed(why)
     }
 }
 
-/// Closes the site of a forecourt, and returns it with its journal and `clean`. The close is refused unless the site's
-/// history is the one that the forecourt started with, followed by exactly the entries that the passes have receipts
-/// of.
+/// Closes a forecourt, and returns its site, its journal and `clean`. If the close is refused, the error is:
+///
+/// - `Journal`, if the journal failed
+/// - `NotClosed` otherwise: `passes` aren't all passes of the forecourt, each once, or their receipts differ from the
+///   site's history
 fn close<L: SiteLedger, J: Journal, R: Wait>(
     rt: &R,
     forecourt: Forecourt<L, J>,
@@ -142,7 +144,7 @@ fn close<L: SiteLedger, J: Journal, R: Wait>(
 ) -> Result<Served<J>, Unclosed<J>>
     ensures clean { IfOk result (λ served. served.clean ≡ clean) }
     ensures ok { IfOk result (λ served. ClosesSince forecourt passes.items served.site (J.written served.journal)) }
-    ensures err { IfErr result (λ unclosed. Refuses forecourt J.may_fail passes.items unclosed.why) }
+    ensures err { IfErr result (λ unclosed. RefusesWithFault forecourt J.may_fail passes.items unclosed.why) }
 {
     match forecourt.finish(rt, passes) {
         Ok((closed, journal)) => Ok(Served {
@@ -151,7 +153,7 @@ fn close<L: SiteLedger, J: Journal, R: Wait>(
             clean,
         }),
         Err(fault) => {
-            let why = why_not_closed(fault.why, fault.forecourt.has_stopped());
+            let why = why_not_closed(fault.why, fault.forecourt.journal_has_failed());
             Err(Unclosed { why, back: None })
         }
     }
@@ -170,9 +172,9 @@ struct Returned<L: SiteLedger> {
     clean: u64,
 }
 
-/// Runs the tasks of all workers at once, and moves their passes into `passes`, which must be empty and have room for
-/// all of them. `tasks` must be those of a whole crew, none of which has run yet. At the end asks the watcher to stop
-/// looking at the site.
+/// Runs all tasks at once, moves their passes into `passes`, and then asks the watcher to stop looking at the site.
+/// `passes` must be empty and have room for one pass from each task. `tasks` must be those of a whole crew, and must
+/// not have run yet. The forecourt must have the configuration that `L` names.
 fn work_all<
     L: SiteLedger + Send + Sync,
     J: Journal + Send,
@@ -189,7 +191,7 @@ fn work_all<
     requires waiting { HasCrew (map (λ p. p.waiting) tasks.items) }
     requires room { (passes.items ≡ []) × (length tasks.items ≤ vec_capacity passes) }
     requires config { workers.now.forecourt.config ≡ L.config }
-    ensures { WorksOff workers.now.forecourt J.may_fail workers.now.connections (map (λ p. p.waiting) tasks.items)
+    ensures { RunsAllTasks workers.now.forecourt J.may_fail workers.now.connections (map (λ p. p.waiting) tasks.items)
         result.passes.items result.clean }
 {
     prove_few(workers.connections);
@@ -210,21 +212,31 @@ fn work_all<
 }
 
 impl<J: Journal + Send> Serving<J> {
-    /// Serves the site: each worker of the crew serves its connections, one after another, and then the site is closed.
-    /// Each entry's line is passed to the journal before the entry is answered, and the answer is sent once `release`
-    /// allows it. A listener is closed when the last worker with a share of it ends. While the workers serve, the
-    /// watcher looks at the site, until the last of them has ended.
+    /// Serves the site, and then closes it. Each worker of the crew serves its connections, one after another. The
+    /// watcher looks at the site until the last worker has ended. Each entry's line is passed to the journal before the
+    /// entry is answered, and the answer is sent once `release` allows it. A listener is closed when the last of its
+    /// workers ends.
     ///
-    /// The fault `OutOfMemory` comes only before anything is served, and gives the site and the journal back.
+    /// The error is:
+    ///
+    /// - `OutOfMemory`: nothing was served, and the site and the journal are given back.
+    /// - `Journal`: the journal failed.
+    /// - `NotClosed`: the close was refused.
     pub fn run<
         N: Notices + Sync,
         A: Release + Sync,
         W: Watcher + Sync,
         R: Threads + Wait + Clock + Sync,
-    >(self, rt: &R, alloc: Global, outside: Outside<'_, N, A, W>) -> Result<Served<J>, Unclosed<J>>
+    >(
+        self,
+        rt: &R,
+        alloc: Global,
+        outside: ServingHooks<'_, N, A, W>,
+    ) -> Result<Served<J>, Unclosed<J>>
         ensures ok { IfOk result
-            (λ served. Leaves (plan_of J.written J.may_fail self) served.clean served.site (J.written served.journal)) }
-        ensures err { IfErr result (λ unclosed. Spoils (plan_of J.written J.may_fail self) unclosed.why) }
+            (λ served. IsServed (plan_of J.written J.may_fail self) served.clean served.site (J.written
+            served.journal)) }
+        ensures err { IfErr result (λ unclosed. ServingFails (plan_of J.written J.may_fail self) unclosed.why) }
         ensures memory { IfErr result
             (λ unclosed. unclosed.why ≡ ServeFault.OutOfMemory → unclosed.back ≡ Some (self.site, self.journal)) }
     {
@@ -232,8 +244,9 @@ impl<J: Journal + Send> Serving<J> {
         self.run_on::<Brand, N, A, W, R>(rt, alloc, blank, outside)
     }
 
-    /// Serves the site like `run`, with a ledger made from `blank`. Once everything is prepared, the fault can't be
-    /// `OutOfMemory` any more.
+    /// Serves the site like `run`, with the same errors. Makes the ledger from `blank`, which must have been made for
+    /// the ledger `L`, with one part for each worker. `L` must name the site's configuration, its history, and the
+    /// bytes that the journal has taken.
     fn run_on<
         L: SiteLedger + Send + Sync,
         N: Notices + Sync,
@@ -245,7 +258,7 @@ impl<J: Journal + Send> Serving<J> {
         rt: &R,
         alloc: Global,
         blank: Blank,
-        outside: Outside<'_, N, A, W>,
+        outside: ServingHooks<'_, N, A, W>,
     ) -> Result<Served<J>, Unclosed<J>>
         requires name { blank.name ≡ L.name }
         requires parts { blank.parts ≡ L.parts }
@@ -254,8 +267,9 @@ impl<J: Journal + Send> Serving<J> {
         requires taken { J.written self.journal ≡ L.taken }
         requires passes { blank.parts ≡ length self.crew.workers.items }
         ensures ok { IfOk result
-            (λ served. Leaves (plan_of J.written J.may_fail self) served.clean served.site (J.written served.journal)) }
-        ensures err { IfErr result (λ unclosed. Spoils (plan_of J.written J.may_fail self) unclosed.why) }
+            (λ served. IsServed (plan_of J.written J.may_fail self) served.clean served.site (J.written
+            served.journal)) }
+        ensures err { IfErr result (λ unclosed. ServingFails (plan_of J.written J.may_fail self) unclosed.why) }
         ensures memory { IfErr result
             (λ unclosed. unclosed.why ≡ ServeFault.OutOfMemory → unclosed.back ≡ Some (self.site, self.journal)) }
     {
@@ -272,7 +286,7 @@ impl<J: Journal + Send> Serving<J> {
                 back: Some((site, journal)),
             });
         };
-        let Outside {
+        let ServingHooks {
             notices,
             release,
             watcher,
@@ -294,7 +308,7 @@ impl<J: Journal + Send> Serving<J> {
                 requires waiting { HasCrew (map (λ p. p.waiting) tasks.items) }
                 requires room { (room.items ≡ []) × (length tasks.items ≤ vec_capacity room) }
                 requires config { workers.forecourt.config ≡ L.config }
-                ensures { WorksOff workers.entry.forecourt J.may_fail workers.entry.connections
+                ensures { RunsAllTasks workers.entry.forecourt J.may_fail workers.entry.connections
                     (map (λ p. p.waiting) tasks.items) result.passes.items result.clean }
             { work_all(&workers, tasks, room, watcher) },
         );

@@ -1,4 +1,4 @@
-//! The reading half of a connection, which ends if its peer is silent for too long.
+//! The reading half of a connection. Its input ends if the peer is silent for too long.
 ghost use Rattle.std.specs.Prelude.{◌≡◌, ◌<◌, ◌↔◌, IsErrAnd, IsFalse, IsTrue, Ok};
 ghost use Rattle.std.specs.IoError.{error_kind};
 
@@ -8,10 +8,9 @@ use std::io::{self, ErrorKind, Read};
 use till_request::Role;
 
 /// The reading half of a connection. If its peer sends nothing for `idle_seconds`, that is reported to an operator, and
-/// the input ends as if the peer had closed the connection. If `idle_seconds` is 0, the peer may be silent for any
-/// time.
+/// the input ends as if the peer had closed the connection. If `idle_seconds` is 0, there is no such limit.
 #[derive(Drop)]
-pub struct Hearing<'a, N: Notices> {
+pub struct IdleLimitedReader<'a, N: Notices> {
     pub(crate) stream: Stream,
     pub(crate) notices: &'a N,
     pub(crate) role: Role,
@@ -27,9 +26,9 @@ fn is_silence(error: &io::Error, idle_seconds: u32) -> bool
     idle_seconds > 0 && error.kind() == ErrorKind::WouldBlock
 }
 
-/// Returns the result of a read as the reader gets it, and whether the peer was silent for too long. If it was, the
-/// reader gets the end of the input, and otherwise `read` itself.
-fn heard(read: io::Result<usize>, idle_seconds: u32) -> (io::Result<usize>, bool)
+/// Returns the end of the input (`Ok(0)`) and true if `read` failed because the peer was silent for `idle_seconds`.
+/// Otherwise returns `read` and false. If `idle_seconds` is 0, there is no limit.
+fn end_if_silent(read: io::Result<usize>, idle_seconds: u32) -> (io::Result<usize>, bool)
     ensures silent { IsTrue result.1
         ↔ IsErrAnd read (λ error. (0 < idle_seconds) × (error_kind error ≡ ErrorKind.WouldBlock)) }
     ensures ended { IsTrue result.1 → result.0 ≡ Ok 0 }
@@ -41,9 +40,9 @@ fn heard(read: io::Result<usize>, idle_seconds: u32) -> (io::Result<usize>, bool
     }
 }
 
-impl<N: Notices> Read for Hearing<'_, N> {
+impl<N: Notices> Read for IdleLimitedReader<'_, N> {
     fn read(&mut self, buf: &mut [u8]) -> io::Result<usize> {
-        let (read, is_silent) = heard(self.stream.read(buf), self.idle_seconds);
+        let (read, is_silent) = end_if_silent(self.stream.read(buf), self.idle_seconds);
         if is_silent {
             self.notices
                 .fell_silent(self.role, self.pass, self.idle_seconds);

@@ -14,7 +14,7 @@ pub enum Stream {
 }
 
 impl Stream {
-    /// Returns another handle of the same connection.
+    /// Returns another handle of the same connection. The error is that the system couldn't make one.
     pub(crate) fn try_clone(&self) -> io::Result<Stream> {
         match self {
             Stream::Port(stream) => Ok(Stream::Port(stream.try_clone()?)),
@@ -23,7 +23,7 @@ impl Stream {
     }
 
     /// Limits how long a read or a write is allowed to wait, through any handle of the connection. A read or a write
-    /// that waits longer fails with `WouldBlock`. `limit` must not be 0.
+    /// that waits longer fails with `WouldBlock`. `limit` must not be 0. The error is that the limit couldn't be set.
     pub(crate) fn limit_waits(&self, limit: Duration) -> io::Result<()> {
         match self {
             Stream::Port(stream) => {

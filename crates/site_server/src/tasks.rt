@@ -16,8 +16,8 @@ pub struct WorkerTask<L: SiteLedger> {
     pub done: Option<(Pass<L>, u64)>,
 }
 
-/// Makes a task for each pass, with the worker at the same place in `workers`. If one list is longer, the rest of it is
-/// dropped. The error is that memory ran out.
+/// Makes a task for each pass, with the worker at the same place in `workers`. If one of the two lists is longer, its
+/// further elements are dropped. The error is that memory ran out.
 pub(crate) fn tasks_of<L: SiteLedger>(
     alloc: Global,
     passes: Vec<Pass<L>>,
@@ -55,9 +55,8 @@ fn collect_pass<L: SiteLedger>(task: &mut WorkerTask<L>, passes: &mut Vec<Pass<L
     }
 }
 
-/// Moves the passes of those tasks that are finished into `passes`, which must have room for as many passes as there
-/// are tasks. Returns how many sessions of the finished tasks ended without a `SessionFault`, in all. This number must
-/// be below 2^64.
+/// Moves the passes of all finished tasks into `passes`, which must have room for one pass from each task. Returns how
+/// many sessions of these tasks ended without a `SessionFault`. This number must be below 2^64.
 pub fn collect_passes<L: SiteLedger>(tasks: &mut [WorkerTask<L>], passes: &mut Vec<Pass<L>>) -> u64
     requires room { vec_len passes.old + length tasks.old ≤ vec_capacity passes.old }
     requires few { clean_in (map (λ p. p.done) tasks.old) < 2 ^ 64 }

@@ -15,7 +15,7 @@ use std::sync::Wait;
 use std::time::Clock;
 use till_request::Role;
 
-/// What all workers of a served site use together.
+/// What all workers of a served site share.
 #[derive(Drop)]
 pub struct Workers<'a, L: SiteLedger, J: Journal, N: Notices, A: Release, R: Wait + Clock> {
     pub rt: &'a R,
@@ -26,7 +26,7 @@ pub struct Workers<'a, L: SiteLedger, J: Journal, N: Notices, A: Release, R: Wai
     pub release: &'a A,
     /// The number of connections that each worker serves.
     pub connections: u32,
-    /// For how many seconds at most a peer is allowed to send nothing, or to take no bytes of an answer; 0 is no limit.
+    /// How many seconds at most a peer is allowed to send nothing, or to take no bytes of an answer. 0 is no limit.
     pub idle_seconds: u32,
 }
 
@@ -38,9 +38,8 @@ impl<L: SiteLedger, J: Journal, N: Notices, A: Release, R: Wait + Clock> Workers
     A,
     R,
 > {
-    /// Runs a worker's task: serves connections of the worker's listener with the pass in `waiting`, and puts the pass
-    /// into `done`. Does nothing if `waiting` is `None`. The workers of a door share its listener, which is closed when
-    /// the last of them ends.
+    /// Runs a task: serves the worker's connections with the pass in `waiting`, and then puts the pass into `done`.
+    /// Does nothing if `waiting` is `None`.
     pub fn work(&self, task: &mut WorkerTask<L>)
         ensures { RunsWorker L.config J.may_fail self.now.connections task.old.waiting task.new.done }
     {
@@ -60,9 +59,8 @@ impl<L: SiteLedger, J: Journal, N: Notices, A: Release, R: Wait + Clock> Workers
         self.notices.left(role, number);
     }
 
-    /// Serves the connections of a role with one pass. Rules run without the site's lock, except after two stale runs.
-    /// Each answer waits until `release` allows it to be sent. Returns the pass, with the receipts that it gained, and
-    /// the number of connections whose sessions ended without a `SessionFault`.
+    /// Serves the connections of `doors` with this pass and role. Each answer is sent once `release` allows it. Returns
+    /// the pass, with the receipts that it gained, and how many connections ended without a `SessionFault`.
     fn serve<S: Doors + Drop>(&self, pass: Pass<L>, role: Role, doors: S) -> (Pass<L>, u64)
         ensures worked { Worked L.config J.may_fail role self.now.connections result.1 pass result.0 }
         ensures id { result.0.id ≡ pass.id }

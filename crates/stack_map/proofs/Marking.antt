@@ -1,4 +1,4 @@
--- Which places the words of a set stand for, and how masks add, remove and test places.
+-- Which places the words of a set represent, and how masks add, remove and test places.
 use Rattle.std.proofs.Common.{◌≡◌, ◌≢◌, ℕ, zero, suc, ◌+◌, ◌-◌, ◌*◌, ◌/◌, ◌%◌, ◌^◌, ◌<◌, ◌≤◌, ◌⊎◌, ◌↔◌, List, [], ◌∷◌, ◌++◌, Bool, true, false, refl, sym, ap}
 use Rattle.std.proofs.Common.{◌∙◌, subst, inl, inr, arith, length, replicate, bit_and, bit_or, min, max}
 use Rattle.std.specs.Prelude.{◌==◌, slice_index_or, slice_set}
@@ -28,7 +28,7 @@ bits_high zero word p rest l = ap (λ k. slice_index_or rest k false) (omega ari
 bits_high (suc n) word zero rest l = absurd (omega (arith, l))
 bits_high (suc n) word (suc p) rest l = bits_high n (word / 2) p rest (omega (arith, l)) ∙ ap (λ k. slice_index_or rest k false) (omega arith)
 
--- place p is in the set that the words stand for exactly if its bit is 1
+-- place p is in the set that the words represent exactly if its bit is 1
 pub marked_is : (words : List ℕ) (p : ℕ) → Has (places_of words) p ↔ IsMarked words p
 unfolding places_of
 marked_is [] p = (λ h. absurd (cc), λ e. absurd (let z = bit_at-zero (p % 64) in cc))
@@ -102,7 +102,7 @@ zero_word zero k = refl
 zero_word (suc n) zero = refl
 zero_word (suc n) (suc k) = zero_word n k
 
--- the set that words of 0 stand for is empty
+-- the set that words of 0 represent is empty
 pub no_place : (n p : ℕ) → Has (places_of (no_words n)) p → ⊥
 no_place n p h = never_one _ (ap (λ word. bit_at word (p % 64)) (zero_word n (p / 64)) ∙ bit_at-zero (p % 64)) ((marked_is (no_words n) p).0 h)
 

@@ -22,7 +22,7 @@ use Rattle.till_request.specs.declared.line.LineReadFault.TheVariants as reading
 use Rattle.till_request.specs.Gives.{Fails}
 use Rattle.till_request.specs.Line.{IsLine, TakesFault}
 use Rattle.till_request.specs.Grammar.{number, is_decimal, bytes_from, ◌>>=◌, amount_of, point_of, transaction_of, report_of, up_of, flow_of, load_of, act_in}
-use Rattle.till_request.specs.Grammar.{act_by, act_of_line, act_said, own_act, names_point, names_till, line_read, suits, all_forms, words, IsLoad}
+use Rattle.till_request.specs.Grammar.{act_by, act_of_line, act_by_first_form, act_within_role, names_point, names_till, line_read, suits, all_forms, words, IsLoad}
 
 -- the result is Ok, or its fault is BadLine or BadNumber
 abbrev pub IsBad : {A : Type 0} → Result A LineFault → Type 0
@@ -102,16 +102,16 @@ IsBad-own : (b : Bool) (act : Act) → IsBad (cond b (Ok act) (Err BadLine))
 IsBad-own true act = tt
 IsBad-own false act = tt
 
-IsBad-own_act : (role : Role) (said : Result Act LineFault) → IsBad said → IsBad (own_act role said)
-IsBad-own_act roles.Till said h = h
-IsBad-own_act roles.Dispenser said h = h
-IsBad-own_act roles.Owner said h = h
-IsBad-own_act roles.All said h = h
-IsBad-own_act (roles.OneTill number) said h = IsBad-bind said _ h (λ act. IsBad-own (names_till number act) act)
-IsBad-own_act (roles.SomePoints points) said h = IsBad-bind said _ h (λ act. IsBad-own (names_point points act) act)
+IsBad-act_within_role : (role : Role) (parsed_act : Result Act LineFault) → IsBad parsed_act → IsBad (act_within_role role parsed_act)
+IsBad-act_within_role roles.Till parsed_act h = h
+IsBad-act_within_role roles.Dispenser parsed_act h = h
+IsBad-act_within_role roles.Owner parsed_act h = h
+IsBad-act_within_role roles.All parsed_act h = h
+IsBad-act_within_role (roles.OneTill number) parsed_act h = IsBad-bind parsed_act _ h (λ act. IsBad-own (names_till number act) act)
+IsBad-act_within_role (roles.SomePoints points) parsed_act h = IsBad-bind parsed_act _ h (λ act. IsBad-own (names_point points act) act)
 
 pub IsBad-act_of_line : (role : Role) (line : List ℕ) → IsBad (act_of_line role line)
-IsBad-act_of_line role line = IsBad-own_act role (act_said role (words line)) (IsBad-act_by (find (suits role (words line)) all_forms) (words line))
+IsBad-act_of_line role line = IsBad-act_within_role role (act_by_first_form role (words line)) (IsBad-act_by (find (suits role (words line)) all_forms) (words line))
 
 bad_along : {r s : Result Act LineFault} → r ≡ s → IsBad r → IsBad s
 bad_along e h = subst IsBad e h

@@ -93,7 +93,7 @@ pub in_five : (ws : List (Bor (List ℕ))) (d : Bor (List ℕ)) → length ws �
 in_five (a ∷ b ∷ c ∷ v ∷ w ∷ []) d e = refl
 in_five ws d e = absurd (omega (arith, e))
 
--- four tests all hold or not, whether the first or the third is made first
+-- whether four tests all hold doesn't depend on which is made first, the first or the third
 pub third_first : (a b c d : Bool) → (a && (b && (c && d))) ≡ (c && (a && (b && d)))
 third_first true true c d = refl
 third_first true false true d = refl

@@ -8,8 +8,8 @@ use Rattle.std.proofs.lemmas.Bool.Decides.{nat_tests}
 use Rattle.memchr.specs.Find.{IsFirstByte, Nowhere, Passes, is_byte}
 use Rattle.std.specs.Prelude.{◌==◌, if◌then◌else◌}
 use Rattle.std.specs.Io.KnownBytes.{Consumes, IsAtEnd, Keeps, append_known, prepend_known}
-use Rattle.till_request.specs.Line.{HasNoLf, IsLine, LacksRoom, Takes, TakesHeld, TakesTooLong}
-use Rattle.till_request.specs.Blocks.{Belongs, EndsBehind, GivesHeld, LineGrows, LosesPart}
+use Rattle.till_request.specs.Line.{HasNoLf, IsLine, LacksRoom, Takes, ReadsIntoLine, TakesTooLong}
+use Rattle.till_request.specs.Blocks.{Belongs, HasFirstLfAt, MovesIntoLine, LineGrows, LosesPart}
 use Rattle.till_request.specs.declared.block.Piece.TheVariants.{Ended, TooLong}
 use Rattle.till_request.specs.declared.line.NextLine.{NextLine}
 use Rattle.till_request.specs.declared.line.NextLine.TheVariants.{Cut, End}
@@ -24,7 +24,7 @@ no_lf_before (x ∷ xs) (suc n) l h = (
 )
 
 pub ends_behind : (bytes : List ℕ) (found : Option ℕ) → IsFirstByte (is_byte 10) bytes found
-    → MatchOption found (HasNoLf bytes) (λ count. EndsBehind count bytes)
+    → MatchOption found (HasNoLf bytes) (λ count. HasFirstLfAt count bytes)
 ends_behind bytes None h = subst (λ l. HasNoLf l) (take_all (length bytes) bytes (omega arith)) (no_lf_before bytes (length bytes) (omega arith) h)
 ends_behind bytes (Some k) h = (
   h.0.high,
@@ -66,7 +66,7 @@ beyond there line room l e o h = (
 )
 
 -- a line is too long if more bytes come before its LF in the block than the line has room for
-pub ends_too_late : (there line : List ℕ) (room count : ℕ) → IsLine line → room ≡ 8400 - length line → EndsBehind count there → room < count
+pub ends_too_late : (there line : List ℕ) (room count : ℕ) → IsLine line → room ≡ 8400 - length line → HasFirstLfAt count there → room < count
     → LineGrows there line (drop (room + 1) there) [] TooLong
 ends_too_late there line room count l e h o =
     beyond there line room l e (omega (arith, o, h.0)) (no_lf_less count (room + 1) there (omega (arith, o)) h.1)
@@ -92,7 +92,7 @@ part_lost there line left count place l h long room some full rest = (
 
 -- if the bytes before the LF were appended to the line, which has room for them, and the LF was removed, the line has
 -- ended
-pub line_ended : (there line left grown : List ℕ) (count : ℕ) → IsLine line → EndsBehind count there → count ≤ 8400 - length line
+pub line_ended : (there line left grown : List ℕ) (count : ℕ) → IsLine line → HasFirstLfAt count there → count ≤ 8400 - length line
     → grown ≡ line ++ take count there → left ≡ drop 1 (drop count there) → LineGrows there line left grown Ended
 line_ended there line left grown count l h room is rest =
     let long : length (take count there) ≡ count = length-take-le count there (omega (arith, h.0)) in
@@ -126,7 +126,7 @@ still_taken (Some ps) None c line h k = absurd h
 still_taken (Some ps) (Some qs) None line h k = absurd k
 still_taken (Some ps) (Some qs) (Some rs) line h k = h ∙ ap (λ t. line ++ t) (sym k)
 
--- if a line ended with bytes of the block, then the whole line and its LF were taken
+-- if the end of a line was found in the block, then the whole line and its LF have been taken from the input
 pub line_taken : (a b ahead : Option (List ℕ)) (line there left grown : List ℕ) → Consumes a b line → Keeps b (prepend_known there ahead)
     → LineGrows there line left grown Ended → Consumes a (prepend_known left ahead) (grown ++ 10 ∷ []) × IsLine grown
 line_taken a b ahead line there left grown h k g =
@@ -153,7 +153,8 @@ end_by a b ahead (x ∷ xs) h l k z =
     subst (λ e. Takes a (prepend_known [] ahead) (if e then End else Cut)) (sym some)
     (x ∷ xs, still_taken a b (prepend_known [] ahead) (x ∷ xs) h k, l, omega arith, at_end_too ahead z)
 
--- if the input ends after a line's bytes, then what was found is `End` if there are none, or else `Cut`
+-- if the input has ended after the bytes `line`, and `found` is `End` if there are none or else `Cut`, then `Takes`
+-- holds for `found`
 pub end_taken : (a b ahead : Option (List ℕ)) (line there : List ℕ) (found : NextLine) → Consumes a b line → IsLine line
     → Keeps b (prepend_known there ahead) → there ≡ [] → IsAtEnd ahead → found ≡ (if length line == 0 then End else Cut)
     → Takes a (prepend_known there ahead) found
@@ -161,29 +162,29 @@ end_taken a b ahead line there found h l k none z is =
     subst (λ t. Takes a (prepend_known t ahead) found) (sym none)
     (subst (λ f. Takes a (prepend_known [] ahead) f) (sym is) (end_by a b ahead line h l (subst (λ t. Keeps b (prepend_known t ahead)) none k) z))
 
--- if `count` bytes, of those that belong to the line, were moved to its end, then `GivesHeld` holds
-pub held_taken : (there line grown left : List ℕ) (room n count : ℕ) → IsLine line → room ≡ 8400 - length line → Belongs there room n → count ≤ n
-    → grown ≡ line ++ take count there → left ≡ drop count there → GivesHeld there line left grown count
-held_taken there line grown left room n count l e belongs few is rest =
+-- if `count` bytes, of those that belong to the line, were moved to its end, then `MovesIntoLine` holds
+pub buffered_moved : (there line grown left : List ℕ) (room n count : ℕ) → IsLine line → room ≡ 8400 - length line → Belongs there room n → count ≤ n
+    → grown ≡ line ++ take count there → left ≡ drop count there → MovesIntoLine there line left grown count
+buffered_moved there line grown left room n count l e belongs within_limit is rest =
     let bytes : List ℕ = take count there in
-    let long : length bytes ≡ count = omega (arith, few, belongs.0, length-take count there) in
+    let long : length bytes ≡ count = omega (arith, within_limit, belongs.0, length-take count there) in
     let whole : IsLine (line ++ bytes) = (
-      no_lf_both line bytes l.0 (no_lf_less n count there few belongs.1),
-      omega (arith, length-append line bytes, long, few, belongs.2, e, l.1),
+      no_lf_both line bytes l.0 (no_lf_less n count there within_limit belongs.1),
+      omega (arith, length-append line bytes, long, within_limit, belongs.2, e, l.1),
     ) in
     (bytes, sym (ap (λ r. bytes ++ r) rest ∙ take-append-drop count there), is, subst (λ w. IsLine w) (sym is) whole, long)
 
--- if `count` bytes, of those that belong to the line, have no place in its room, then `LacksRoom` holds of the block
-pub held_lacks : (there line : List ℕ) (free n count place most : ℕ) → IsLine line → free ≡ 8400 - length line → Belongs there free n
+-- if the line has no room for `count` bytes that belong to it, then `LacksRoom` holds for the bytes of the block
+pub buffered_lacks_room : (there line : List ℕ) (free n count place most : ℕ) → IsLine line → free ≡ 8400 - length line → Belongs there free n
     → count ≤ n → count ≤ most → length line ≤ place → place < length line + count → LacksRoom (Some there) line place most most
-held_lacks there line free n count place most l e belongs few within fits full =
+buffered_lacks_room there line free n count place most l e belongs within_limit within fits full =
     let bytes : List ℕ = take count there in
-    let long : length bytes ≡ count = omega (arith, few, belongs.0, length-take count there) in
+    let long : length bytes ≡ count = omega (arith, within_limit, belongs.0, length-take count there) in
     let both : length (line ++ bytes) ≡ length line + length bytes = length-append line bytes in (
       bytes,
       Some (drop count there),
       sym (take-append-drop count there),
-      (no_lf_both line bytes l.0 (no_lf_less n count there few belongs.1), omega (arith, both, long, few, belongs.2, e, l.1)),
+      (no_lf_both line bytes l.0 (no_lf_less n count there within_limit belongs.1), omega (arith, both, long, within_limit, belongs.2, e, l.1)),
       omega (arith, long, fits, full),
       omega (arith, both, long, full),
       omega arith,
@@ -195,7 +196,7 @@ consumes_ahead : (there rest bytes : List ℕ) (left : Option (List ℕ)) → Co
 consumes_ahead there rest bytes None h = absurd h
 consumes_ahead there rest bytes (Some left) h = ap (λ t. t ++ rest) h ∙ append_assoc bytes left rest
 
--- bytes of a block that have no place come next in the bytes of the block and the device together
+-- if `LacksRoom` holds for the bytes of a block, it also holds for the bytes of the block and the device together
 pub lacks_ahead : (ahead : Option (List ℕ)) (there line : List ℕ) (place most : ℕ) → LacksRoom (Some there) line place most most
     → LacksRoom (prepend_known there ahead) line place most most
 lacks_ahead None there line place most h = (h.0, None, tt, h.3, h.4, h.5, h.6, h.7)
@@ -203,10 +204,10 @@ lacks_ahead (Some rest) there line place most h =
     (h.0, append_known h.1 rest, consumes_ahead there rest h.0 h.1 h.2, h.3, h.4, h.5, h.6, h.7)
 
 -- bytes that were moved from a block to a line were taken from the bytes of the block and the device together
-pub held_ahead : (ahead : Option (List ℕ)) (there line left grown : List ℕ) (count : ℕ) → GivesHeld there line left grown count
-    → TakesHeld (prepend_known there ahead) (prepend_known left ahead) line grown
-held_ahead None there line left grown count h = (h.0, tt, h.2, h.3)
-held_ahead (Some rest) there line left grown count h = (h.0, ap (λ t. t ++ rest) h.1 ∙ append_assoc h.0 left rest, h.2, h.3)
+pub buffered_with_device : (ahead : Option (List ℕ)) (there line left grown : List ℕ) (count : ℕ) → MovesIntoLine there line left grown count
+    → ReadsIntoLine (prepend_known there ahead) (prepend_known left ahead) line grown
+buffered_with_device None there line left grown count h = (h.0, tt, h.2, h.3)
+buffered_with_device (Some rest) there line left grown count h = (h.0, ap (λ t. t ++ rest) h.1 ∙ append_assoc h.0 left rest, h.2, h.3)
 
 -- if a line has ended, the block has fewer bytes than before
 pub ended_shorter : (there line left grown : List ℕ) → LineGrows there line left grown Ended → length left < length there

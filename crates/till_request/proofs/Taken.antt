@@ -1,7 +1,7 @@
--- Bytes that are read or written piece by piece add up.
+-- If bytes are read or written in pieces, one after another, then all the pieces joined are read or written.
 use Rattle.std.proofs.Common.{◌≡◌, ◌≢◌, ◌≤◌, ◌+◌, ℕ, arith, length, length-append, List, [], ◌∷◌, ◌++◌, Some, None, Option, Result, Ok, Err, OnErr, sym, ◌∙◌, ap, subst, append_assoc, append-nil, MatchOption, IfOk}
 use Rattle.std.specs.Io.KnownBytes.{Consumes, Appends, IsAtEnd}
-use Rattle.till_request.specs.Line.{GoesOn, GoesPart, HasNoLf, IsLine, LacksRoom, TakesHeld, TakesPart}
+use Rattle.till_request.specs.Line.{ReadsIntoLineThenByte, ReadsBytesOfLine, HasNoLf, IsLine, LacksRoom, ReadsIntoLine, TakesPart}
 
 pub consumes_more : (a b c : Option (List ℕ)) (xs ys : List ℕ) → Consumes a b xs → Consumes b c ys → Consumes a c (xs ++ ys)
 consumes_more None b c xs ys h k = tt
@@ -33,7 +33,7 @@ part_given (Err e) a c xs h l = (xs, h, l)
 
 -- if a line was read, and then bytes that were appended to it and one more byte, then the grown line and that byte were
 -- read
-pub byte_behind : (a b c : Option (List ℕ)) (line grown : List ℕ) (byte : ℕ) → Consumes a b line → GoesOn b c line grown (Some byte)
+pub byte_behind : (a b c : Option (List ℕ)) (line grown : List ℕ) (byte : ℕ) → Consumes a b line → ReadsIntoLineThenByte b c line grown (Some byte)
     → Consumes a c (grown ++ byte ∷ [])
 byte_behind a b c line grown byte h on =
     let place : line ++ (on.0 ++ byte ∷ []) ≡ grown ++ byte ∷ [] = sym (append_assoc line on.0 (byte ∷ [])) ∙ ap (λ t. t ++ byte ∷ []) (sym on.2) in
@@ -42,20 +42,22 @@ byte_behind a b c line grown byte h on =
 nothing_more : (a b c : Option (List ℕ)) (xs : List ℕ) → Consumes a b xs → Consumes b c [] → Consumes a c xs
 nothing_more a b c xs h k = subst (Consumes a c) (append-nil xs) (consumes_more a b c xs [] h k)
 
--- if bytes were appended to a line, and then one more byte was read or the input had ended, then `GoesOn` holds
-pub goes_on : {E : Type 0} (a b c : Option (List ℕ)) (line grown : List ℕ) (r : Result (Option ℕ) E) → TakesHeld a b line grown
-    → IfOk r (λ found. MatchOption found (Consumes b c [] × IsAtEnd c) (λ byte. Consumes b c (byte ∷ []))) → IfOk r (GoesOn a c line grown)
+-- if bytes were appended to a line, and then one more byte was read or the input had ended, then
+-- `ReadsIntoLineThenByte` holds
+pub goes_on : {E : Type 0} (a b c : Option (List ℕ)) (line grown : List ℕ) (r : Result (Option ℕ) E) → ReadsIntoLine a b line grown
+    → IfOk r (λ found. MatchOption found (Consumes b c [] × IsAtEnd c) (λ byte. Consumes b c (byte ∷ []))) → IfOk r (ReadsIntoLineThenByte a c line grown)
 goes_on a b c line grown (Err e) h k = tt
 goes_on a b c line grown (Ok None) h k = ((h.0, nothing_more a b c h.0 h.1 k.0, h.2, h.3), k.1)
 goes_on a b c line grown (Ok (Some byte)) h k = (h.0, consumes_more a b c h.0 (byte ∷ []) h.1 k, h.2, h.3)
 
--- if bytes were appended to a line, and then the read of one more byte failed, then `GoesPart` holds
-pub goes_part : {T E : Type 0} (a b c : Option (List ℕ)) (line grown : List ℕ) (r : Result T E) → TakesHeld a b line grown
-    → OnErr r (Consumes b c []) → OnErr r (GoesPart a c line)
+-- if bytes were appended to a line, and then the read of one more byte failed, then `ReadsBytesOfLine` holds
+pub goes_part : {T E : Type 0} (a b c : Option (List ℕ)) (line grown : List ℕ) (r : Result T E) → ReadsIntoLine a b line grown
+    → OnErr r (Consumes b c []) → OnErr r (ReadsBytesOfLine a c line)
 goes_part a b c line grown (Ok x) h k = tt
 goes_part a b c line grown (Err e) h k = (h.0, nothing_more a b c h.0 h.1 k, subst (λ l. IsLine l) h.2 h.3)
 
--- if a line was read, and the bytes behind it have no place with it, then all these bytes have no place
+-- if a line was read, and `LacksRoom` holds for it and the bytes after it, then `LacksRoom` holds for all these bytes
+-- together
 pub lacks_behind : (a b : Option (List ℕ)) (line : List ℕ) (least room all before after : ℕ) → Consumes a b line → least ≤ room
     → length line + before ≡ all → LacksRoom b line room before after → LacksRoom a [] least all after
 lacks_behind a b line least room all before after h fits counted l =
@@ -70,7 +72,8 @@ lacks_behind a b line least room all before after h fits counted l =
       omega (arith, long, counted, l.7),
     )
 
--- if a line and a byte behind it were read, and the line has no place for the byte, then all these bytes have no place
+-- if a line and one more byte were read, and the line has no room for the byte, then `LacksRoom` holds for all these
+-- bytes together
 pub lacks_byte : (a c : Option (List ℕ)) (line : List ℕ) (byte room all after : ℕ) → Consumes a c (line ++ byte ∷ []) → IsLine (line ++ byte ∷ [])
     → room ≤ length line → length line + after + 1 ≡ all → LacksRoom a [] room all after
 lacks_byte a c line byte room all after h whole full counted =

@@ -7,23 +7,23 @@ use Rattle.till_request.specs.declared.block.Piece.TheVariants.{Ended, TooLong, 
 use Rattle.till_request.specs.declared.line.InputFault.{InputFault}
 use Rattle.till_request.specs.declared.line.InputFault.TheVariants.{Read, ReadsSpent, OutOfMemory}
 
--- the most bytes that can still be removed: those of the block, and 4,096 for each read that is left
+-- the most bytes that can still be removed: those that are in the block, and 4,096 for each read that is still allowed
 abbrev pub most_ahead : ℕ → List ℕ → ℕ
 most_ahead left unread = 4096 * left + length unread
 
--- the block is empty after this fault, unless the fault is that memory ran out
-abbrev pub EmptyAfter : InputFault → List ℕ → Type 0
-EmptyAfter Read unread = unread ≡ []
-EmptyAfter ReadsSpent unread = unread ≡ []
-EmptyAfter OutOfMemory unread = Unit {0}
+-- unless the fault is that memory ran out, the block is empty: it has no `unread` bytes
+abbrev pub IsEmptyAfterInputFault : InputFault → List ℕ → Type 0
+IsEmptyAfterInputFault Read unread = unread ≡ []
+IsEmptyAfterInputFault ReadsSpent unread = unread ≡ []
+IsEmptyAfterInputFault OutOfMemory unread = Unit {0}
 
 -- the first LF comes after `count` bytes
-abbrev pub EndsBehind : ℕ → List ℕ → Type 0
-EndsBehind count bytes = (count < length bytes) × HasNoLf (take count bytes) × (bytes ≡ take count bytes ++ 10 ∷ drop (count + 1) bytes)
+abbrev pub HasFirstLfAt : ℕ → List ℕ → Type 0
+HasFirstLfAt count bytes = (count < length bytes) × HasNoLf (take count bytes) × (bytes ≡ take count bytes ++ 10 ∷ drop (count + 1) bytes)
 
--- The block had the bytes `there` and now has `left`. Ended: the bytes before the LF were appended to `line`, which
--- gives `grown`, and the LF was removed. More: all bytes were appended. TooLong: bytes were removed up to the 8,401st
--- byte of the line.
+-- The block had the bytes `there` and has the bytes `left` now. `grown` is `line` with what was appended. Ended: the
+-- bytes before the first LF were appended, and they and the LF were removed from the block. More: all bytes were
+-- appended. TooLong: as many bytes were removed as make the line 8,401 bytes long, one more than a line can have.
 abbrev pub LineGrows : List ℕ → List ℕ → List ℕ → List ℕ → Piece → Type 0
 LineGrows there line left grown Ended = (bytes : List ℕ) × (there ≡ bytes ++ 10 ∷ left) × (grown ≡ line ++ bytes) × IsLine grown
 LineGrows there line left grown TooLong = (bytes : List ℕ) × (there ≡ bytes ++ left) × HasNoLf (line ++ bytes) × (length (line ++ bytes) ≡ 8401)
@@ -42,10 +42,11 @@ Belongs bytes room count =
     (count ≤ length bytes) × HasNoLf (take count bytes) × (count ≤ room)
     × ((count ≡ room) ⊎ (drop count bytes ≡ []) ⊎ (drop count bytes ≡ 10 ∷ drop (count + 1) bytes))
 
--- `count` bytes were moved from the block to the end of the line, and none of them is an LF
-abbrev pub GivesHeld : List ℕ → List ℕ → List ℕ → List ℕ → ℕ → Type 0
-GivesHeld there line left grown count = (bytes : List ℕ) × (there ≡ bytes ++ left) × (grown ≡ line ++ bytes) × IsLine grown × (length bytes ≡ count)
+-- `count` bytes were moved from the block to the end of the line. Before, the block had the bytes `there` and the line
+-- was `line`; now the block has `left` and the line is `grown`, which has no LF and at most 8,400 bytes.
+abbrev pub MovesIntoLine : List ℕ → List ℕ → List ℕ → List ℕ → ℕ → Type 0
+MovesIntoLine there line left grown count = (bytes : List ℕ) × (there ≡ bytes ++ left) × (grown ≡ line ++ bytes) × IsLine grown × (length bytes ≡ count)
 
 -- no more bytes can be moved from the block to the line: the line has 8,400 bytes, the block is empty, or an LF is next
-abbrev pub CannotGoOn : List ℕ → List ℕ → Type 0
-CannotGoOn left grown = (length grown ≡ 8400) ⊎ (left ≡ []) ⊎ ((rest : List ℕ) × (left ≡ 10 ∷ rest))
+abbrev pub CannotMoveMore : List ℕ → List ℕ → Type 0
+CannotMoveMore left grown = (length grown ≡ 8400) ⊎ (left ≡ []) ⊎ ((rest : List ℕ) × (left ≡ 10 ∷ rest))

@@ -7,7 +7,7 @@ use Rattle.std.specs.Option.{option_map}
 abbrev pub piece_size : List ℕ → ℕ → ℕ → ℕ
 piece_size sizes each call = max (slice_index_or sizes call each) 1
 
--- one less than `good`, the number of calls before the first that is made to fail, but not below 0; None, by which no
--- call is made to fail, stays None
+-- one less than `successes_left`, the number of calls before the first that is made to fail, but not below 0; None, by
+-- which no call is made to fail, stays None
 abbrev pub one_less : Option ℕ → Option ℕ
-one_less good = option_map (λ k. k - 1) good
+one_less successes_left = option_map (λ k. k - 1) successes_left

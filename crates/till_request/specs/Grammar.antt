@@ -98,7 +98,7 @@ sender forms.Up = roles.Dispenser
 sender forms.Flow = roles.Dispenser
 sender (forms.Load layout) = roles.Owner
 
--- a sender of the first role may send lines of the second
+-- a sender of the first role is allowed to send lines of the second role
 abbrev pub allows : Role → Role → Bool
 allows roles.All by = true
 allows roles.Till roles.Till = true
@@ -147,13 +147,13 @@ abbrev pub bytes_from : Result (List ℕ) FromHexError → Result (List ℕ) Lin
 bytes_from (Ok bytes) = Ok bytes
 bytes_from (Err e) = Err BadNumber
 
--- does the second step with the first one's result; if the first step failed, the result is its fault
+-- does the second step with the first step's result; if the first step failed, the result is its fault
 infixl 10 ◌>>=◌
 abbrev pub ◌>>=◌ : {A B : Type 0} → Result A LineFault → (A → Result B LineFault) → Result B LineFault
 (Ok x) >>= f = f x
 (Err e) >>= f = Err e
 
--- the request or the event of a verb with its numbers
+-- the request with this verb and these numbers; `report_event` is the event of a dispenser's verb
 abbrev pub amount_request : AmountVerb → ℕ → ℕ → Request
 amount_request amounts.Release point amount = requests.Release point amount
 amount_request amounts.Preset point amount = requests.Preset point amount
@@ -243,8 +243,8 @@ act_by None ws = Err BadLine
 act_by (Some form) ws = act_in form ws
 
 -- reads words by the first form that they have and that the role may send
-abbrev pub act_said : Role → List (List ℕ) → Result Act LineFault
-act_said role ws = act_by (find (suits role ws) all_forms) ws
+abbrev pub act_by_first_form : Role → List (List ℕ) → Result Act LineFault
+act_by_first_form role ws = act_by (find (suits role ws) all_forms) ws
 
 -- the act is a request of the till with this number
 abbrev pub names_till : ℕ → Act → Bool
@@ -256,22 +256,23 @@ abbrev pub names_point : ℕ → Act → Bool
 names_point points (acts.Dispenser point event) = nat_le 1 point && (nat_le point 32 && (points / 2 ^ (point - 1) % 2 == 1))
 names_point points act = false
 
--- the act is of the till, or of one of the points, to which the role is limited; true if the role isn't limited to any
-abbrev pub is_own : Role → Act → Bool
-is_own (roles.OneTill number) act = names_till number act
-is_own (roles.SomePoints points) act = names_point points act
-is_own role act = true
+-- the act is from the till, or from one of the points, to which the role is limited; true if the role isn't limited to
+-- any
+abbrev pub is_within_role : Role → Act → Bool
+is_within_role (roles.OneTill number) act = names_till number act
+is_within_role (roles.SomePoints points) act = names_point points act
+is_within_role role act = true
 
--- The act, if the role may send it. If the role is limited to one till or to some points, the act of another till or
--- point is a bad line.
-abbrev pub own_act : Role → Result Act LineFault → Result Act LineFault
-own_act (roles.OneTill number) said = said >>= (λ act. if names_till number act then Ok act else Err BadLine)
-own_act (roles.SomePoints points) said = said >>= (λ act. if names_point points act then Ok act else Err BadLine)
-own_act role said = said
+-- The parsed act or fault. But if the role is limited to one till or to some points, an act that isn't from these is a
+-- bad line.
+abbrev pub act_within_role : Role → Result Act LineFault → Result Act LineFault
+act_within_role (roles.OneTill number) parsed_act = parsed_act >>= (λ act. if names_till number act then Ok act else Err BadLine)
+act_within_role (roles.SomePoints points) parsed_act = parsed_act >>= (λ act. if names_point points act then Ok act else Err BadLine)
+act_within_role role parsed_act = parsed_act
 
 -- reads the words of a line that a sender of this role has sent
 abbrev pub act_of_words : Role → List (List ℕ) → Result Act LineFault
-act_of_words role ws = own_act role (act_said role ws)
+act_of_words role ws = act_within_role role (act_by_first_form role ws)
 
 -- reads a line that a sender of this role has sent, however long it is
 abbrev pub act_of_line : Role → List ℕ → Result Act LineFault

@@ -51,25 +51,25 @@ LacksRoom old line room before after =
     (bytes : List ℕ) × (rest : Option (List ℕ)) × Consumes old rest bytes × IsLine (line ++ bytes) × (0 < length bytes)
     × (room < length (line ++ bytes)) × (before ≤ after + length bytes) × (length bytes ≤ before)
 
--- What was read if memory ran out. Either it is zero or more bytes of a line, and there was no memory for the line's
--- bytes; or it is a whole line with its LF, and the line has the form of a load, which the role may send.
-abbrev pub TakesUpTo : Option (List ℕ) → Option (List ℕ) → Role → ℕ → ℕ → Type 0
-TakesUpTo old new role before after =
+-- What was read until memory ran out. Either it is zero or more bytes of a line, for which there was no memory. Or it
+-- is a whole line with its LF that has the form of a load, and there was no memory for the load's program.
+abbrev pub ReadsUntilOutOfMemory : Option (List ℕ) → Option (List ℕ) → Role → ℕ → ℕ → Type 0
+ReadsUntilOutOfMemory old new role before after =
     (TakesPart old new × LacksRoom old [] 0 before after)
     ⊎ ((line : List ℕ) × Consumes old new (line ++ 10 ∷ []) × IsLine line × IsLoad role (words line))
 
 -- zero or more bytes were read and appended to the line, which then has at most 8,400 bytes and no LF
-abbrev pub TakesHeld : Option (List ℕ) → Option (List ℕ) → List ℕ → List ℕ → Type 0
-TakesHeld old new line grown = (bytes : List ℕ) × Consumes old new bytes × (grown ≡ line ++ bytes) × IsLine grown
+abbrev pub ReadsIntoLine : Option (List ℕ) → Option (List ℕ) → List ℕ → List ℕ → Type 0
+ReadsIntoLine old new line grown = (bytes : List ℕ) × Consumes old new bytes × (grown ≡ line ++ bytes) × IsLine grown
 
 -- zero or more bytes were read and appended to the line, and then one more byte was read, or the input has ended
-abbrev pub GoesOn : Option (List ℕ) → Option (List ℕ) → List ℕ → List ℕ → Option ℕ → Type 0
-GoesOn old new line grown None = TakesHeld old new line grown × IsAtEnd new
-GoesOn old new line grown (Some byte) = (bytes : List ℕ) × Consumes old new (bytes ++ byte ∷ []) × (grown ≡ line ++ bytes) × IsLine grown
+abbrev pub ReadsIntoLineThenByte : Option (List ℕ) → Option (List ℕ) → List ℕ → List ℕ → Option ℕ → Type 0
+ReadsIntoLineThenByte old new line grown None = ReadsIntoLine old new line grown × IsAtEnd new
+ReadsIntoLineThenByte old new line grown (Some byte) = (bytes : List ℕ) × Consumes old new (bytes ++ byte ∷ []) × (grown ≡ line ++ bytes) × IsLine grown
 
 -- zero or more bytes were read that belong to the line; whether they were appended to it isn't stated
-abbrev pub GoesPart : Option (List ℕ) → Option (List ℕ) → List ℕ → Type 0
-GoesPart old new line = (bytes : List ℕ) × Consumes old new bytes × IsLine (line ++ bytes)
+abbrev pub ReadsBytesOfLine : Option (List ℕ) → Option (List ℕ) → List ℕ → Type 0
+ReadsBytesOfLine old new line = (bytes : List ℕ) × Consumes old new bytes × IsLine (line ++ bytes)
 
 -- zero or more bytes were read
 abbrev pub TakesSome : Option (List ℕ) → Option (List ℕ) → Type 0
@@ -83,11 +83,11 @@ Takes old new Cut = TakesCut old new
 Takes old new End = Consumes old new [] × IsAtEnd new
 
 -- what was read, for each result of reading a line into the buffer `line`
-abbrev pub Finds : Option (List ℕ) → Option (List ℕ) → List ℕ → Found → Type 0
-Finds old new line found.Line = Consumes old new (line ++ 10 ∷ []) × IsLine line
-Finds old new line found.TooLong = TakesTooLong old new
-Finds old new line found.Cut = TakesCut old new
-Finds old new line found.End = Consumes old new [] × IsAtEnd new
+abbrev pub ReadsFound : Option (List ℕ) → Option (List ℕ) → List ℕ → Found → Type 0
+ReadsFound old new line found.Line = Consumes old new (line ++ 10 ∷ []) × IsLine line
+ReadsFound old new line found.TooLong = TakesTooLong old new
+ReadsFound old new line found.Cut = TakesCut old new
+ReadsFound old new line found.End = Consumes old new [] × IsAtEnd new
 
 -- a line was read with its LF, and `given` is its act or its fault
 abbrev pub TakesLine : Option (List ℕ) → Option (List ℕ) → Role → Result Act LineFault → Type 0
@@ -105,7 +105,7 @@ TakesFault old new role before after (reading.Line line.TooLong) = TakesTooLong 
 TakesFault old new role before after (reading.Line line.BadLine) = TakesLine old new role (Err line.BadLine)
 TakesFault old new role before after (reading.Line line.BadNumber) = TakesLine old new role (Err line.BadNumber)
 TakesFault old new role before after (reading.Line line.CutLine) = TakesCut old new
-TakesFault old new role before after (reading.Line line.OutOfMemory) = TakesUpTo old new role before after
+TakesFault old new role before after (reading.Line line.OutOfMemory) = ReadsUntilOutOfMemory old new role before after
 TakesFault old new role before after reading.Read = TakesPart old new
 TakesFault old new role before after reading.ReadsSpent = TakesPart old new
 

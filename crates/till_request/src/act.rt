@@ -10,8 +10,8 @@ use fuelling_point::{DispenserEvent, Order};
 use std::alloc::{AllocError, Global};
 use std::marker::Model;
 
-/// A list of bytes, such as a program's. Contracts see it as a list of numbers. The list is kept behind a pointer, so
-/// that an act, which seldom has such a list, is small.
+/// A list of bytes, such as a program's. Contracts see it as a list of numbers. The bytes lie behind a pointer, so that
+/// an act is small: few acts have bytes.
 #[derive(Drop)]
 pub struct Bytes {
     items: Option<Box<Vec<u8>>>,
@@ -79,8 +79,8 @@ impl PartialEq for Bytes {
     }
 }
 
-/// A till's request. If a case has only one number, it names a point. Points, products and a point's transactions are
-/// counted from 1.
+/// A till's request. If a variant has only one number, it is a point's. The numbers of points, of products and of a
+/// point's transactions begin at 1.
 #[derive(Clone, Copy, PartialEq)]
 pub enum Request {
     /// `Release(point, amount)`: allow a delivery of at most this amount, in cents.
@@ -98,14 +98,14 @@ pub enum Request {
     Lock(u32, u32),
     /// `Unlock(point, transaction)`: give the transaction back, so that any till can lock it.
     Unlock(u32, u32),
-    /// `Clear(point, transaction)`: remove the transaction, which was paid.
+    /// `Clear(point, transaction)`: remove the transaction, because it was paid.
     Clear(u32, u32),
-    /// Return the point as it is.
+    /// `Show(point)`: answer with the point as it is (`Reply::Point`).
     Show(u32),
 }
 
-/// What a line asks for or reports: a till's request, a dispenser's event, or the load of a program. Tills and points
-/// are counted from 1.
+/// What a line asks for or reports: a till's request, a dispenser's event, or the load of a program. The numbers of
+/// tills and of points begin at 1.
 #[derive(PartialEq, Drop)]
 pub enum Act {
     Till {
@@ -116,8 +116,8 @@ pub enum Act {
         point: u32,
         event: DispenserEvent,
     },
-    /// The program in `bytes` is put into a slot, counted from 0. Bit c of `mask`, for c from 0 to 31, is set if the
-    /// program declares counter c, and `layout` is the layout of the program's context.
+    /// Load the program in `bytes` into this slot (a place for a rule), counted from 0. Bit c of `mask`, for c from 0
+    /// to 31, is set if the program declares counter c. `layout` is the layout of the program's context (its input).
     Load {
         slot: u32,
         mask: u32,
@@ -133,9 +133,9 @@ pub enum Reply {
     /// `Granted(value, version)`: this version of a rule granted the request. The value is an amount in cents, or for
     /// `Price` a price in thousandths of the currency per litre.
     Granted(u64, u32),
-    /// A program was loaded: the number of its version, counted from 1.
+    /// `Version(version)`: a program was loaded, and this is the number of its version, counted from 1.
     Version(u32),
-    /// The order that was pending at the dispenser's point.
+    /// The order that was waiting for the dispenser at its point.
     Order(Order),
     /// A point as it is: its state 1 to 9, the lifted nozzle or 0, and how many transactions are unpaid. `amount` in
     /// cents and `volume` in centilitres are those of the delivery so far. `limit` is the amount that was granted to
@@ -166,7 +166,7 @@ pub enum Role {
     Owner,
     /// Everybody: a till's line, a dispenser's line and a line that loads a program are accepted.
     All,
-    /// The till with this number: its lines are accepted.
+    /// One till, which has this number: a till's line is accepted if it names this till.
     OneTill(u32),
     /// The dispensers of some points: a dispenser's line is accepted if it names one of these points. Bit p - 1 is set
     /// for point p, which is 1 to 32.
@@ -201,8 +201,9 @@ pub enum Answer {
     /// The line can't be read as an act.
     Line(LineFault),
     /// `Program(number, unit, part)`: a program was refused. `number` is the refusal's, such as 11 for `V11`. `unit` is
-    /// the number of the unit that the refusal names, counted from 0. `part` is the number of the register (0 to 10) or
-    /// of the argument (1 or 2) that the refusal names. `unit` or `part` is `None` if the refusal names none.
+    /// the number of the unit (an instruction slot of eight bytes) that the refusal names, counted from 0. `part` is
+    /// the number of the register (0 to 10) or of the argument (1 or 2) that the refusal names. `unit` or `part` is
+    /// `None` if the refusal names none.
     Program(u32, Option<u32>, Option<u32>),
     /// The journal failed, and the site accepts no further act. Sessions end without writing this answer.
     JournalFailed,

@@ -3,11 +3,11 @@ ghost use Rattle.std.specs.Prelude.{◌≡◌, ◌<◌, ◌≤◌, ◌+◌, ◌-
 ghost use Rattle.std.specs.Prelude.{vec_capacity};
 ghost use Rattle.std.specs.Io.KnownBytes.{Consumes, ReadConsumes, WriteAppends};
 ghost use Rattle.till_request.specs.Count.{RoseBy, one_if};
-ghost use Rattle.till_request.specs.Line.{IsLine, LacksRoom, TakesHeld};
+ghost use Rattle.till_request.specs.Line.{IsLine, LacksRoom, ReadsIntoLine};
 
 use std::alloc::AllocError;
 
-/// The error of a read or a write that failed. The cause isn't kept.
+/// The error of a read or a write that failed. It doesn't say why.
 #[derive(Clone, Copy)]
 pub struct DeviceFault;
 
@@ -38,13 +38,13 @@ pub trait LineIn {
     /// Moves bytes out of the source's own buffer to the end of `line`: at most `left` bytes, only bytes before the
     /// next LF, and only until `line` has 8,400 bytes. Each byte counts as a read of one byte and subtracts 1 from
     /// `left`, the number of reads that are still allowed. At the call, `line` must have at most 8,400 bytes and no LF.
-    /// A source without a buffer moves nothing. The error is that memory ran out: the room of `line` is too small and
-    /// can't grow. Nothing was moved then.
-    fn read_held(&mut self, line: &mut Vec<u8>, left: &mut u32) -> Result<(), AllocError>
+    /// A source without a buffer moves nothing. The error is that memory ran out: `line` has no room for the bytes and
+    /// can't grow. Then nothing was moved.
+    fn read_buffered(&mut self, line: &mut Vec<u8>, left: &mut u32) -> Result<(), AllocError>
         requires { IsLine line.old.items }
         ensures taken { OnOk result
-            (TakesHeld (remaining self.old) (remaining self.new) line.old.items line.new.items) }
-        ensures kept { OnErr result (Consumes (remaining self.old) (remaining self.new) []) }
+            (ReadsIntoLine (remaining self.old) (remaining self.new) line.old.items line.new.items) }
+        ensures unchanged { OnErr result (Consumes (remaining self.old) (remaining self.new) []) }
         ensures left { left.new ≤ left.old }
         ensures unused { OnErr result (left.new ≡ left.old) }
         ensures each { OnOk result (length line.new.items + left.new ≡ length line.old.items + left.old) }

@@ -4,7 +4,7 @@ ghost use Rattle.std.specs.Prelude.{◌≡◌, ◌↔◌, ◌<◌, ◌≤◌, �
 ghost use Rattle.std.specs.Prelude.{min, [], Some, IfOk, IsTrue, is_err, drop, take, length, true, false, ℕ};
 ghost use Rattle.std.specs.Io.KnownBytes.{ReadConsumes, WriteAppends, prepend_known};
 ghost use Rattle.till_request.specs.Count.{RoseBy, one_if};
-ghost use Rattle.till_request.specs.Blocks.{EndsBehind};
+ghost use Rattle.till_request.specs.Blocks.{HasFirstLfAt};
 ghost use Rattle.till_request.specs.Devices.{piece_size, one_less};
 ghost use Rattle.till_request.specs.Line.{HasNoLf};
 
@@ -16,14 +16,15 @@ use std::io::{Read, Write};
 /// A source that returns the bytes of a list in memory, from index `at` on.
 ///
 /// Read n, counted from 0, returns at most `sizes[n]` bytes, or `each` if `sizes` has no index n. A size of 0 counts as
-/// size 1. If `good` is `Some(k)`, the next k reads succeed, and every later one fails. If it is `None`, no read fails.
+/// size 1. If `successes_left` is `Some(k)`, the next k reads succeed, and every later one fails. If it is `None`, no
+/// read fails.
 #[derive(Drop)]
 pub struct MemoryIn {
     pub bytes: Vec<u8>,
     pub at: usize,
     pub sizes: Vec<usize>,
     pub each: usize,
-    pub good: Option<u64>,
+    pub successes_left: Option<u64>,
     pub reads: u64,
     pub failures: u64,
     pub asked: u64,
@@ -32,14 +33,14 @@ pub struct MemoryIn {
 
 impl MemoryIn {
     /// Makes a source that returns `bytes`: at most `sizes[n]` of them (0 counts as 1) at read n, counted from 0, or as
-    /// many as the read asks for if `sizes` has no index n. If `good` is `Some(k)`, every read after the first k fails.
-    /// If it is `None`, no read fails.
-    pub fn new(bytes: Vec<u8>, sizes: Vec<usize>, good: Option<u64>) -> Self
+    /// many as the read asks for if `sizes` has no index n. If `successes_left` is `Some(k)`, every read after the
+    /// first k fails. If it is `None`, no read fails.
+    pub fn new(bytes: Vec<u8>, sizes: Vec<usize>, successes_left: Option<u64>) -> Self
         ensures bytes { result.bytes ≡ bytes }
         ensures start { result.at ≡ 0 }
         ensures sizes { result.sizes ≡ sizes }
         ensures each { result.each ≡ 2 ^ 64 - 1 }
-        ensures good { result.good ≡ good }
+        ensures successes_left { result.successes_left ≡ successes_left }
         ensures counts { (result.reads ≡ 0) × (result.failures ≡ 0) × (result.asked ≡ 0) }
     {
         MemoryIn {
@@ -47,7 +48,7 @@ impl MemoryIn {
             at: 0,
             sizes,
             each: usize::MAX,
-            good,
+            successes_left,
             reads: 0,
             failures: 0,
             asked: 0,
@@ -68,12 +69,12 @@ fn size_at(sizes: &[usize], each: usize, call: u64) -> usize
     }
 }
 
-/// Returns how many calls will still succeed after the next call. `good` is how many will succeed if the next call is
-/// counted too. The result is one less, but 0 stays 0. `None` stays `None`: no call is made to fail.
-fn after_one(good: Option<u64>) -> Option<u64>
-    ensures { result ≡ one_less good }
+/// Returns how many calls still succeed after one more call: one less than `successes_left`, but 0 stays 0. `None`,
+/// which means that no call is made to fail, stays `None`.
+fn after_one(successes_left: Option<u64>) -> Option<u64>
+    ensures { result ≡ one_less successes_left }
 {
-    match good {
+    match successes_left {
         Some(count) => Some(count.saturating_sub(1)),
         None => None,
     }
@@ -81,7 +82,7 @@ fn after_one(good: Option<u64>) -> Option<u64>
 
 /// Copies bytes from the beginning of `from` to the beginning of `buffer`, at most `most`, and returns how many. `most`
 /// must be at least 1.
-fn give(from: &[u8], most: usize, buffer: &mut [u8]) -> usize
+fn copy_into_buffer(from: &[u8], most: usize, buffer: &mut [u8]) -> usize
     requires { 0 < most }
     ensures count { result ≡ min (min (length from.now) (length buffer.new)) most }
     ensures same { length buffer.new ≡ length buffer.old }
@@ -109,23 +110,23 @@ impl LineIn for MemoryIn {
         ensures counted { RoseBy 1 self.old.reads self.new.reads }
         ensures failed { RoseBy (one_if (is_err result)) self.old.failures self.new.failures }
         ensures asked_for { RoseBy (length buffer.new) self.old.asked self.new.asked }
-        ensures fails { IsTrue (is_err result) ↔ (self.old.good ≡ Some 0) }
-        ensures good { self.new.good ≡ one_less self.old.good }
+        ensures fails { IsTrue (is_err result) ↔ (self.old.successes_left ≡ Some 0) }
+        ensures successes_left { self.new.successes_left ≡ one_less self.old.successes_left }
         ensures given { IfOk result
             (λ n. n ≡ min (min (length self.old.bytes.items - self.old.at) (length buffer.new))
             (piece_size self.old.sizes.items self.old.each self.old.reads)) }
-        ensures kept { (self.new.bytes ≡ self.old.bytes) × (self.new.sizes ≡ self.old.sizes)
+        ensures unchanged { (self.new.bytes ≡ self.old.bytes) × (self.new.sizes ≡ self.old.sizes)
             × (self.new.each ≡ self.old.each) }
     {
         let size = size_at(&self.sizes, self.each, self.reads);
         self.reads = self.reads.wrapping_add(1);
         self.asked = self.asked.wrapping_add(buffer.len() as u64);
-        if self.good == Some(0) {
+        if self.successes_left == Some(0) {
             self.failures = self.failures.wrapping_add(1);
             return Err(DeviceFault);
         }
-        self.good = after_one(self.good);
-        let count = give(&self.bytes[self.at..], size, buffer);
+        self.successes_left = after_one(self.successes_left);
+        let count = copy_into_buffer(&self.bytes[self.at..], size, buffer);
         self.at += count;
         Ok(count)
     }
@@ -168,7 +169,7 @@ impl<R: Read + Drop> LineIn for StreamIn<R> {
 const AHEAD_BYTES: usize = 4096;
 
 /// A source that reads ahead from another source, `input`, in blocks of 4,096 bytes. So a read of one byte, which is
-/// how lines are read, costs few instructions. Reads from this source are counted, and not reads from `input`.
+/// how lines are read, costs few instructions. The counters count the reads from this source, not those from `input`.
 #[derive(Drop)]
 pub struct Ahead<I: LineIn> {
     pub input: I,
@@ -197,7 +198,7 @@ impl<I: LineIn + Drop> Ahead<I> {
     /// Returns whether an LF is among the bytes that were read ahead and not taken out yet. If so, the line that ends
     /// there can be read without a read of `input`.
     pub fn holds_line(&self) -> bool
-        ensures there { result ≡ true → (count : ℕ) × EndsBehind count self.now.block }
+        ensures there { result ≡ true → (count : ℕ) × HasFirstLfAt count self.now.block }
         ensures none { result ≡ false → HasNoLf self.now.block }
     {
         self.block.holds_lf()
@@ -222,11 +223,11 @@ impl<I: LineIn + Drop> LineIn for Ahead<I> {
             self.failures = self.failures.wrapping_add(1);
             return Err(DeviceFault);
         }
-        Ok(self.block.give(buffer))
+        Ok(self.block.copy_into_buffer(buffer))
     }
 
-    fn read_held(&mut self, line: &mut Vec<u8>, left: &mut u32) -> Result<(), AllocError> {
-        let count = self.block.take_held(line, *left as usize)?;
+    fn read_buffered(&mut self, line: &mut Vec<u8>, left: &mut u32) -> Result<(), AllocError> {
+        let count = self.block.take_buffered(line, *left as usize)?;
         *left -= count as u32;
         self.calls = self.calls.wrapping_add(count as u64);
         self.asked = self.asked.wrapping_add(count as u64);
@@ -237,34 +238,34 @@ impl<I: LineIn + Drop> LineIn for Ahead<I> {
 /// A sink that appends what is written to a list in memory.
 ///
 /// Write n, counted from 0, accepts at most `sizes[n]` bytes, or `each` if `sizes` has no index n. A size of 0 counts
-/// as size 1. If `good` is `Some(k)`, the next k writes succeed, and every later one fails. If it is `None`, no write
-/// is made to fail. A write also fails if memory runs out.
+/// as size 1. If `successes_left` is `Some(k)`, the next k writes succeed, and every later one fails. If it is `None`,
+/// no write is made to fail. A write also fails if memory runs out.
 #[derive(Drop)]
 pub struct MemoryOut {
     pub bytes: Vec<u8>,
     pub sizes: Vec<usize>,
     pub each: usize,
-    pub good: Option<u64>,
+    pub successes_left: Option<u64>,
     pub writes: u64,
     pub failures: u64,
 }
 
 impl MemoryOut {
     /// Makes a sink to which nothing was written yet: write n, counted from 0, accepts at most `sizes[n]` bytes (0
-    /// counts as 1), or all its bytes if `sizes` has no index n. If `good` is `Some(k)`, every write after the first k
-    /// fails. If it is `None`, a write fails only if memory runs out.
-    pub fn new(alloc: Global, sizes: Vec<usize>, good: Option<u64>) -> Self
+    /// counts as 1), or all its bytes if `sizes` has no index n. If `successes_left` is `Some(k)`, every write after
+    /// the first k fails. If it is `None`, a write fails only if memory runs out.
+    pub fn new(alloc: Global, sizes: Vec<usize>, successes_left: Option<u64>) -> Self
         ensures bytes { result.bytes.items ≡ [] }
         ensures sizes { result.sizes ≡ sizes }
         ensures each { result.each ≡ 2 ^ 64 - 1 }
-        ensures good { result.good ≡ good }
+        ensures successes_left { result.successes_left ≡ successes_left }
         ensures counts { (result.writes ≡ 0) × (result.failures ≡ 0) }
     {
         MemoryOut {
             bytes: Vec::new(alloc),
             sizes,
             each: usize::MAX,
-            good,
+            successes_left,
             writes: 0,
             failures: 0,
         }
@@ -281,19 +282,19 @@ impl LineOut for MemoryOut {
         ensures some { IfOk result (λ n. 0 < length piece.now → 0 < n) }
         ensures bytes { WriteAppends (Some self.old.bytes.items) (Some self.new.bytes.items) result piece.now }
         ensures failed { RoseBy (one_if (is_err result)) self.old.failures self.new.failures }
-        ensures fails { self.old.good ≡ Some 0 → IsTrue (is_err result) }
-        ensures good { self.new.good ≡ one_less self.old.good }
+        ensures fails { self.old.successes_left ≡ Some 0 → IsTrue (is_err result) }
+        ensures successes_left { self.new.successes_left ≡ one_less self.old.successes_left }
         ensures counted { RoseBy 1 self.old.writes self.new.writes }
         ensures taken { IfOk result
             (λ n. n ≡ min (length piece.now) (piece_size self.old.sizes.items self.old.each self.old.writes)) }
-        ensures kept { (self.new.sizes ≡ self.old.sizes) × (self.new.each ≡ self.old.each) }
+        ensures unchanged { (self.new.sizes ≡ self.old.sizes) × (self.new.each ≡ self.old.each) }
     {
         let count = piece
             .len()
             .min(size_at(&self.sizes, self.each, self.writes));
-        let fails = self.good == Some(0);
+        let fails = self.successes_left == Some(0);
         self.writes = self.writes.wrapping_add(1);
-        self.good = after_one(self.good);
+        self.successes_left = after_one(self.successes_left);
         if fails || self.bytes.extend_from_slice(&piece[..count]).is_err() {
             self.failures = self.failures.wrapping_add(1);
             return Err(DeviceFault);

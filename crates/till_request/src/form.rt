@@ -297,8 +297,8 @@ pub fn form_of(role: Role, words: &[&[u8]]) -> Option<Form>
     }
 }
 
-/// Returns the request of a verb with a point and an amount in cents, or for `Price` with a product and a price in
-/// thousandths of the currency per litre.
+/// Returns the request with this verb. `subject` is its point, and `amount` an amount in cents. For `Price`, `subject`
+/// is a product, and `amount` a price in thousandths of the currency per litre.
 pub fn request_of_amount(verb: AmountVerb, subject: u32, amount: u64) -> Request
     ensures { result ≡ amount_request verb subject amount }
 {
@@ -309,7 +309,7 @@ pub fn request_of_amount(verb: AmountVerb, subject: u32, amount: u64) -> Request
     }
 }
 
-/// Returns the request of a verb with a point alone.
+/// Returns the request that has this verb and this point, and no other number.
 pub fn request_of_point(verb: PointVerb, point: u32) -> Request
     ensures { result ≡ point_request verb point }
 {
@@ -323,7 +323,7 @@ pub fn request_of_point(verb: PointVerb, point: u32) -> Request
     }
 }
 
-/// Returns the request of a verb with a point and the number of one of its transactions.
+/// Returns the request that has this verb, this point and this number of one of the point's transactions.
 pub fn request_of_transaction(verb: TransactionVerb, point: u32, number: u32) -> Request
     ensures { result ≡ transaction_request verb point number }
 {
@@ -334,7 +334,7 @@ pub fn request_of_transaction(verb: TransactionVerb, point: u32, number: u32) ->
     }
 }
 
-/// Returns the event of a dispenser's line that has no value after its verb.
+/// Returns the event that a dispenser reports by this verb. Lines with these verbs have no value after the verb.
 pub fn event_of_report(verb: ReportVerb) -> DispenserEvent
     ensures { result ≡ report_event verb }
 {

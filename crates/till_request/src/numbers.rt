@@ -7,8 +7,8 @@ ghost use Rattle.till_request.specs.Grammar.{number, has_no_leading_zero};
 
 use crate::act::LineFault;
 
-/// Returns a number with one more decimal digit at its end; `None` if the byte isn't a digit, or the result isn't below
-/// 2^64.
+/// Returns the number `value` with one more decimal digit, `byte`, at its end; `None` if `byte` isn't a digit, or the
+/// result isn't below 2^64.
 fn with_digit(value: u64, byte: u8) -> Option<u64>
     ensures some { IfSome result (λ more. (is_ascii_digit byte ≡ true) × (more ≡ value * 10 + digit_value byte)) }
     ensures none { IfNone result ((is_ascii_digit byte ≡ false) ⊎ (2 ^ 64 ≤ value * 10 + digit_value byte)) }

@@ -27,7 +27,10 @@ pub fn first_part(text: &[u8], separator: u8) -> (&[u8], Option<&[u8]>)
 
 /// Splits a text at each separator and returns the parts, some of which may be empty; `None` if there are more than
 /// `N`.
-pub fn few_parts<'a, const N: usize>(text: &'a [u8], separator: u8) -> Option<ArrayVec<&'a [u8], N>>
+pub fn split_at_most<'a, const N: usize>(
+    text: &'a [u8],
+    separator: u8,
+) -> Option<ArrayVec<&'a [u8], N>>
     ensures { MatchOption result (N < length (slice_split (λ b. b == separator) text.now))
         (λ parts. map (λ w. w.now) parts.items ≡ slice_split (λ b. b == separator) text.now) }
 {

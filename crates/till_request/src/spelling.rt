@@ -25,7 +25,7 @@ pub fn spelling_is_read()
     ensures { ReadsBack }
 {}
 
-/// Returns a request's verb, the number after it, and the second number, if there is one.
+/// Returns a request's verb, its first number, and its second number, or `None` if it has only one.
 fn words_of(request: Request) -> (Keyword, u32, Option<u64>)
     ensures { request_words request ≡ text result.0 ∷ decimal result.1 ∷ map decimal (option_to_list result.2) }
 {
@@ -119,7 +119,7 @@ pub fn put_dispenser_line(text: &mut ShortText, point: u32, event: DispenserEven
     }
 }
 
-/// Returns the first word of a line that loads a program for this layout of the context: `load` or `load2`.
+/// Returns the first word of a line that loads a program: `load` for `Layout::One`, `load2` for `Layout::Two`.
 pub fn load_word(layout: Layout) -> &'static str
     ensures { result.now ≡ load_by layout }
 {

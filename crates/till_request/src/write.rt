@@ -10,7 +10,7 @@ use crate::device::{DeviceFault, LineOut};
 use crate::short_text::{ShortText, put_line};
 use std::alloc::Global;
 
-/// Why an answer wasn't written to its end.
+/// Why an answer couldn't be written whole.
 #[derive(Clone, Copy)]
 pub enum WriteFault {
     /// The device failed (fault `N2`).
@@ -33,8 +33,8 @@ pub fn write_all<O: LineOut>(output: &mut O, bytes: &[u8]) -> Result<(), DeviceF
     Ok(())
 }
 
-/// Writes an answer with its LF, without allocating memory. The error is `Write`: the device failed, perhaps after some
-/// of the first bytes were written.
+/// Writes an answer with its LF. The error is `Write`: the device failed, and only a beginning of the line was written.
+/// Allocates no memory.
 pub fn write_answer<O: LineOut>(
     alloc: Global,
     output: &mut O,

@@ -1,6 +1,6 @@
 use Rattle.std.proofs.Common.{ℕ, List, map, Bor, sym, ap, ◌∙◌, subst}
 use Rattle.bpf_asm.specs.declared.grammar.Line.{Line}
-use Rattle.bpf_asm.specs.Program.{Row, row, AreRight}
+use Rattle.bpf_asm.specs.Program.{Row, row, AreInRange}
 use Rattle.bpf_asm.specs.Sound.{AreSound}
 use Rattle.bpf_asm.proofs.Sounding.{rows_sound}
 use Rattle.bpf_asm.proofs.Assembling.{rows_right}
@@ -14,7 +14,7 @@ texts_at = map (λ (t : Bor (List ℕ)). t.now)
 
 pub assemble_rows-requires-clause-fits : goal.assemble_rows-requires-clause-fits
 assemble_rows-requires-clause-fits c =
-    subst AreRight (sym (ap rows_at c.as_slice-2.ensures.value ∙ c.in-Ok-rows_of.ensures.ok))
+    subst AreInRange (sym (ap rows_at c.as_slice-2.ensures.value ∙ c.in-Ok-rows_of.ensures.ok))
     (rows_right 1 (texts_at c.as_slice.result.now) c.in-Ok-rows_of.ensures.none)
 
 pub assemble_rows-requires-clause-sound : goal.assemble_rows-requires-clause-sound

@@ -5,7 +5,7 @@ use Rattle.std.specs.Fmt.{padded_integral, format_spec, digits}
 use Rattle.bpf_asm.specs.Messages.{shown_byte}
 use Rattle.bpf_asm.proofs.flaw.write_byte.Goals as goal
 
--- for a byte that isn't printable ASCII, `\x{byte:02x}` writes what `shown_byte` says
+-- for a byte that isn't printable ASCII, `\x{byte:02x}` writes the text `shown_byte` of this byte
 hex_text : (byte : ℕ) → byte < 256 → nat_le 32 byte && nat_le byte 126 ≡ false →
     92 ∷ 120 ∷ padded_integral (format_spec 32 0 4 2 18446744073709551615) false [] (digits 16 false byte) ≡ shown_byte byte
 hex_text byte small other = rw other (ap (λ ds. 92 ∷ 120 ∷ ds) (hex_byte false byte small))

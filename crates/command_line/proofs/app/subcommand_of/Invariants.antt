@@ -4,7 +4,8 @@ use Rattle.clap.specs.declared.builder.command.Command.TheViews.{out-Command}
 use Rattle.command_line.specs.Described.{with_rules}
 use Rattle.command_line.proofs.app.subcommand_of.Given as goal
 
--- the command so far, with the arguments that are left added to it, is the subcommand with all its arguments
+-- Invariant of the loop: if all arguments that aren't added yet are added to the loop's command, the result is the
+-- subcommand with all its arguments. The loop's command has no global arguments.
 abbrev pub invariant-loop-argument : goal.invariant-loop-argument
 invariant-loop-argument l =
     record {

@@ -5,7 +5,8 @@ use Rattle.clap.specs.declared.builder.command.Command.TheViews.{out-Command}
 use Rattle.command_line.specs.Described.{app_for}
 use Rattle.command_line.proofs.app.with_word.Goals as goal
 
--- If a call added a subcommand to a command, then the new command's `App` is the old one's with that subcommand added.
+-- Let `sub` have no global arguments, and `a` be its `App`. If `r` is the command `old` with the subcommand `sub`
+-- added, then the `App` of `r` is the `App` of `old` with the top command of `a` added.
 added : (old sub : Command) (a : App) → app_of sub ≡ a → (out-Command sub).has_globals ≡ false → {E : Type 0} (r : Result Command E)
     → IfOk r (AddsSubcommand old sub) → IfOk r (λ c. app_of c ≡ with_subcommand (app_of old) a.top)
 added old sub a e local (Ok c) h = h.shape local ∙ ap (λ (a : App). with_subcommand (app_of old) a.top) e

@@ -6,8 +6,8 @@ use Rattle.clap.specs.Kinds.{IsAmong, Kinds}
 use Rattle.clap.specs.declared.parser.matches.ArgMatches.{ArgMatches}
 use Rattle.clap.specs.declared.error.kind.ErrorKind.{ErrorKind}
 use Rattle.clap.specs.declared.error.kind.ErrorKind.TheVariants as kind
-use Rattle.command_line.specs.Asked.{Asked, IsNothing, IsShown, MayShow, RefusesBy, fc_app, asked, asked_of, unasked_text}
-use Rattle.command_line.specs.Refusing.{IsRefusalOf, IsUnasked}
+use Rattle.command_line.specs.JobRequest.{JobRequest, HasNoJob, IsHelpOrVersion, MayShow, RefusesBy, fc_app, requested, parsed_request, unasked_text}
+use Rattle.command_line.specs.Refusing.{IsRefusalOf, IsNoJobMessage}
 use Rattle.command_line.specs.declared.job.Job.{Job}
 use Rattle.command_line.specs.declared.job.CommandFault.{CommandFault}
 use Rattle.command_line.specs.declared.job.CommandFault.TheVariants.{Usage, OutOfMemory}
@@ -35,14 +35,15 @@ simple = refl
 simple_and_free : (a : App) → a ≡ fc_app → is_simple_and_free a ≡ true
 simple_and_free a e = subst (λ (b : App). is_simple_and_free b ≡ true) (sym e) refl
 
--- the subcommand that `clap` finds in the arguments that were lent to it is the one in the program's own arguments
+-- The arguments that `clap` gets (`lent`) equal the program's arguments (`words`). So the subcommand in `clap`'s
+-- matches `m` of `lent` is the one in `words`.
 found : (a : App) → a ≡ fc_app → (lent words : List (String Global)) → lent ≡ words → (m : ArgMatches) → HasMatchesOf a (map (λ w. string_bytes w) lent) m
     → subcommand_rows_of m ≡ subcommand_of fc_app (map (λ w. string_bytes w) words)
 found a e lent words same m h =
     ((subst (λ (ws : List (String Global)). HasMatchesOf fc_app (map (λ w. string_bytes w) ws) m) same
     (subst (λ (b : App). HasMatchesOf b (map (λ w. string_bytes w) lent) m) e h)) simple).1
 
--- `clap` finds the same faults in the arguments that were lent to it as in the program's own arguments
+-- The arguments that `clap` gets (`lent`) equal the program's arguments (`words`). So both have the same faults.
 faults : (a : App) → a ≡ fc_app → (lent words : List (String Global)) → lent ≡ words
     → fault_of a (map (λ w. string_bytes w) lent) ≡ fault_of fc_app (map (λ w. string_bytes w) words)
 faults a e lent words same =
@@ -55,23 +56,24 @@ refused a e lent words same k h t =
     h (subst (λ (b : App). takes b (map (λ w. string_bytes w) lent) ≡ true) (sym e)
     (subst (λ (ws : List (String Global)). takes fc_app (map (λ w. string_bytes w) ws) ≡ true) (sym same) t))
 
--- a job can't ask for something and for nothing
-no_job : (j : Job) (P : Type 0) → IsSome (asked j) → asked j ≡ None → P
-no_job j P some none = let bad : false ≡ true = subst (λ (o : Option Asked). IsSome o) none some in absurd (cc)
+-- It is a contradiction that the job `j` has a request and has none.
+no_job : (j : Job) (P : Type 0) → IsSome (requested j) → requested j ≡ None → P
+no_job j P some none = let bad : false ≡ true = subst (λ (o : Option JobRequest). IsSome o) none some in absurd (cc)
 
--- an error that prints the help or the version isn't the error that memory ran out
-shown_has_memory : (k : ErrorKind) → IsShown k → k ≡ kind.OutOfMemory → ⊥
+-- The error kinds for the help and for the version are different from `OutOfMemory`.
+shown_has_memory : (k : ErrorKind) → IsHelpOrVersion k → k ≡ kind.OutOfMemory → ⊥
 shown_has_memory k (inl h) m = let bad : kind.DisplayHelp ≡ kind.OutOfMemory = sym h ∙ m in cc
 shown_has_memory k (inr v) m = let bad : kind.DisplayVersion ≡ kind.OutOfMemory = sym v ∙ m in cc
 
--- the kind of an error of `clap` is that memory ran out, or one of the faults that the arguments have
+-- The error kind `seen` is `OutOfMemory`, or is in the list `old`. `k` equals `seen`, and `kinds` equals `old`. So the
+-- same holds for `k` and `kinds`.
 among_faults : (k seen : ErrorKind) → k ≡ seen → (old kinds : Kinds) → old ≡ kinds → (seen ≡ kind.OutOfMemory) ⊎ IsAmong seen old
     → (k ≡ kind.OutOfMemory) ⊎ IsAmong k kinds
 among_faults k seen e old kinds same h =
     subst (λ (ks : Kinds). (k ≡ kind.OutOfMemory) ⊎ IsAmong k ks) same
     (subst (λ (x : ErrorKind). (x ≡ kind.OutOfMemory) ⊎ IsAmong x old) (sym e) h)
 
-may_show : (k : ErrorKind) (kinds : Kinds) → (k ≡ kind.OutOfMemory) ⊎ IsAmong k kinds → IsShown k → MayShow kinds
+may_show : (k : ErrorKind) (kinds : Kinds) → (k ≡ kind.OutOfMemory) ⊎ IsAmong k kinds → IsHelpOrVersion k → MayShow kinds
 may_show k kinds (inl m) s = absurd (shown_has_memory k s m)
 may_show k kinds (inr among) s = (k, among, s)
 
@@ -81,36 +83,36 @@ may_refuse k made kinds found (inl m) (Usage text) h = absurd (h.1 m)
 may_refuse k made kinds found (inr among) (Usage text) h = inl (k, among, h.0, h.1)
 may_refuse k made kinds found has OutOfMemory h = tt
 
-nothing : (kinds : Kinds) (seen found : Option (Text × List Row)) → seen ≡ found → (f : CommandFault) → IsUnasked seen f → RefusesBy kinds found f
+nothing : (kinds : Kinds) (seen found : Option (Text × List Row)) → seen ≡ found → (f : CommandFault) → IsNoJobMessage seen f → RefusesBy kinds found f
 nothing kinds seen found e (Usage text) h =
-    inr (subst (λ (f : Option (Text × List Row)). IsNothing f × (string_bytes text ≡ unasked_text f)) e h)
+    inr (subst (λ (f : Option (Text × List Row)). HasNoJob f × (string_bytes text ≡ unasked_text f)) e h)
 nothing kinds seen found e OutOfMemory h = tt
 
-pub returns-in-Ok-clause-asked : goal.returns-in-Ok-clause-asked
-returns-in-Ok-clause-asked c =
+pub returns-in-Ok-clause-requested : goal.returns-in-Ok-clause-requested
+returns-in-Ok-clause-requested c =
     let rows = found (app_of c.in_ok-command.command) c.in_ok-command.ensures c.as_slice.result.now c.args.words.items c.as_slice.ensures.value c.in-Ok.matches
     c.in-Ok.ensures.matches in
-    more c.found_job.result (λ j. asked_of (subcommand_rows_of c.in-Ok.matches) ≡ asked j)
-    (λ j. IsSome (asked j) → asked_of (subcommand_of fc_app (map (λ w. string_bytes w) c.args.words.items)) ≡ asked j)
-    (λ j h some. rw (sym rows) h) c.found_job.ensures.asked
+    more c.found_job.result (λ j. parsed_request (subcommand_rows_of c.in-Ok.matches) ≡ requested j)
+    (λ j. IsSome (requested j) → parsed_request (subcommand_of fc_app (map (λ w. string_bytes w) c.args.words.items)) ≡ requested j)
+    (λ j h some. rw (sym rows) h) c.found_job.ensures.requested
 
 pub returns-in-Ok-clause-faultless : goal.returns-in-Ok-clause-faultless
 returns-in-Ok-clause-faultless c =
     let a = app_of c.in_ok-command.command in
     let same = faults a c.in_ok-command.ensures c.as_slice.result.now c.args.words.items c.as_slice.ensures.value in
-    more c.found_job.result (λ j. IsSome (asked j)) (λ j. IsSome (asked j) → fault_of fc_app (map (λ w. string_bytes w) c.args.words.items) ≡ [])
+    more c.found_job.result (λ j. IsSome (requested j)) (λ j. IsSome (requested j) → fault_of fc_app (map (λ w. string_bytes w) c.args.words.items) ≡ [])
     (λ j h some. sym same ∙ c.in-Ok.ensures.kinds (simple_and_free a c.in_ok-command.ensures)) c.found_job.ensures.some
 
 pub returns-in-Ok-clause-shown : goal.returns-in-Ok-clause-shown
 returns-in-Ok-clause-shown c =
     let words = map (λ w. string_bytes w) c.args.words.items in
-    more c.found_job.result (λ j. IsSome (asked j)) (λ j. asked j ≡ None → takes fc_app words ≡ false)
+    more c.found_job.result (λ j. IsSome (requested j)) (λ j. requested j ≡ None → takes fc_app words ≡ false)
     (λ j. no_job j (takes fc_app words ≡ false)) c.found_job.ensures.some
 
 pub returns-in-Ok-clause-helps : goal.returns-in-Ok-clause-helps
 returns-in-Ok-clause-helps c =
     let words = map (λ w. string_bytes w) c.args.words.items in
-    more c.found_job.result (λ j. IsSome (asked j)) (λ j. asked j ≡ None → MayShow (fault_of fc_app words))
+    more c.found_job.result (λ j. IsSome (requested j)) (λ j. requested j ≡ None → MayShow (fault_of fc_app words))
     (λ j. no_job j (MayShow (fault_of fc_app words))) c.found_job.ensures.some
 
 pub returns-in-Ok-clause-refused : goal.returns-in-Ok-clause-refused
@@ -118,30 +120,30 @@ returns-in-Ok-clause-refused c =
     let rows = found (app_of c.in_ok-command.command) c.in_ok-command.ensures c.as_slice.result.now c.args.words.items c.as_slice.ensures.value c.in-Ok.matches
     c.in-Ok.ensures.matches in
     let words = map (λ w. string_bytes w) c.args.words.items in
-    more_err c.found_job.result (IsUnasked (subcommand_rows_of c.in-Ok.matches)) (RefusesBy (fault_of fc_app words) (subcommand_of fc_app words))
+    more_err c.found_job.result (IsNoJobMessage (subcommand_rows_of c.in-Ok.matches)) (RefusesBy (fault_of fc_app words) (subcommand_of fc_app words))
     (λ e h. nothing (fault_of fc_app words) (subcommand_rows_of c.in-Ok.matches) (subcommand_of fc_app words) rows e h) c.found_job.ensures.none
 
-pub returns-clause-asked : goal.returns-clause-asked
-returns-clause-asked c =
-    let found = asked_of (subcommand_of fc_app (map (λ w. string_bytes w) c.args.words.items)) in
-    more c.told_of.result (λ j. asked j ≡ None) (λ j. IsSome (asked j) → found ≡ asked j)
-    (λ j none some. no_job j (found ≡ asked j) some none) c.told_of.ensures.none
+pub returns-clause-requested : goal.returns-clause-requested
+returns-clause-requested c =
+    let found = parsed_request (subcommand_of fc_app (map (λ w. string_bytes w) c.args.words.items)) in
+    more c.job_from_error.result (λ j. requested j ≡ None) (λ j. IsSome (requested j) → found ≡ requested j)
+    (λ j none some. no_job j (found ≡ requested j) some none) c.job_from_error.ensures.none
 
 pub returns-clause-faultless : goal.returns-clause-faultless
 returns-clause-faultless c =
     let faults = fault_of fc_app (map (λ w. string_bytes w) c.args.words.items) in
-    more c.told_of.result (λ j. asked j ≡ None) (λ j. IsSome (asked j) → faults ≡ [])
-    (λ j none some. no_job j (faults ≡ []) some none) c.told_of.ensures.none
+    more c.job_from_error.result (λ j. requested j ≡ None) (λ j. IsSome (requested j) → faults ≡ [])
+    (λ j none some. no_job j (faults ≡ []) some none) c.job_from_error.ensures.none
 
 pub returns-clause-shown : goal.returns-clause-shown
 returns-clause-shown c =
-    more_on c.told_of.result (IsShown c.kind.result) (λ j. asked j ≡ None → takes fc_app (map (λ w. string_bytes w) c.args.words.items) ≡ false)
+    more_on c.job_from_error.result (IsHelpOrVersion c.kind.result) (λ j. requested j ≡ None → takes fc_app (map (λ w. string_bytes w) c.args.words.items) ≡ false)
     (λ j s none. false_unless (takes fc_app (map (λ w. string_bytes w) c.args.words.items))
     (λ h. shown_has_memory c.kind.result s
     (c.kind.ensures
     ∙ refused (app_of c.in_ok-command.command) c.in_ok-command.ensures c.as_slice.result.now c.args.words.items c.as_slice.ensures.value
     (kind_of c.in-Err.error) c.in-Err.ensures.passes h)))
-    c.told_of.ensures.shown
+    c.job_from_error.ensures.shown
 
 pub returns-clause-helps : goal.returns-clause-helps
 returns-clause-helps c =
@@ -149,11 +151,11 @@ returns-clause-helps c =
     let words = map (λ w. string_bytes w) c.args.words.items in
     let same = faults a c.in_ok-command.ensures c.as_slice.result.now c.args.words.items c.as_slice.ensures.value in
     let k = c.kind.result in
-    more_on c.told_of.result (IsShown k) (λ j. asked j ≡ None → MayShow (fault_of fc_app words))
+    more_on c.job_from_error.result (IsHelpOrVersion k) (λ j. requested j ≡ None → MayShow (fault_of fc_app words))
     (λ j s none. may_show k (fault_of fc_app words)
     (among_faults k (kind_of c.in-Err.error) c.kind.ensures (fault_of a (map (λ w. string_bytes w) c.as_slice.result.now)) (fault_of fc_app words) same
     (c.in-Err.ensures.kinds (simple_and_free a c.in_ok-command.ensures))) s)
-    c.told_of.ensures.shown
+    c.job_from_error.ensures.shown
 
 pub returns-clause-refused : goal.returns-clause-refused
 returns-clause-refused c =
@@ -161,8 +163,8 @@ returns-clause-refused c =
     let words = map (λ w. string_bytes w) c.args.words.items in
     let same = faults a c.in_ok-command.ensures c.as_slice.result.now c.args.words.items c.as_slice.ensures.value in
     let k = c.kind.result in
-    more_err c.told_of.result (IsRefusalOf k c.to_string.result) (RefusesBy (fault_of fc_app words) (subcommand_of fc_app words))
+    more_err c.job_from_error.result (IsRefusalOf k c.to_string.result) (RefusesBy (fault_of fc_app words) (subcommand_of fc_app words))
     (λ e h. may_refuse k c.to_string.result (fault_of fc_app words) (subcommand_of fc_app words)
     (among_faults k (kind_of c.in-Err.error) c.kind.ensures (fault_of a (map (λ w. string_bytes w) c.as_slice.result.now)) (fault_of fc_app words) same
     (c.in-Err.ensures.kinds (simple_and_free a c.in_ok-command.ensures))) e h)
-    c.told_of.ensures.refused
+    c.job_from_error.ensures.refused

@@ -4,25 +4,26 @@ use Rattle.clap.specs.Words.{Row, Text, found_of, rows_of}
 use Rattle.clap.specs.declared.parser.matches.ArgMatches.TheViews.{out-ArgMatches, out-SubCommand}
 use Rattle.clap.specs.declared.parser.matches.SubCommand.{SubCommand}
 use Rattle.clap.specs.Simple.{subcommand_rows}
-use Rattle.command_line.specs.Asked.{HasNoMask, asked, asked_by}
-use Rattle.command_line.specs.Refusing.{Finds, FindsIn}
+use Rattle.command_line.specs.JobRequest.{HasNoMask, requested, subcommand_request}
+use Rattle.command_line.specs.Refusing.{Finds, IsJobOfLine}
 use Rattle.command_line.specs.declared.job.Job.{Job}
 use Rattle.command_line.proofs.words.job_of.Goals as goal
 
--- what a subcommand's values ask for is also what the found subcommand asks for, since its name and values are the same
+-- If `p` is the pair of `name` and `rows`, and `found` is the job that this subcommand asks for, then `found` is the
+-- job of a command line that has the subcommand `p`.
 finds_in : (p : Text × List Row) (name : Text) (rows : List Row) → p.0 ≡ name → p.1 ≡ rows → (found : Option Job) → Finds name rows found
-    → FindsIn (Some p) found
+    → IsJobOfLine (Some p) found
 finds_in p name rows n r (Some job) h =
-    subst (λ (t : Text). (asked_by t p.1 ≡ asked job) × IsSome (asked job)) (sym n)
-    (subst (λ (rs : List Row). (asked_by name rs ≡ asked job) × IsSome (asked job)) (sym r) h)
+    subst (λ (t : Text). (subcommand_request t p.1 ≡ requested job) × IsSome (requested job)) (sym n)
+    (subst (λ (rs : List Row). (subcommand_request name rs ≡ requested job) × IsSome (requested job)) (sym r) h)
 finds_in p name rows n r None (inl h) =
-    inl (subst (λ (t : Text). asked_by t p.1 ≡ None) (sym n) (subst (λ (rs : List Row). asked_by name rs ≡ None) (sym r) h))
+    inl (subst (λ (t : Text). subcommand_request t p.1 ≡ None) (sym n) (subst (λ (rs : List Row). subcommand_request name rs ≡ None) (sym r) h))
 finds_in p name rows n r None (inr h) = inr (p, refl, subst HasNoMask (sym r) h)
 
 module _ {Z : Type 0} where
   finds : (o : Option (Box SubCommand Z)) (name : Text) (rows : List Row) → Some name ≡ option_map (λ b. (out-SubCommand (box_value b)).name.now) o
       → Some rows ≡ option_map (λ p. p.1) (subcommand_rows o) → {E : Type 0} (r : Result (Option Job) E) → IfOk r (Finds name rows)
-      → IfOk r (FindsIn (subcommand_rows o))
+      → IfOk r (IsJobOfLine (subcommand_rows o))
   finds None name rows n r result h = let bad : Some name ≡ None = n in absurd (cc)
   finds (Some b) name rows n r (Ok found) h =
       let p : Text × List Row = ((out-SubCommand (box_value b)).name.now, rows_of (found_of (out-SubCommand (box_value b)).matches)) in

@@ -1,7 +1,7 @@
 use Rattle.std.proofs.Common.{ap, codes, option_and_then, sym, ◌∙◌}
 use Rattle.clap.specs.Words.{found_of}
 use Rattle.clap.proofs.WalkLemmas.{first_value-rows}
-use Rattle.command_line.specs.Asked.{layout_named}
+use Rattle.command_line.specs.JobRequest.{layout_named}
 use Rattle.command_line.proofs.words.layout_of.Goals as goal
 
 pub returns-in-Some : goal.returns-in-Some

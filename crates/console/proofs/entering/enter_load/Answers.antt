@@ -1,6 +1,6 @@
 use Rattle.std.proofs.Common.{ℕ, List, subst}
 use Rattle.bpf_model.specs.Program.{as_loaded}
-use Rattle.reg_types.specs.Shown.{IsRefusal, refusal_of}
+use Rattle.reg_types.specs.RefusedPrograms.{IsRefusal, refusal_of}
 use Rattle.console.proofs.entering.enter_load.Goals as goal
 
 pub returns-clause-refused : goal.returns-clause-refused

@@ -2,8 +2,8 @@ use Rattle.std.proofs.Common.{◌∙◌, subst}
 use Rattle.std.specs.List.{filter_map}
 use Rattle.day_report.specs.Decisions.{decision_of}
 use Rattle.day_report.specs.Totals.{HasOutcomes, DecidedByTills}
-use Rattle.day_report.specs.declared.adding.TheConstants.{TILLS}
-use Rattle.day_report.specs.declared.counting.Deciding.TheVariants as deciding
+use Rattle.day_report.specs.declared.adding.TheConstants.{MAX_TILLS}
+use Rattle.day_report.specs.declared.counting.DecisionPart.TheVariants as deciding
 use Rattle.day_report.proofs.adding.add_up.Goals as goal
 
 pub returns-clause-sold : goal.returns-clause-sold
@@ -59,5 +59,5 @@ returns-clause-price_requests c =
 
 pub returns-clause-tills : goal.returns-clause-tills
 returns-clause-tills c =
-    subst (λ ns. DecidedByTills TILLS ns (filter_map decision_of c.args.entries.now) c.in_ok-decided.decided.verdicts.tills.items)
+    subst (λ ns. DecidedByTills MAX_TILLS ns (filter_map decision_of c.args.entries.now) c.in_ok-decided.decided.verdicts.tills.items)
     (c.deref.ensures.value ∙ c.in_ok-versions.ensures.numbers) c.in_ok-decided.ensures.tills

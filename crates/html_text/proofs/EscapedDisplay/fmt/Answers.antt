@@ -8,7 +8,7 @@ use Rattle.std.proofs.lemmas.Iterator.Consumers.{YieldsList-end}
 use Rattle.html_text.specs.Escaping.{escaped, escaped_char}
 use Rattle.html_text.proofs.EscapedDisplay.fmt.Goals as goal
 
--- after a character, what was written is what was written before it, and then this character's escaped text
+-- Each iteration preserves the loop's invariant: the characters so far are written, each one escaped.
 pub loop-c-preserved : goal.loop-c-preserved
 loop-c-preserved g c =
     λ plain. let before = c.loop-c.invariant plain in

@@ -7,12 +7,12 @@ use Rattle.operations.specs.Operations.{AreOperations}
 use Rattle.reg_types.specs.Facts.{stored}
 use Rattle.bpf_model.specs.Flow.{GoesForward, flow_fault}
 use Rattle.reg_types.specs.Inference.{first_flaw}
-use Rattle.reg_types.specs.Passing.{AreInferred, IsPassRefused, IsToldAlone, decode_told}
-use Rattle.reg_types.specs.Refusals.{shown_by}
+use Rattle.reg_types.specs.Passing.{AreInferred, IsPassRefused, WrapsNoOutOfMemory, decode_fault_refusal}
+use Rattle.reg_types.specs.Refusals.{refusal_numbers}
 use Rattle.reg_types.specs.declared.refusal.Refusal.TheVariants.{Flow}
-use Rattle.reg_types.specs.Shown.{IsRefusal, IsRefused, refusal_of}
+use Rattle.reg_types.specs.RefusedPrograms.{IsRefusal, IsRefused, refusal_of}
 use Rattle.reg_types.proofs.Accepted.{good_by}
-use Rattle.reg_types.proofs.Answering.{accepted, pass_shown, pass_exact, exact_plain, begin_right, decode_exact, decode_shown, decode_alone, fault_of_err}
+use Rattle.reg_types.proofs.Answering.{accepted, pass_shown, pass_exact, exact_plain, begin_right, decode_exact, decode_numbers, decode_alone, fault_of_err}
 use Rattle.reg_types.proofs.Answering.{flow_exact, flow_alone, pass_alone, memory_alone, never_wrong}
 use Rattle.reg_types.proofs.Walking.{walked}
 use Rattle.reg_types.proofs.verifier.verify.Goals as goal
@@ -35,7 +35,7 @@ invariant_of-result c =
             inferred_are = subst (λ us. AreInferred us (options_of (as_loaded c.args.bytes.now c.args.declared c.args.layout)) (stored c.in-Ok-infer.facts.items))
                 own c.in-Ok-infer.ensures.inferred;
             distinct = c.in-Ok-infer.ensures.distinct;
-            walked = walked c.in-Ok-from_slice.kept.items c.in-Ok-check_flow.flow (options_of (as_loaded c.args.bytes.now c.args.declared c.args.layout)) reads;
+            walked = walked c.in-Ok-from_slice.copied_bytes.items c.in-Ok-check_flow.flow (options_of (as_loaded c.args.bytes.now c.args.declared c.args.layout)) reads;
           };
       decoded = subst (λ us. AreOperations us c.in-Ok-operations_of.ops.items) own c.in-Ok-operations_of.ensures;
     }
@@ -48,14 +48,14 @@ returns-in-Err c =
       same = tt;
       good = tt;
       answers = subst (IsRefusal (refusal_of (as_loaded c.args.bytes.now c.args.declared c.args.layout))) (sym told) exact;
-      alone = subst IsToldAlone (sym told) (decode_alone c.in-Err.fault);
+      alone = subst WrapsNoOutOfMemory (sym told) (decode_alone c.in-Err.fault);
       refused = subst (IsRefused (as_loaded c.args.bytes.now c.args.declared c.args.layout)) (sym told)
-          (decode_shown c.args.bytes.now (options_of (as_loaded c.args.bytes.now c.args.declared c.args.layout)) c.in-Err.fault c.in-Err.ensures.refused);
+          (decode_numbers c.args.bytes.now (options_of (as_loaded c.args.bytes.now c.args.declared c.args.layout)) c.in-Err.fault c.in-Err.ensures.refused);
       plain = λ p. told ∙ exact_plain c.args.bytes.now (options_of (as_loaded c.args.bytes.now c.args.declared c.args.layout))
-          (decode_told c.in-Err.fault) exact p;
+          (decode_fault_refusal c.in-Err.fault) exact p;
       begins = tt;
-      length = λ wrong. ap Err (told ∙ ap decode_told (fault_of_err c.in-Err.fault (c.in-Err.ensures.length wrong)));
-      memory = λ none. begin_right c.args.bytes.now c.in-Err.fault c.in-Err.ensures.refused (sym (ap shown_by told) ∙ none);
+      length = λ wrong. ap Err (told ∙ ap decode_fault_refusal (fault_of_err c.in-Err.fault (c.in-Err.ensures.length wrong)));
+      memory = λ none. begin_right c.args.bytes.now c.in-Err.fault c.in-Err.ensures.refused (sym (ap refusal_numbers told) ∙ none);
     }
 
 pub returns-in-Err-check_flow : goal.returns-in-Err-check_flow

@@ -10,7 +10,7 @@ use Rattle.site_core.specs.State.{view_of}
 use Rattle.site_core.specs.Context.{context}
 use Rattle.site_core.specs.History.{in_force}
 use Rattle.site_core.specs.Decide.{counts}
-use Rattle.site_core.specs.Keeping.{settled, with_counters}
+use Rattle.site_core.specs.SiteInvariant.{applied_answer, with_counters}
 use Rattle.site_core.proofs.Decisions.{decided-refused, decided-none, decided-ended}
 use Rattle.site_core.proofs.Grants.{verdict-is, bounded-counted}
 use Rattle.site_core.proofs.perform.decide.Goals as goal
@@ -38,15 +38,15 @@ returns-clause-effect c = λ config past agrees.
     let after : Counters = c.run.new.self.counters in
     let r0 = c.in_ok-r0.r0 in
     let ended : outcome p (bytes_of (context p.layout s c.args.till c.args.moment q)) (view_of s) s.counters ≡ Ended r0 after =
-    (λ i. outcome (sym c.deref-2.ensures i) (bytes_of (sym given i)) (view_of s) s.counters) ∙ c.in_ok-r0.ensures.ran in
+    (λ i. outcome (sym c.deref-2.ensures i) (bytes_of (sym given i)) (view_of s) s.counters) ∙ c.in_ok-r0.ensures.run_result in
     let counted : c.in_ok-r0.counts ≡ counts p.declared s.counters after =
     c.in_ok-r0.ensures.noted ∙ ap (λ (t : ProgramText). counts t.declared s.counters after) c.deref-2.ensures in
-    let told : settled (with_counters s after) c.args.till q c.in-Some.version r0 ≡ (c.settle.result, c.settle.new.self) =
-    (λ i. settled (sym c.run.ensures.rest i) c.args.till q c.in-Some.version r0) ∙ c.settle.ensures.settled in
+    let told : applied_answer (with_counters s after) c.args.till q c.in-Some.version r0 ≡ (c.apply_answer.result, c.apply_answer.new.self) =
+    (λ i. applied_answer (sym c.run.ensures.rest i) c.args.till q c.in-Some.version r0) ∙ c.apply_answer.ensures.applied_answer in
     rw (← c.in-Ok.ensures.question) (decided-ended config past s c.args.till c.args.moment q v r0 after some ended
-    ∙ verdict-is s c.args.till c.args.moment r0 q v after c.settle.result c.settle.new.self told
+    ∙ verdict-is s c.args.till c.args.moment r0 q v after c.apply_answer.result c.apply_answer.new.self told
     ∙ (λ i. record {
-      reply = c.settle.result;
+      reply = c.apply_answer.result;
       run = Some (record {
         slot = q.slot;
         version = c.in-Some.version;
@@ -54,10 +54,10 @@ returns-clause-effect c = λ config past agrees.
         context = sym given i;
         counts = sym counted i;
       });
-      after = c.settle.new.self;
+      after = c.apply_answer.new.self;
     }))
 
 pub returns-clause-bounded : goal.returns-clause-bounded
 returns-clause-bounded c = λ k b.
     let after : Counters = c.run.new.self.counters in
-    c.settle.ensures.bounded k (subst (Bounded k) (sym c.run.ensures.rest) (bounded-counted k c.args.station.now after b))
+    c.apply_answer.ensures.bounded k (subst (Bounded k) (sym c.run.ensures.rest) (bounded-counted k c.args.station.now after b))

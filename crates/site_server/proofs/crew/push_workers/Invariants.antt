@@ -3,6 +3,6 @@ use Rattle.std.specs.Arc.{arc_value}
 use Rattle.site_server.specs.Crews.{posts_of}
 use Rattle.site_server.proofs.crew.push_workers.Given as goal
 
--- the list is the workers from before the loop, followed by one worker of the door for each turn so far
+-- `workers` has the workers from before the loop, and then one worker of the door for each round so far
 abbrev pub invariant-loop-turn : goal.invariant-loop-turn
 invariant-loop-turn l = posts_of l.workers.items ≡ posts_of l.initial.workers.items ++ replicate l._turn (l.role, arc_value l.listener)

@@ -1,14 +1,14 @@
 use Rattle.std.proofs.Common.{arith, rules}
 use Rattle.till_request.proofs.Counts.{rose_more, rose_left}
-use Rattle.line_session.specs.Session.{desk_says, desk_drops, desk_takes}
-use Rattle.line_session.proofs.Failing.{if_handed}
+use Rattle.line_session.specs.Session.{desk_answers, desk_drops, desk_needs_memory}
+use Rattle.line_session.proofs.Failing.{if_returned}
 use Rattle.line_session.proofs.Found.{cut_found, write_alone, write_no_spent}
-use Rattle.line_session.proofs.Buffered.{waits_none, waits_on, waits_more, breaks_gone, breaks_said, breaks_cut_off, stops_read, stops_said, ends_all}
+use Rattle.line_session.proofs.Buffered.{waits_none, still_holds_after_write, waits_more, breaks_gone, breaks_said, breaks_cut_off, stops_read, stops_said, ends_all}
 use Rattle.line_session.proofs.pipelined.Progress.answer_lines.Goals as goal
 
 pub turns-init : goal.turns-init
 turns-init g c = record {
-  answering = rw c.requires.1 (waits_none (desk_says g.D.Desk.step g.C.Clock.tick c.args.role) _ _ _);
+  answering = rw c.requires.1 (waits_none (desk_answers g.D.Desk.step g.C.Clock.tick c.args.role) _ _ _);
   within = search rules;
   reads = search rules;
   asked = search rules;
@@ -18,45 +18,45 @@ turns-init g c = record {
 
 pub returns-in_err-flush_unless_more-clause-broken : goal.returns-in_err-flush_unless_more-clause-broken
 returns-in_err-flush_unless_more-clause-broken g c =
-    if_handed _ _ c.from_residual.ensures _ (λ _. rw c.in_err-flush_unless_more.ensures.input (breaks_gone (desk_says g.D.Desk.step g.C.Clock.tick c.args.role) (desk_drops g.D.Desk.step g.C.Clock.tick c.args.role)
+    if_returned _ _ c.from_residual.ensures _ (λ _. rw c.in_err-flush_unless_more.ensures.input (breaks_gone (desk_answers g.D.Desk.step g.C.Clock.tick c.args.role) (desk_drops g.D.Desk.step g.C.Clock.tick c.args.role)
     _ _ _ _ _ _ _ _ c.turns.count c.turns.invariant.answering c.in_err-flush_unless_more.ensures.err))
 
 pub returns-in_err-found-clause-stopped : goal.returns-in_err-found-clause-stopped
 returns-in_err-found-clause-stopped g c =
-    let way = waits_on _ _ _ _ _ _ c.turns.invariant.answering c.in_ok-flush_unless_more.ensures.ok in
+    let way = still_holds_after_write _ _ _ _ _ _ c.turns.invariant.answering c.in_ok-flush_unless_more.ensures.ok in
     let t = rw c.in_ok-flush_unless_more.ensures.input at c.in_err-found.ensures.given in
-    if_handed _ _ c.from_residual-in_err-found.ensures _
-    (λ _. stops_read (desk_says g.D.Desk.step g.C.Clock.tick c.args.role) (desk_drops g.D.Desk.step g.C.Clock.tick c.args.role) (desk_takes c.args.role) _ _ _ _ _ _ _ _ _
+    if_returned _ _ c.from_residual-in_err-found.ensures _
+    (λ _. stops_read (desk_answers g.D.Desk.step g.C.Clock.tick c.args.role) (desk_drops g.D.Desk.step g.C.Clock.tick c.args.role) (desk_needs_memory c.args.role) _ _ _ _ _ _ _ _ _
     c.turns.count t.0 way t.1 t.2)
 
 pub returns-in_err-answer_line-in-Line-clause-broken : goal.returns-in_err-answer_line-in-Line-clause-broken
 returns-in_err-answer_line-in-Line-clause-broken g c =
-    let way = waits_on _ _ _ _ _ _ c.turns.invariant.answering c.in_ok-flush_unless_more.ensures.ok in
+    let way = still_holds_after_write _ _ _ _ _ _ c.turns.invariant.answering c.in_ok-flush_unless_more.ensures.ok in
     let t = rw (c.in-Line.is, c.in_ok-flush_unless_more.ensures.input) at c.in_ok-found.ensures.taken in
-    if_handed _ _ c.from_residual-in_err-answer_line-in-Line.ensures _
-    (breaks_said (desk_says g.D.Desk.step g.C.Clock.tick c.args.role) (desk_drops g.D.Desk.step g.C.Clock.tick c.args.role) (desk_takes c.args.role) _ _ _ _ _ _ _ _ _ _
-    _ _ c.turns.count c.find_line.new.line.items way t.1 t.0 c.in_err-answer_line-in-Line.ensures.err)
+    if_returned _ _ c.from_residual-in_err-answer_line-in-Line.ensures _
+    (breaks_said (desk_answers g.D.Desk.step g.C.Clock.tick c.args.role) (desk_drops g.D.Desk.step g.C.Clock.tick c.args.role) (desk_needs_memory c.args.role) _ _ _ _ _ _ _ _ _ _
+    _ _ c.turns.count c.read_line_into.new.line.items way t.1 t.0 c.in_err-answer_line-in-Line.ensures.err)
 
 pub returns-in_err-answer_line-in-Line-clause-stopped : goal.returns-in_err-answer_line-in-Line-clause-stopped
 returns-in_err-answer_line-in-Line-clause-stopped g c =
-    let way = waits_on _ _ _ _ _ _ c.turns.invariant.answering c.in_ok-flush_unless_more.ensures.ok in
+    let way = still_holds_after_write _ _ _ _ _ _ c.turns.invariant.answering c.in_ok-flush_unless_more.ensures.ok in
     let t = rw (c.in-Line.is, c.in_ok-flush_unless_more.ensures.input) at c.in_ok-found.ensures.taken in
-    if_handed _ _ c.from_residual-in_err-answer_line-in-Line.ensures _
-    (stops_said (desk_says g.D.Desk.step g.C.Clock.tick c.args.role) (desk_drops g.D.Desk.step g.C.Clock.tick c.args.role) (desk_takes c.args.role) _ _ _ _ _ _ _ _ _ _ _ _
-    c.turns.count c.find_line.new.line.items way t.1 t.0 c.in_err-answer_line-in-Line.ensures.err)
+    if_returned _ _ c.from_residual-in_err-answer_line-in-Line.ensures _
+    (stops_said (desk_answers g.D.Desk.step g.C.Clock.tick c.args.role) (desk_drops g.D.Desk.step g.C.Clock.tick c.args.role) (desk_needs_memory c.args.role) _ _ _ _ _ _ _ _ _ _ _ _
+    c.turns.count c.read_line_into.new.line.items way t.1 t.0 c.in_err-answer_line-in-Line.ensures.err)
 
-pub returns-in_default-clause-said : goal.returns-in_default-clause-said
-returns-in_default-clause-said g c =
-    let way = waits_on _ _ _ _ _ _ c.turns.invariant.answering c.in_ok-flush_unless_more.ensures.ok in
+pub returns-in_default-clause-all_answered : goal.returns-in_default-clause-all_answered
+returns-in_default-clause-all_answered g c =
+    let way = still_holds_after_write _ _ _ _ _ _ c.turns.invariant.answering c.in_ok-flush_unless_more.ensures.ok in
     let t = cut_found c.in_ok-found.found _ _ _ c.in_default.not-Line (rw c.in_ok-flush_unless_more.ensures.input at c.in_ok-found.ensures.taken) in
-    ends_all (desk_says g.D.Desk.step g.C.Clock.tick c.args.role) _ _ _ _ _ _ _ _ _ _ c.turns.count c.cut_of.result t.0 c.end.result way t.1 (rw c.cut_of.ensures t.2)
+    ends_all (desk_answers g.D.Desk.step g.C.Clock.tick c.args.role) _ _ _ _ _ _ _ _ _ _ c.turns.count c.cut_of.result t.0 c.end.result way t.1 (rw c.cut_of.ensures t.2)
     c.end.ensures.ok
 
 pub returns-in_default-clause-broken : goal.returns-in_default-clause-broken
 returns-in_default-clause-broken g c =
-    let way = waits_on _ _ _ _ _ _ c.turns.invariant.answering c.in_ok-flush_unless_more.ensures.ok in
+    let way = still_holds_after_write _ _ _ _ _ _ c.turns.invariant.answering c.in_ok-flush_unless_more.ensures.ok in
     let t = cut_found c.in_ok-found.found _ _ _ c.in_default.not-Line (rw c.in_ok-flush_unless_more.ensures.input at c.in_ok-found.ensures.taken) in
-    breaks_cut_off (desk_says g.D.Desk.step g.C.Clock.tick c.args.role) (desk_drops g.D.Desk.step g.C.Clock.tick c.args.role) _ _ _ _ _ _ _ _ _ c.turns.count
+    breaks_cut_off (desk_answers g.D.Desk.step g.C.Clock.tick c.args.role) (desk_drops g.D.Desk.step g.C.Clock.tick c.args.role) _ _ _ _ _ _ _ _ _ c.turns.count
     c.cut_of.result t.0 c.end.result way t.1 (rw c.cut_of.ensures t.2) c.end.ensures.err
 
 pub returns-in_default-clause-spent : goal.returns-in_default-clause-spent
@@ -67,16 +67,16 @@ returns-in_default-clause-stopped g c = write_alone c.end.result _ c.end.ensures
 
 pub turns-preserved : goal.turns-preserved
 turns-preserved g c =
-    let way = waits_on _ _ _ _ _ _ c.turns.invariant.answering c.in_ok-flush_unless_more.ensures.ok in
+    let way = still_holds_after_write _ _ _ _ _ _ c.turns.invariant.answering c.in_ok-flush_unless_more.ensures.ok in
     let t = rw (c.in-Line.is, c.in_ok-flush_unless_more.ensures.input) at c.in_ok-found.ensures.taken in
     record {
-      answering = waits_more (desk_says g.D.Desk.step g.C.Clock.tick c.args.role) _ _ _ _ _ _ _ _ _ _ _ c.turns.count c.find_line.new.line.items way t.1 t.0
+      answering = waits_more (desk_answers g.D.Desk.step g.C.Clock.tick c.args.role) _ _ _ _ _ _ _ _ _ _ _ c.turns.count c.read_line_into.new.line.items way t.1 t.0
           c.in_ok-answer_line-in-Line.ensures.ok;
       within = omega (arith, c.turns.invariant.within, c.in_ok-flush_unless_more.ensures.left, c.in_ok-found.ensures.used, c.in_ok-answer_line-in-Line.ensures.left);
-      reads = rw c.in_ok-answer_line-in-Line.ensures.left (rose_left c.args.self.now.left c.turns.self.left c.find_line.new.left (omega (arith, c.turns.invariant.within))
+      reads = rw c.in_ok-answer_line-in-Line.ensures.left (rose_left c.args.self.now.left c.turns.self.left c.read_line_into.new.left (omega (arith, c.turns.invariant.within))
           (omega (arith, c.in_ok-found.ensures.left, c.in_ok-flush_unless_more.ensures.left)) c.turns.invariant.reads
           (rw (c.in_ok-flush_unless_more.ensures.left, c.in_ok-flush_unless_more.ensures.input) at c.in_ok-found.ensures.counted));
-      asked = rw c.in_ok-answer_line-in-Line.ensures.left (rose_left c.args.self.now.left c.turns.self.left c.find_line.new.left (omega (arith, c.turns.invariant.within))
+      asked = rw c.in_ok-answer_line-in-Line.ensures.left (rose_left c.args.self.now.left c.turns.self.left c.read_line_into.new.left (omega (arith, c.turns.invariant.within))
           (omega (arith, c.in_ok-found.ensures.left, c.in_ok-flush_unless_more.ensures.left)) c.turns.invariant.asked
           (rw (c.in_ok-flush_unless_more.ensures.left, c.in_ok-flush_unless_more.ensures.input) at c.in_ok-found.ensures.asked));
       read = rose_more c.turns.invariant.read (rw c.in_ok-flush_unless_more.ensures.input at c.in_ok-found.ensures.failed);

@@ -1,6 +1,6 @@
 use Rattle.std.proofs.Common.{◌≡◌, None, subst}
 use Rattle.bpf_model.specs.Program.{IsGood}
-use Rattle.reg_types.specs.Shown.{refusal_of}
+use Rattle.reg_types.specs.RefusedPrograms.{refusal_of}
 use Rattle.reg_types.proofs.Accepted.{good_by}
 use Rattle.reg_types.proofs.Answering.{accepted}
 use Rattle.reg_types.proofs.verifier.Program.bytes.Goals as goal

@@ -1,5 +1,5 @@
 use Rattle.std.proofs.Common.{◌≡◌, sym, subst, arith, length}
-use Rattle.reg_types.specs.Passing.{IsFactCount, IsFew}
+use Rattle.reg_types.specs.Passing.{IsFactCount, IsBoundedByTargets}
 use Rattle.reg_types.proofs.Counting.{counts, few, facts_small}
 use Rattle.reg_types.proofs.verifier.Program.facts.Goals as goal
 
@@ -21,5 +21,5 @@ pub returns-clause-few : goal.returns-clause-few
 returns-clause-few c =
     let p = c.self.inside in
     let n : c.len.result ≡ length p.facts.items = omega (arith, c.len.ensures) in
-    subst (λ n. IsFew c.args.self.now.bytes n) (sym n)
-    (subst (λ t. IsFew t.bytes (length p.facts.items)) c.self.view_is (few p.bytes.items c.self.invariant.us p.options p.facts.items c.self.invariant.accepted))
+    subst (λ n. IsBoundedByTargets c.args.self.now.bytes n) (sym n)
+    (subst (λ t. IsBoundedByTargets t.bytes (length p.facts.items)) c.self.view_is (few p.bytes.items c.self.invariant.us p.options p.facts.items c.self.invariant.accepted))

@@ -13,14 +13,14 @@ use Rattle.site_core.proofs.draft.Draft.compare.Goals as goal
 pub first_point-requires-clause-count : goal.first_point-requires-clause-count
 first_point-requires-clause-count c =
     let was = c.self.invariant.1 in
-    (same-others c.args.station.now was.state c.view-view.result.now c.deref-input.result.now.view c.most_points-count.result c.view-view.ensures.view
-    ((λ i. (c.deref-input.ensures i).view) ∙ was.view_is) c.view-view.ensures.few was.few c.most_points-count.ensures).0
+    (same-others c.args.station.now was.state c.view-view.result.now c.deref-input.result.now.view c.greater_point_count-count.result c.view-view.ensures.view
+    ((λ i. (c.deref-input.ensures i).view) ∙ was.view_is) c.view-view.ensures.within_point_limit was.within_point_limit c.greater_point_count-count.ensures).0
 
 pub first_point-requires-clause-others : goal.first_point-requires-clause-others
 first_point-requires-clause-others c =
     let was = c.self.invariant.1 in
-    (same-others c.args.station.now was.state c.view-view.result.now c.deref-input.result.now.view c.most_points-count.result c.view-view.ensures.view
-    ((λ i. (c.deref-input.ensures i).view) ∙ was.view_is) c.view-view.ensures.few was.few c.most_points-count.ensures).1
+    (same-others c.args.station.now was.state c.view-view.result.now c.deref-input.result.now.view c.greater_point_count-count.result c.view-view.ensures.view
+    ((λ i. (c.deref-input.ensures i).view) ∙ was.view_is) c.view-view.ensures.within_point_limit was.within_point_limit c.greater_point_count-count.ensures).1
 
 pub returns-in-Some-first_counter : goal.returns-in-Some-first_counter
 returns-in-Some-first_counter c =

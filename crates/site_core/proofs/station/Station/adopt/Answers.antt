@@ -7,8 +7,8 @@ use Rattle.site_core.specs.Decide.{counts}
 use Rattle.site_core.proofs.Filling.{view-is}
 use Rattle.site_core.proofs.station.Station.adopt.Goals as goal
 
-pub returns-clause-ran : goal.returns-clause-ran
-returns-clause-ran c = λ r0 ran.
+pub returns-clause-run_result : goal.returns-clause-run_result
+returns-clause-run_result c = λ r0 run_result.
     let old : SiteState = record {
       points = c.self.inside.points.items;
       prices = c.self.inside.view.prices;
@@ -19,8 +19,8 @@ returns-clause-ran c = λ r0 ran.
     let shown : c.self.inside.view ≡ view_of c.args.self.now =
     view-is old c.self.inside.view c.self.invariant.2 c.self.invariant.3 refl ∙ ap view_of c.self.view_is in
     let counted : c.self.inside.counters ≡ c.args.self.now.counters = ap (λ (s : SiteState). s.counters) c.self.view_is in
-    let before = (λ i. outcome c.args.program.now (bytes_of c.args.given.now) (shown i) c.args.before.now) ∙ ran in
-    (λ i. outcome c.args.program.now (bytes_of c.args.given.now) (sym shown i) (sym counted i)) ∙ c.rebase.ensures.ran r0 before
+    let before = (λ i. outcome c.args.program.now (bytes_of c.args.given.now) (shown i) c.args.before.now) ∙ run_result in
+    (λ i. outcome c.args.program.now (bytes_of c.args.given.now) (sym shown i) (sym counted i)) ∙ c.rebase.ensures.run_result r0 before
 
 pub returns-clause-noted : goal.returns-clause-noted
 returns-clause-noted c =

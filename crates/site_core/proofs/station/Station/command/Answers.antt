@@ -4,11 +4,11 @@ use Rattle.fuelling_point.specs.Table.{command_step}
 use Rattle.fuelling_point.specs.Promises.{FollowsTable}
 use Rattle.site_core.specs.State.{SiteState}
 use Rattle.site_core.proofs.Filling.{keeps-seen, place-below}
-use Rattle.site_core.proofs.Points.{commanded-none, commanded-err, commanded-ok}
+use Rattle.site_core.proofs.Points.{till_command_effect-none, till_command_effect-err, till_command_effect-ok}
 use Rattle.site_core.proofs.station.Station.command.Goals as goal
 
 pub returns-then-not-has_point-clause-effect : goal.returns-then-not-has_point-clause-effect
-returns-then-not-has_point-clause-effect c = commanded-none c.args.self.now c.args.till c.args.n c.args.command (OnFalse_at c.if-not-has_point.true c.has_point.ensures.none)
+returns-then-not-has_point-clause-effect c = till_command_effect-none c.args.self.now c.args.till c.args.n c.args.command (OnFalse_at c.if-not-has_point.true c.has_point.ensures.none)
 
 pub returns-in-Err-clause-effect : goal.returns-in-Err-clause-effect
 returns-in-Err-clause-effect c =
@@ -24,7 +24,7 @@ returns-in-Err-clause-effect c =
     let there : (1 ≤ c.args.n) × (c.args.n ≤ length c.args.self.now.points) = OnTrue_at c.if-not-has_point.false c.has_point.ensures.there in
     let one : 1 ≤ c.args.n = there.0 in
     let le : c.args.n ≤ length c.self.inside.points.items = subst (λ (s : SiteState). c.args.n ≤ length s.points) (sym c.self.view_is) there.1 in
-    rw (← c.self.view_is, c.fault_reply.ensures) (commanded-err old c.args.till c.args.n c.args.command c.index_mut-point.result.now
+    rw (← c.self.view_is, c.fault_reply.ensures) (till_command_effect-err old c.args.till c.args.n c.args.command c.index_mut-point.result.now
     c.on_command-outcome.new.self c.in-Err.fault one le c.index_mut-point.ensures.value answer)
 
 pub returns-in-Ok-None-clause-effect : goal.returns-in-Ok-None-clause-effect
@@ -44,7 +44,7 @@ returns-in-Ok-None-clause-effect c =
     let there : (1 ≤ c.args.n) × (c.args.n ≤ length c.args.self.now.points) = OnTrue_at c.if-not-has_point.false c.has_point.ensures.there in
     let one : 1 ≤ c.args.n = there.0 in
     let le : c.args.n ≤ length c.self.inside.points.items = subst (λ (s : SiteState). c.args.n ≤ length s.points) (sym c.self.view_is) there.1 in
-    let whole = commanded-ok old c.args.till c.args.n c.args.command c.index_mut-point.result.now c.on_command-outcome.new.self None one le
+    let whole = till_command_effect-ok old c.args.till c.args.n c.args.command c.index_mut-point.result.now c.on_command-outcome.new.self None one le
     c.index_mut-point.ensures.value answer
     in
     let same : c.self.inside.cleared + 0 ≡ c.self.inside.cleared = omega arith in
@@ -67,7 +67,7 @@ returns-in-Ok-Some-clause-effect c =
     let there : (1 ≤ c.args.n) × (c.args.n ≤ length c.args.self.now.points) = OnTrue_at c.if-not-has_point.false c.has_point.ensures.there in
     let one : 1 ≤ c.args.n = there.0 in
     let le : c.args.n ≤ length c.self.inside.points.items = subst (λ (s : SiteState). c.args.n ≤ length s.points) (sym c.self.view_is) there.1 in
-    rw (← c.self.view_is) (commanded-ok old c.args.till c.args.n c.args.command c.index_mut-point.result.now c.on_command-outcome.new.self
+    rw (← c.self.view_is) (till_command_effect-ok old c.args.till c.args.n c.args.command c.index_mut-point.result.now c.on_command-outcome.new.self
     (Some c.in-Ok-Some.amount) one le c.index_mut-point.ensures.value answer)
 
 pub invariant_of-self : goal.invariant_of-self
@@ -77,7 +77,7 @@ invariant_of-self c =
     let there : (1 ≤ c.args.n) × (c.args.n ≤ length c.args.self.now.points) = OnTrue_at c.if-not-has_point.false c.has_point.ensures.there in
     let le : c.args.n ≤ length c.self.inside.points.items = subst (λ (s : SiteState). c.args.n ≤ length s.points) (sym c.self.view_is) there.1 in
     let lt : c.args.n - 1 < length points = place-below c.args.n (length points) there.0 le in
-    keeps-seen points c.self.inside.view (c.args.n - 1) c.on_command-outcome.new.self c.renew.new.place lt i.0 i.1 i.2 i.3 (c.renew.ensures ∙ c.seen.ensures)
+    keeps-seen points c.self.inside.view (c.args.n - 1) c.on_command-outcome.new.self c.set_if_changed.new.place lt i.0 i.1 i.2 i.3 (c.set_if_changed.ensures ∙ c.seen.ensures)
 
 pub invariant_of-self-in-Ok-None : goal.invariant_of-self-in-Ok-None
 invariant_of-self-in-Ok-None c =
@@ -86,7 +86,7 @@ invariant_of-self-in-Ok-None c =
     let there : (1 ≤ c.args.n) × (c.args.n ≤ length c.args.self.now.points) = OnTrue_at c.if-not-has_point.false c.has_point.ensures.there in
     let le : c.args.n ≤ length c.self.inside.points.items = subst (λ (s : SiteState). c.args.n ≤ length s.points) (sym c.self.view_is) there.1 in
     let lt : c.args.n - 1 < length points = place-below c.args.n (length points) there.0 le in
-    keeps-seen points c.self.inside.view (c.args.n - 1) c.on_command-outcome.new.self c.renew.new.place lt i.0 i.1 i.2 i.3 (c.renew.ensures ∙ c.seen.ensures)
+    keeps-seen points c.self.inside.view (c.args.n - 1) c.on_command-outcome.new.self c.set_if_changed.new.place lt i.0 i.1 i.2 i.3 (c.set_if_changed.ensures ∙ c.seen.ensures)
 
 pub invariant_of-self-in-Ok-Some : goal.invariant_of-self-in-Ok-Some
 invariant_of-self-in-Ok-Some c =
@@ -95,4 +95,4 @@ invariant_of-self-in-Ok-Some c =
     let there : (1 ≤ c.args.n) × (c.args.n ≤ length c.args.self.now.points) = OnTrue_at c.if-not-has_point.false c.has_point.ensures.there in
     let le : c.args.n ≤ length c.self.inside.points.items = subst (λ (s : SiteState). c.args.n ≤ length s.points) (sym c.self.view_is) there.1 in
     let lt : c.args.n - 1 < length points = place-below c.args.n (length points) there.0 le in
-    keeps-seen points c.self.inside.view (c.args.n - 1) c.on_command-outcome.new.self c.renew.new.place lt i.0 i.1 i.2 i.3 (c.renew.ensures ∙ c.seen.ensures)
+    keeps-seen points c.self.inside.view (c.args.n - 1) c.on_command-outcome.new.self c.set_if_changed.new.place lt i.0 i.1 i.2 i.3 (c.set_if_changed.ensures ∙ c.seen.ensures)

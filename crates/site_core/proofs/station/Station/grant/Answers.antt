@@ -4,7 +4,7 @@ use Rattle.fuelling_point.specs.Table.{PointState, command_step}
 use Rattle.fuelling_point.specs.Promises.{FollowsTable}
 use Rattle.site_core.specs.State.{SiteState, at_number}
 use Rattle.site_core.specs.Bounds.{Bounded}
-use Rattle.site_core.specs.Decide.{command_of, granted_point}
+use Rattle.site_core.specs.Decide.{command_of, granted_amount}
 use Rattle.site_core.proofs.Grants.{grant-none, grant-is, bounded-with}
 use Rattle.site_core.proofs.Filling.{keeps-seen, place-below}
 use Rattle.site_core.proofs.station.Station.grant.Goals as goal
@@ -38,9 +38,9 @@ returns-clause-grant c =
     let there : (1 ≤ q.point) × (q.point ≤ length c.args.self.now.points) = OnTrue_at c.if-not-has_point.false c.has_point.ensures.there in
     let one : 1 ≤ q.point = there.0 in
     let le : q.point ≤ length old.points = subst (λ (s : SiteState). q.point ≤ length s.points) (sym c.self.view_is) there.1 in
-    let given : c.granted_point-granted.result ≡ granted_point q.kind q.asked c.args.r0 p.preset = rw c.preset.ensures at c.granted_point-granted.ensures in
-    let asked : c.command_of.result ≡ command_of q.kind (granted_point q.kind q.asked c.args.r0 p.preset) = rw given at c.command_of.ensures in
-    let answers : FollowsTable (command_step p c.args.till (command_of q.kind (granted_point q.kind q.asked c.args.r0 p.preset))) p c.on_command.result
+    let given : c.granted_amount-granted.result ≡ granted_amount q.kind q.asked c.args.r0 p.preset = rw c.preset.ensures at c.granted_amount-granted.ensures in
+    let asked : c.command_of.result ≡ command_of q.kind (granted_amount q.kind q.asked c.args.r0 p.preset) = rw given at c.command_of.ensures in
+    let answers : FollowsTable (command_step p c.args.till (command_of q.kind (granted_amount q.kind q.asked c.args.r0 p.preset))) p c.on_command.result
     c.on_command.new.self = rw asked at c.on_command.ensures.answer in
     rw (← c.self.view_is, given) (grant-is old c.args.till c.args.r0 q p c.on_command.new.self c.on_command.result one le
     c.index_mut-point.ensures.value answers)
@@ -69,4 +69,4 @@ invariant_of-self-2 c =
     let there : (1 ≤ q.point) × (q.point ≤ length c.args.self.now.points) = OnTrue_at c.if-not-has_point.false c.has_point.ensures.there in
     let le : q.point ≤ length points = subst (λ (s : SiteState). q.point ≤ length s.points) (sym c.self.view_is) there.1 in
     let lt : q.point - 1 < length points = place-below q.point (length points) there.0 le in
-    keeps-seen points c.self.inside.view (q.point - 1) c.on_command.new.self c.renew.new.place lt i.0 i.1 i.2 i.3 (c.renew.ensures ∙ c.seen.ensures)
+    keeps-seen points c.self.inside.view (q.point - 1) c.on_command.new.self c.set_if_changed.new.place lt i.0 i.1 i.2 i.3 (c.set_if_changed.ensures ∙ c.seen.ensures)

@@ -7,8 +7,8 @@ use Rattle.site_core.proofs.Filling.{view-is}
 use Rattle.site_core.proofs.Counted.{none-counted}
 use Rattle.site_core.proofs.station.Station.run.Goals as goal
 
-pub returns-then-mask-eq0-clause-ran : goal.returns-then-mask-eq0-clause-ran
-returns-then-mask-eq0-clause-ran c =
+pub returns-then-mask-eq0-clause-run_result : goal.returns-then-mask-eq0-clause-run_result
+returns-then-mask-eq0-clause-run_result c =
     let old : SiteState = record {
       points = c.self.inside.points.items;
       prices = c.self.inside.view.prices;
@@ -30,8 +30,8 @@ returns-then-mask-eq0-clause-noted c =
     c.in_ok-counts.ensures.noted ∙ ap (λ mask. counts mask was was) c.if-mask-eq0.true ∙ none-counted was was
     ∙ sym (none-counted before after) ∙ ap (λ mask. counts mask before after) (sym zero)
 
-pub returns-in-Ok-clause-ran : goal.returns-in-Ok-clause-ran
-returns-in-Ok-clause-ran c =
+pub returns-in-Ok-clause-run_result : goal.returns-in-Ok-clause-run_result
+returns-in-Ok-clause-run_result c =
     let old : SiteState = record {
       points = c.self.inside.points.items;
       prices = c.self.inside.view.prices;

@@ -7,12 +7,12 @@ use Rattle.till_request.specs.declared.act.Answer.TheVariants.{Entered, JournalF
 use Rattle.site_core.specs.Draft.{ReadyValue}
 use Rattle.site_core.specs.Limits.{ConfigValue}
 use Rattle.site_core.specs.Step.{entered_moment}
-use Rattle.site_lock.specs.Desks.{AsksGate, DeskDecides}
+use Rattle.site_lock.specs.Desks.{CallsGate, DeskDecides}
 use Rattle.site_lock.proofs.Trying.{rose_none}
 use Rattle.site_lock.proofs.desk.PassDeskDesk.answer.Goals as goal
 
--- a load asks no gate, whatever is answered
-asks_of_load : (calls slot mask : ℕ) (layout : Layout) (bytes : List ℕ) (answer : Answer) → AsksGate calls calls answer (Load slot mask layout bytes)
+-- for a load, `CallsGate` holds without a call of the gate, whatever the answer is
+asks_of_load : (calls slot mask : ℕ) (layout : Layout) (bytes : List ℕ) (answer : Answer) → CallsGate calls calls answer (Load slot mask layout bytes)
 asks_of_load calls slot mask layout bytes (Entered number reply) = tt
 asks_of_load calls slot mask layout bytes JournalFull = tt
 asks_of_load calls slot mask layout bytes OutOfMemory = tt
@@ -36,10 +36,10 @@ returns-in-Ok g c =
     let zero_moment : entered_moment c.args.act c.args.moment ≡ 0 = subst (λ act. entered_moment act c.args.moment ≡ 0) (sym l.is) refl in (
       search rules,
       rose_none calls,
-      subst (AsksGate calls calls c.said-in-Ok.result) (sym l.is) (asks_of_load calls l.slot l.mask l.layout l.bytes c.said-in-Ok.result),
-      subst (DeskDecides g.G.Gate.makes g.L.SiteLedger.config c.args.self.now.pass.id c.args.moment c.args.self.now.gate c.args.self.now.gate c.said-in-Ok.result)
+      subst (CallsGate calls calls c.answer_of-in-Ok.result) (sym l.is) (asks_of_load calls l.slot l.mask l.layout l.bytes c.answer_of-in-Ok.result),
+      subst (DeskDecides g.G.Gate.makes g.L.SiteLedger.config c.args.self.now.pass.id c.args.moment c.args.self.now.gate c.args.self.now.gate c.answer_of-in-Ok.result)
           (sym l.is) (load_decides g.G.Gate.makes g.L.SiteLedger.config c.args.self.now.pass.id c.args.moment l.slot l.mask l.layout l.bytes
-          c.args.self.now.gate c.said-in-Ok.result),
+          c.args.self.now.gate c.answer_of-in-Ok.result),
     )
 
 pub returns-in-Err : goal.returns-in-Err

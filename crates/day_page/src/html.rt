@@ -1,0 +1,176 @@
+//! A builder of the text of a page.
+use crate::names::refusal_name;
+use crate::texts::{Date, Text, date_of};
+use html_text::Escaped;
+use std::alloc::{AllocError, Global};
+
+/// Builds a text of HTML. If memory runs out, the functions that add to the text don't report it: `finish` returns the
+/// error.
+#[derive(Drop)]
+pub struct HtmlBuilder {
+    text: String,
+    /// Whether memory ran out when something was added to the text.
+    ran_out_of_memory: bool,
+}
+
+impl HtmlBuilder {
+    /// Returns a builder whose text is empty.
+    pub fn new(alloc: Global) -> HtmlBuilder {
+        HtmlBuilder {
+            text: String::new(alloc),
+            ran_out_of_memory: false,
+        }
+    }
+
+    /// Returns the whole text. The error is that memory ran out when something was added to it.
+    pub fn finish(self) -> Result<String, AllocError> {
+        let HtmlBuilder {
+            text,
+            ran_out_of_memory,
+        } = self;
+        if ran_out_of_memory {
+            Err(AllocError)
+        } else {
+            Ok(text)
+        }
+    }
+
+    /// Sets `ran_out_of_memory`, if `written` is an error.
+    fn note(&mut self, written: Result<(), AllocError>) {
+        if written.is_err() {
+            self.ran_out_of_memory = true;
+        }
+    }
+
+    /// Adds a piece of HTML as it is.
+    pub fn add(&mut self, piece: &str) {
+        let written = self.text.push_str(piece);
+        self.note(written);
+    }
+
+    /// Adds `form`, a template of HTML, in which `texts` replace the `{}`, in order.
+    ///
+    /// - If there are too few texts, the remaining `{}` are left out.
+    /// - If there are too many texts, the first that has no `{}` is added at the end, and the others are ignored.
+    pub fn fill(&mut self, form: &str, texts: &[Text]) {
+        let mut texts = texts.iter();
+        for piece in form.split("{}") {
+            self.add(piece);
+            if let Some(text) = texts.next() {
+                self.put(*text);
+            }
+        }
+    }
+
+    /// Adds a text, written in the form that its variant of `Text` describes.
+    pub fn put(&mut self, text: Text) {
+        match text {
+            Text::Number(number) => self.number(number),
+            Text::Thousands(number) => self.thousands(number),
+            Text::Hundredths(number) => self.hundredths(number),
+            Text::Thousandths(number) => self.thousandths(number),
+            Text::Seconds(nanoseconds) => self.seconds(nanoseconds),
+            Text::Moment(moment) => self.moment(moment),
+            Text::Clock(moment) => self.clock(moment),
+            Text::Point(number) => self.named("Point ", number),
+            Text::Entry(number) => self.named("entry ", number),
+            Text::Refusal(number) => self.refusal(number),
+            Text::Words(words) => self.words(words),
+        }
+    }
+
+    /// Adds words, with the special characters of HTML escaped.
+    pub fn words(&mut self, words: &str) {
+        let words = Escaped(words);
+        let written = write!(self.text, "{words}");
+        self.note(written);
+    }
+
+    fn number(&mut self, number: u64) {
+        let written = write!(self.text, "{number}");
+        self.note(written);
+    }
+
+    /// Adds `mark`, and then `number` with at least two digits: 7 becomes 07.
+    fn two(&mut self, mark: &str, number: u64) {
+        self.add(mark);
+        if number < 10 {
+            self.add("0");
+        }
+        self.number(number);
+    }
+
+    /// Adds `mark`, and then `number` with at least three digits: 7 becomes 007.
+    fn three(&mut self, mark: &str, number: u64) {
+        self.add(mark);
+        if number < 100 {
+            self.two("0", number);
+        } else {
+            self.number(number);
+        }
+    }
+
+    fn thousands(&mut self, number: u128) {
+        let mut power = 1_000_000_000_000_000_000_000_000_000_000_000_000u128;
+        let mut is_begun = false;
+        for place in 0..GROUPS {
+            let group = (number.checked_div(power).unwrap_or(0) % 1000) as u64;
+            if is_begun {
+                self.three(",", group);
+            } else if group > 0 || place == GROUPS - 1 {
+                self.number(group);
+                is_begun = true;
+            }
+            power /= 1000;
+        }
+    }
+
+    fn hundredths(&mut self, number: u128) {
+        self.thousands(number / 100);
+        self.two(".", (number % 100) as u64);
+    }
+
+    fn thousandths(&mut self, number: u64) {
+        self.thousands((number / 1000) as u128);
+        self.three(".", number % 1000);
+    }
+
+    fn seconds(&mut self, nanoseconds: u64) {
+        let (whole, rest) = (nanoseconds / 1_000_000_000, nanoseconds % 1_000_000_000);
+        let written = write!(self.text, "{whole}.{rest:09}");
+        self.note(written);
+    }
+
+    /// Adds a name, then a number.
+    fn named(&mut self, name: &str, number: u64) {
+        self.add(name);
+        self.number(number);
+    }
+
+    fn refusal(&mut self, number: u32) {
+        self.named("S", number as u64);
+        self.add(" ");
+        self.words(refusal_name(number));
+    }
+
+    fn moment(&mut self, moment: u64) {
+        if moment == 0 {
+            return self.add("not told");
+        }
+        let Date { year, month, day } = date_of(moment);
+        self.number(year);
+        self.two("-", month);
+        self.two("-", day);
+        self.add(" ");
+        self.clock(moment);
+        self.two(":", moment % 60);
+    }
+
+    fn clock(&mut self, moment: u64) {
+        self.two("", moment / 3600 % 24);
+        self.two(":", moment / 60 % 60);
+    }
+}
+
+/// The greatest number of groups of three digits in a number of 128 bits.
+const GROUPS: u32 = 13;

@@ -1,5 +1,0 @@
-use Rattle.day_report.specs.Totals.{CountsNumbers}
-use Rattle.day_report.proofs.adding.by_number.Given as goal
-
-abbrev pub invariant-loop-place : goal.invariant-loop-place
-invariant-loop-place l = CountsNumbers l.place l.counts.items l.numbers

@@ -1,5 +1,0 @@
-use Rattle.day_report.proofs.Cuts.{Cuts}
-use Rattle.day_report.proofs.steps.cuts.Given as goal
-
-abbrev pub invariant-loop-place : goal.invariant-loop-place
-invariant-loop-place l = Cuts l.axis l.steps l.entries l.place l.cuts.items

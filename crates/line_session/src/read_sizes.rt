@@ -1,0 +1,29 @@
+//! Laws: answers don't depend on the sizes of reads.
+ghost use Rattle.till_request.specs.declared.act.Role.{Role};
+ghost use Rattle.line_session.specs.ReadSizes.{IsDetermined, IsIndependentOfReadSizes, IsClockDetermined, IsDeskDetermined};
+ghost use Rattle.line_session.specs.Session.{desk_answers};
+
+use crate::desk::{Clock, Desk};
+use crate::line_handler::LineHandler;
+
+/// Does nothing. Its contract is a law: the sizes of an input's reads change no answer. The law is for a handler that
+/// in each state of the clock and the desk can give only one answer to a line, after which only one state follows,
+/// unless memory runs out. Such a handler gives the same answers to the same bytes from the same state, unless memory
+/// runs out or a session fails.
+///
+/// The contract of `answer_lines` describes what is read and written in terms of the input's bytes alone, whatever the
+/// device is. So two calls with such a handler, the same bytes, the same state and the same output before end alike if
+/// both return `Ok` and no answer is that memory ran out. A loop that lost bytes after a line's LF, or took the bytes
+/// of one read for a line, could not have this contract.
+pub fn law_of_read_sizes<C, D, S: LineHandler<C, D>>()
+    ensures { (handler : S) → IsDetermined (S.answers_with handler)
+        → IsIndependentOfReadSizes (S.answers_with handler) }
+{}
+
+/// Does nothing. Its contract is the law of `law_of_read_sizes` for the sessions of a role, under two conditions. In
+/// each state the clock can give only one moment, and only one state of the clock follows. In each state the desk has
+/// only one answer to an act at a moment, and only one state of the desk follows, unless memory runs out.
+pub fn law_of_read_sizes_at_desks<C: Clock, D: Desk>()
+    ensures { (role : Role) → IsClockDetermined C.tick → IsDeskDetermined D.step
+        → IsIndependentOfReadSizes (desk_answers D.step C.tick role) }
+{}

@@ -1,0 +1,203 @@
+//! What a request on the page port asks for, or why it is refused.
+ghost use Rattle.std.specs.Prelude.{◌≡◌, option_copied};
+ghost use Rattle.http.specs.Request.{head_of};
+ghost use Rattle.http_uri.specs.Uri.{uri_query};
+ghost use Rattle.till_request.specs.Grammar.{number};
+ghost use Rattle.page_port.specs.Answering.{status_of, text_refusing};
+ghost use Rattle.page_port.specs.Asking.{requested_endpoint, host_of, is_allowed_host, is_loopback_host, is_named, is_empty_or_port, is_get_or_head};
+ghost use Rattle.page_port.specs.Asking.{lines_after, journal_at, endpoint_at};
+
+use bytes::Bytes;
+use http::{Request, StatusCode, header};
+use till_request::numbers::number_u32;
+
+/// What a request on the page port can ask for.
+#[derive(Clone, Copy)]
+pub enum Endpoint {
+    /// The station now, as a page of HTML.
+    Page,
+    /// The station's numbers, for Prometheus.
+    Metrics,
+    /// Whether all is well with the station.
+    Health,
+    /// The journal's lines after the entry with this number. For 0 they begin with the first entry.
+    Journal(u32),
+}
+
+/// Why a request is refused.
+#[derive(Clone, Copy)]
+pub enum Refusal {
+    /// The request names another host than this machine, so a page of another web site could have sent it.
+    OtherHost,
+    /// The port has nothing at the request's path.
+    NoSuchPath,
+    /// The request's method is neither GET nor HEAD.
+    OtherMethod,
+    /// The query of `/journal` isn't `after=` and a number from 0 to 4,294,967,295 in plain digits.
+    BadQuery,
+}
+
+impl Refusal {
+    /// Returns the HTTP status of the answer to a request that is refused for this reason.
+    pub fn status(self) -> StatusCode
+        ensures { result ≡ status_of self }
+    {
+        match self {
+            Refusal::OtherHost => StatusCode::FORBIDDEN,
+            Refusal::NoSuchPath => StatusCode::NOT_FOUND,
+            Refusal::OtherMethod => StatusCode::METHOD_NOT_ALLOWED,
+            Refusal::BadQuery => StatusCode::BAD_REQUEST,
+        }
+    }
+
+    /// Returns the text of the answer to a request that is refused for this reason: one line with its LF.
+    pub fn text(self) -> &'static str
+        ensures { result.now ≡ text_refusing self }
+    {
+        match self {
+            Refusal::OtherHost => "this page is for localhost, 127.0.0.1 and [::1] alone\n",
+            Refusal::NoSuchPath =>
+                "nothing is here: try /, /metrics, /healthz or /journal?after=N\n",
+            Refusal::OtherMethod => "only GET and HEAD are answered here\n",
+            Refusal::BadQuery => "write after=N, with N from 0 to 4294967295 in plain digits\n",
+        }
+    }
+}
+
+/// Returns whether `rest`, which follows a host's name, is empty or begins with a colon, as a port does. The port's
+/// digits aren't checked here: they were checked when the request was read.
+fn is_empty_or_port(rest: &[u8]) -> bool
+    ensures { result ≡ is_empty_or_port rest.now }
+{
+    match rest {
+        [first, ..] => *first == b':',
+        [] => true,
+    }
+}
+
+/// Returns whether a host has this name, in upper or lower case, with any port or none.
+fn is_named(host: &[u8], name: &[u8]) -> bool
+    ensures { result ≡ is_named host.now name.now }
+{
+    if host.len() < name.len() {
+        return false;
+    }
+    let (front, rest) = host.split_at(name.len());
+    front.eq_ignore_ascii_case(name) && is_empty_or_port(rest)
+}
+
+/// Returns whether a host is `localhost`, `127.0.0.1` or `[::1]`, in upper or lower case, with any port or none.
+fn is_loopback_host(host: &[u8]) -> bool
+    ensures { result ≡ is_loopback_host host.now }
+{
+    is_named(host, b"localhost") || is_named(host, b"127.0.0.1") || is_named(host, b"[::1]")
+}
+
+/// Returns the endpoint `Journal` for the entry number that `digits` spell. The error is `BadQuery` unless they are
+/// decimal digits, without leading zeros, of a number below 2^32.
+fn lines_after(digits: &[u8]) -> Result<Endpoint, Refusal>
+    ensures { result ≡ lines_after (number 32 digits.now) }
+{
+    match number_u32(digits) {
+        Ok(number) => Ok(Endpoint::Journal(number)),
+        Err(_) => Err(Refusal::BadQuery),
+    }
+}
+
+/// Returns the endpoint that a query of `/journal` asks for:
+///
+/// - `None`: the journal's lines from the first entry on
+/// - `after=` and a number that `lines_after` accepts: the lines after the entry with this number
+/// - any other query: the error `BadQuery`
+fn journal_at(query: Option<&[u8]>) -> Result<Endpoint, Refusal>
+    ensures { result ≡ journal_at (option_copied query.entry) }
+{
+    let Some(query) = query else {
+        return Ok(Endpoint::Journal(0));
+    };
+    if query.len() < 6 {
+        return Err(Refusal::BadQuery);
+    }
+    let (key, digits) = query.split_at(6);
+    if key == b"after=".as_slice() {
+        lines_after(digits)
+    } else {
+        Err(Refusal::BadQuery)
+    }
+}
+
+/// Returns the endpoint at `path`. `query` matters only for the path `/journal`. The error is `NoSuchPath` if nothing
+/// is at `path`, and `BadQuery` for a wrong query of `/journal`.
+fn endpoint_at(path: &[u8], query: Option<&[u8]>) -> Result<Endpoint, Refusal>
+    ensures { result ≡ endpoint_at path.now (option_copied query.entry) }
+{
+    if path == b"/".as_slice() {
+        return Ok(Endpoint::Page);
+    }
+    if path == b"/metrics".as_slice() {
+        return Ok(Endpoint::Metrics);
+    }
+    if path == b"/healthz".as_slice() {
+        return Ok(Endpoint::Health);
+    }
+    if path == b"/journal".as_slice() {
+        return journal_at(query);
+    }
+    Err(Refusal::NoSuchPath)
+}
+
+/// Returns whether a method is GET or HEAD.
+fn is_get_or_head(method: &[u8]) -> bool
+    ensures { result ≡ is_get_or_head method.now }
+{
+    method == b"GET".as_slice() || method == b"HEAD".as_slice()
+}
+
+/// Returns the host that a request is for, perhaps with a port: the host in the request's target, or else its field
+/// `Host`. Returns `None` if the request has neither.
+fn host_of(request: &Request<Bytes>) -> Option<&[u8]>
+    ensures { option_copied result ≡ host_of (head_of request.now) }
+{
+    match request.uri().host() {
+        Some(host) => Some(host.as_bytes()),
+        None => match request.headers().get(header::HOST) {
+            Some(host) => Some(host.as_bytes()),
+            None => None,
+        },
+    }
+}
+
+/// Returns whether a request for this host is accepted: the host must be this machine. A request that names no host
+/// (`None`) is accepted too.
+fn is_allowed_host(host: Option<&[u8]>) -> bool
+    ensures { result ≡ is_allowed_host (option_copied host.entry) }
+{
+    match host {
+        Some(host) => is_loopback_host(host),
+        None => true,
+    }
+}
+
+/// Returns the query of a request's target, without its `?`, or `None` if the target has none.
+fn query_of(request: &Request<Bytes>) -> Option<&[u8]>
+    ensures { option_copied result ≡ uri_query (head_of request.now).uri }
+{
+    match request.uri().query() {
+        Some(query) => Some(query.as_bytes()),
+        None => None,
+    }
+}
+
+/// Returns the endpoint that a request asks for. The error is why the request is refused: the request's host is checked
+/// first, then its method, then its path, and last its query.
+pub fn requested_endpoint(request: &Request<Bytes>) -> Result<Endpoint, Refusal>
+    ensures { result ≡ requested_endpoint (head_of request.now) }
+{
+    if !is_allowed_host(host_of(request)) {
+        return Err(Refusal::OtherHost);
+    }
+    if !is_get_or_head(request.method().as_str().as_bytes()) {
+        return Err(Refusal::OtherMethod);
+    }
+    endpoint_at(request.uri().path().as_bytes(), query_of(request))
+}

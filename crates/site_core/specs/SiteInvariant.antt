@@ -1,0 +1,73 @@
+-- Representation: how the fields of a site relate to each other, and what the contracts of the steps inside a call say.
+-- A reader doesn't have to believe it.
+use Rattle.std.specs.Prelude.{◌≡◌, ℕ, ◌≤◌, ◌==◌, if◌then◌else◌, List, ◌∷◌, length, reverse, Some, None, All}
+use Rattle.decision_journal.specs.declared.entries.Entry.{Entry}
+use Rattle.till_request.specs.declared.act.Act.{Act}
+use Rattle.till_request.specs.declared.act.Act.TheVariants as act
+use Rattle.till_request.specs.declared.act.Reply.{Reply}
+use Rattle.till_request.specs.declared.act.Reply.TheVariants as reply
+use Rattle.bpf_model.specs.Machine.{Counters}
+use Rattle.site_core.specs.declared.question.Question.{Question}
+use Rattle.site_core.specs.Decide.{denied, grant}
+use Rattle.program_slots.specs.Value.{SlotsValue}
+use Rattle.program_slots.specs.Slots.{version_in, no_versions, opened_slots}
+use Rattle.bpf_model.specs.Program.{ProgramText}
+use Rattle.site_core.specs.Limits.{ConfigValue}
+use Rattle.site_core.specs.State.{SiteState}
+use Rattle.site_core.specs.Bounds.{Bounded}
+use Rattle.site_core.specs.History.{in_force, versions, versions_before}
+use Rattle.site_core.specs.Step.{effect, entered_moment, load_reply}
+use Rattle.site_core.specs.Legal.{Legal, GoodLoad, GoodLoads}
+use Rattle.site_core.specs.Histories.{load_refusal, AcceptedLoads}
+use Rattle.decision_journal.specs.Journal.{IsWritable}
+
+-- The slots have the versions of the opening and those that the history has loaded. The history has its newest entry
+-- first.
+pub record Agrees (config : ConfigValue) (slots : SlotsValue) (past : List Entry) : Type 0 where
+  pub in_force : (slot : ℕ) → in_force config slot past ≡ version_in slots slot
+  pub before : versions_before config ≡ slots.before
+  pub versions : versions past ≡ length slots.programs
+
+-- The slots that a site starts with.
+abbrev pub slots_at_first : ConfigValue → SlotsValue
+slots_at_first config = elim config.opening [ None ↦ no_versions | Some o ↦ opened_slots o.versions o.rules ]
+
+-- The invariant of a site. The history, oldest entry first, is legal, its loads are accepted and good, and its entries
+-- can be written. The state is the one that the history leads to, within its bounds, and the slots have the versions
+-- that the history has loaded.
+pub record IsConsistent (config : ConfigValue) (history : List Entry) (state : SiteState) (slots : SlotsValue) : Type 0 where
+  pub legal : Legal config (reverse history) state
+  pub agrees : Agrees config slots (reverse history)
+  pub accepted : AcceptedLoads history
+  pub good : GoodLoads history
+  pub written : All IsWritable history
+  pub count : length history ≤ 1048576
+  pub points : length state.points ≡ length config.points
+  pub bounded : Bounded (length history) state
+
+-- An act was performed as the step defines, on the state `old` after the entries `past`: p has the act, moment, reply
+-- and run of its entry, and `new` is the state after it. The slots agree with the history once an entry with the act
+-- and the reply of p is added. If the act is a load, its program is accepted and good.
+pub record Performs (config : ConfigValue) (past : List Entry) (old : SiteState) (moment : ℕ) (act : Act) (p : Entry) (new : SiteState)
+    (slots : SlotsValue) : Type 0 where
+  pub act_is : p.act ≡ act
+  pub moment_is : p.moment ≡ entered_moment act moment
+  pub effect_is : effect config past old moment act ≡ record { reply = p.reply; run = p.run; after = new }
+  pub agrees : (entry : Entry) → entry.act ≡ p.act → entry.reply ≡ p.reply → Agrees config slots (entry ∷ past)
+  pub accepted : load_refusal p.act ≡ None
+  pub good : GoodLoad p.act
+
+-- A load was answered as the step defines, and the slots agree with the history once its entry is added.
+pub record Loads (config : ConfigValue) (old : SlotsValue) (slot : ℕ) (program : ProgramText) (past : List Entry) (reply : Reply) (new : SlotsValue) : Type 0 where
+  pub reply_is : load_reply config slot past ≡ reply
+  pub agrees : (entry : Entry) → entry.act ≡ act.Load slot program.declared program.layout program.bytes → entry.reply ≡ reply → Agrees config new (entry ∷ past)
+
+abbrev pub with_counters : SiteState → Counters → SiteState
+with_counters s counters = record s { counters = counters }
+
+-- The reply if the program of this version answered r to the question, and the state after it. The answer 0 is a
+-- denial, and changes nothing.
+unfoldable pub applied_answer : SiteState → ℕ → Question → ℕ → ℕ → Reply × SiteState
+applied_answer s till q version r =
+    if r == 0 then (denied version, s)
+    else (let g : ℕ × SiteState = grant s till q r in (reply.Granted g.0 version, g.1))
