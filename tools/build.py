@@ -6,9 +6,9 @@ usage: tools/build.py SOURCES NAME FOLDER    SOURCES: has crates.txt and crates/
                                              FOLDER: for what is proved, and for the program, FOLDER/NAME
 
 Each crate is proved by the toolchain's `rattle build`, over what the crates below it state: --statements leaves out
-their proofs, which nobody above reads. As many crates are proved at the same time as there are processors, or as memory
+their proofs, which nobody above reads. As many processes run at the same time as there are processors, or as memory
 allows; FC_JOBS sets another number. Of the crates that can begin, the one with the longest chain up to the program
-comes first. It gets two processes if no chain that is left is much longer. Where fewer can begin, each gets several.
+comes first. Where few can begin, it gets more than one process: two take a quarter of its time more.
 What the toolchain prints goes to standard output, with a line 'build: NAME proved' at the end of each crate.
 The exit status is 0 if all was proved and the program was built.
 """
@@ -20,10 +20,10 @@ import threading
 import time
 from concurrent.futures import FIRST_COMPLETED, ThreadPoolExecutor, wait
 
-MOST_JOBS = 4  # processes that one crate's proof can use well
-LINES_LIKE = {"interp": 2200, "site_lock": 4000}  # for proofs that take much longer than others of so many lines
-AT_LEAST = {"job_texts": 2, "site_files": 2}  # processes, with four processors: the end waits for these crates
-MEMORY = 4_500_000_000  # bytes for each crate that is proved at the same time
+FEW = 2  # crates that can begin: where no more can, the one that begins the longest chain of all gets CHAIN_JOBS
+CHAIN_JOBS = 2  # processes
+LAST_JOBS = 3  # processes for the program's own crate, beside which no other is left
+MEMORY = 4_500_000_000  # bytes for each process
 TARGET = "x86_64-unknown-linux-gnu"
 C_LIBRARIES = ("libos_c.a", "liblibc_c.a")  # what the kit's libraries of the system are linked with
 
@@ -53,7 +53,6 @@ class Crate:
             for one in names:
                 with open(os.path.join(path, one), "rb") as file:
                     self.lines += file.read().count(b"\n")
-        self.lines = LINES_LIKE.get(name, self.lines)
 
 
 def crates_of(sources, top):
@@ -134,37 +133,34 @@ class Build:
         return is_proved
 
     def run(self, most):
-        """Proves all crates, at most `most` at the same time, up to the first that can't be proved. Returns whether all
-        were proved."""
+        """Proves all crates, by at most `most` processes at the same time, up to the first that can't be proved. Returns
+        whether all were proved."""
         left = sorted(self.crates.values(), key=lambda it: -it.chain)
         done, running = set(), {}
         with ThreadPoolExecutor(len(left)) as pool:
             while left or running:
                 ready = [it for it in left if done.issuperset(it.deps)]
-                # A crate counts once, however many processes it gets: while it is loaded, it has only one.
-                idle = most - len(running)
-                longest = max([self.crates[name].chain for name in running.values()], default=0)
-                while ready and idle > 0:
-                    jobs = max(1, min(MOST_JOBS, idle // len(ready)))
-                    crate = ready.pop(0)
-                    if crate.chain >= 0.95 * longest and most > 2:
-                        jobs = max(jobs, 2)
-                    if most > 3:
-                        jobs = max(jobs, AT_LEAST.get(crate.name, 1))
-                    longest = max(longest, crate.chain)
+                idle = most - sum(jobs for _, jobs in running.values())
+                longest = max(crate.chain for crate in [*left, *(crate for crate, _ in running.values())])
+                for crate in ready:
+                    if idle <= 0:
+                        break
+                    jobs = 1
+                    if most > 2 and crate.chain == longest and len(ready) <= FEW:
+                        jobs = LAST_JOBS if crate.name == self.top else CHAIN_JOBS
                     left.remove(crate)
-                    running[pool.submit(self.prove, crate.name, jobs)] = crate.name
-                    idle -= 1
+                    running[pool.submit(self.prove, crate.name, jobs)] = crate, jobs
+                    idle -= jobs
                 for one in wait(running, return_when=FIRST_COMPLETED).done:
-                    name = running.pop(one)
+                    crate, _ = running.pop(one)
                     if one.result():
-                        done.add(name)
+                        done.add(crate.name)
                     else:
                         left = []
         return len(done) == len(self.crates)
 
 
-def most_crates(processors):
+def most_processes(processors):
     asked = os.environ.get("FC_JOBS", "")
     if asked.isdigit() and int(asked) > 0:
         return int(asked)
@@ -176,7 +172,7 @@ def most_crates(processors):
 def main():
     sources, top, folder = sys.argv[1:]
     processors = len(os.sched_getaffinity(0))
-    if not Build(sources, top, folder).run(most_crates(processors)):
+    if not Build(sources, top, folder).run(most_processes(processors)):
         sys.exit(1)
 
 
