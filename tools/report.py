@@ -4,7 +4,7 @@
 usage: tools/report.py PROGRAM
 
 The journals are an empty one, that of a day with two tills, two rules, unpaid deliveries and refusals, one of price
-changes, of which one has no moment, and a long one of bench/script.awk. If tidy is installed, it must find no fault in
+changes, of which one has no moment, one of price changes without moments, and a long one of bench/script.awk. If tidy is installed, it must find no fault in
 a page. If Chromium is installed, it must open each page and show the headline. If one isn't installed, that is printed.
 The last line is 'N passed, M failed'.
 """
@@ -58,6 +58,15 @@ till 1 price 1 1850
 moment 1790007200
 till 1 price 1 1880
 """
+# Prices change at the second and at the fourth of five entries, so one and three fifths along the axis: it begins at 90
+# and is 900 long.
+STEPS = f"""load 2 0 {AS_ASKED}
+till 1 price 1 1899
+till 1 show 1
+till 1 price 1 1799
+till 1 show 1
+"""
+STEPS_AT = [90, 270, 630, 990]
 # A line of a chart of prices: its path, which has H before the place to which it goes.
 PRICE_LINE = re.compile(r'<path class="price[^"]*" d="M(\d+)([^"]*)"')
 
@@ -145,10 +154,14 @@ def end(point, flow, last, unpaid):
         unpaid[(point, last[point])] = (amount, volume)
 
 
+def price_lines(text):
+    """The places of each line of prices: where it begins, where it steps, and where it ends."""
+    return [[int(start), *map(int, re.findall(r"H(\d+)", rest))] for start, rest in PRICE_LINE.findall(text)]
+
+
 def going_back(text):
     """The lines of prices that go to the left at some place."""
-    places = [[int(start), *map(int, re.findall(r"H(\d+)", rest))] for start, rest in PRICE_LINE.findall(text)]
-    return [line for line in places if line != sorted(line)]
+    return [line for line in price_lines(text) if line != sorted(line)]
 
 
 def cells(sales):
@@ -205,9 +218,13 @@ def main():
         day = journal_of(program, two, DAY)
         awk = ["awk", "-v", "lines=30000", "-f", os.path.join(HERE, "bench/script.awk")]
         long = journal_of(program, station, subprocess.run(awk, capture_output=True, text=True, check=True).stdout)
-        prices = journal_of(program, two, PRICES)
-        for name, site, lines in (("empty", two, []), ("day", two, day), ("prices", two, prices)):
-            show(checks, program, work, name, site, lines)
+        for name, lines in (
+            ("empty", []),
+            ("day", day),
+            ("prices", journal_of(program, two, PRICES)),
+            ("steps", journal_of(program, two, STEPS)),
+        ):
+            show(checks, program, work, name, two, lines)
         show(checks, program, work, "long", station, long)
         faulty(checks, program, two, work, day)
     checks.end()
@@ -225,6 +242,8 @@ def show(checks, program, work, name, site, lines):
     checks.same(f"{name}: lines of prices", going_back(done.stdout), [])
     if name == "prices":
         checks.same(f"{name}: as many lines as products", len(PRICE_LINE.findall(done.stdout)), 2)
+    if name == "steps":
+        checks.same(f"{name}: where prices change", price_lines(done.stdout)[0], STEPS_AT)
     compare(checks, name, Page(done.stdout), lines)
     if shutil.which("tidy"):
         said = subprocess.run(["tidy", "-q", "-e", path], capture_output=True, text=True).stderr

@@ -1,5 +1,5 @@
-//! Tests of decisions whose rule is run outside the site. The site changes between the draft, on which the rule is run,
-//! and the commit, which enters the decision.
+//! Tests of decisions that are optimistic transactions: a rule is run on a draft (a copy of what the rule reads of the
+//! site), other events follow, and then the commit enters the decision or finds that the decision is stale.
 use fuelling_point::DispenserEvent;
 use reg_types::Layout;
 use reg_types::verifier::verify;
@@ -124,8 +124,8 @@ const ROWS: [Row; 8] = [
     },
 ];
 
-/// Makes a configuration with two tills and two points, and counter 0 with bound 2. Slot 0 decides releases, slot 1
-/// presets, and slot 2 prices. Returns `None` if memory ran out or the configuration isn't valid.
+/// Makes a configuration with two tills, two fuelling points, and the bound 2 for counter 0. Releases are decided by
+/// slot 0, presets by slot 1, and prices by slot 2. Returns `None` if memory ran out or the configuration isn't valid.
 fn config(alloc: Global) -> Option<Config> {
     let points = vec![in alloc; (0, 1), (0, 1)].ok()?;
     let mut counters = [(0, 0); 32];

@@ -94,8 +94,12 @@ fn seen_at<L: SiteLedger, R: Wait>(
 }
 
 /// Runs a session over `input` and `output` at a new forecourt with the ledger `L`. Returns the outcome, or `None` if
-/// the forecourt can't be started. `L` must be new and have one part. `blank` must have the name and the number of
-/// parts of `L`, and `config` must be the configuration of `L`.
+/// the forecourt can't be started. `blank` must have the name and the number of parts of `L`. `L` must have:
+///
+/// - one part, which is for the session's pass
+/// - the configuration `config`
+/// - an empty history to start from (`base`)
+/// - `None` as `taken`: the bytes that the journal had taken before aren't known
 fn run_on_new_site<L: SiteLedger, R: Wait>(
     rt: &R,
     alloc: Global,
@@ -206,8 +210,8 @@ fn seen_after_writes<R: Wait>(rt: &R, alloc: Global, good: u64) -> Result<Sessio
 }
 
 /// Runs sessions in which only the first k writes succeed, for k = 0, 1, 2 and so on, until one ends without a fault.
-/// Returns the first k at which the outcome is wrong, or `None`. If a write fails, one more event must be entered than
-/// whole answers are written. A session must take 15 to 99 writes; if 99 are too few, returns 100.
+/// Returns the first k at which the outcome is wrong, or `None`. If a write fails, the number of entered events must be
+/// 1 greater than that of whole answers written. A session must take 15 to 99 writes; if 99 are too few, returns 100.
 fn unlike_after_writes<R: Wait>(rt: &R, alloc: Global) -> Result<Option<u64>, Fail> {
     for good in 0..100u64 {
         let seen = seen_after_writes(rt, alloc, good)?;

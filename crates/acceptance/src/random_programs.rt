@@ -33,7 +33,7 @@ impl Numbers {
 /// The result of verifying and running some bytes as a program.
 #[derive(Clone, Copy)]
 enum Verdict {
-    /// The verifier refused the bytes with this V number.
+    /// The verifier refused the bytes with the fault of this number, such as 7 for V7.
     Refused(u32),
     /// The program was accepted, and its run ended with this number.
     Answered(u64),

@@ -3,8 +3,8 @@ use site_core::Config;
 use std::alloc::Global;
 use std::test::Fail;
 
-/// Makes a configuration with two tills and two points. Slot 0 decides releases, slot 1 presets, and slot 2 prices. The
-/// error is that memory ran out, or that the configuration isn't valid.
+/// Makes a configuration with two tills and two fuelling points. Releases are decided by slot 0, presets by slot 1, and
+/// prices by slot 2. The error is that memory ran out, or that the configuration isn't valid.
 pub fn station(alloc: Global) -> Result<Config, Fail> {
     let points = vec![in alloc; (0, 1), (0, 1)]?;
     let prices = [1799, 1849, 0, 0, 0, 0, 0, 0];

@@ -1,4 +1,4 @@
--- If the rows of a text have no fault, their units are a program.
+-- A row is a parsed line together with a label. If the rows of a text have no fault, their units are a program.
 use Rattle.std.proofs.Common.{◌≡◌, ℕ, zero, suc, ◌+◌, ◌^◌, ◌<◌, ◌≤◌, List, [], ◌∷◌, ◌++◌, length, Option, Some, None, Bool, true, false, refl, sym, ap, ◌∙◌}
 use Rattle.std.proofs.Common.{subst, arith, rules, w16, w32, FitsSigned}
 use Rattle.std.specs.Prelude.{◌%◌, ◌/◌, ◌&&◌, not, Ok, nat_le, cond, ℤ, pos}
@@ -44,7 +44,7 @@ use Rattle.bpf_asm.specs.Program.{place_of, jump_inst, statement_units, line_uni
 use Rattle.bpf_asm.specs.Program.{rows_fault, fault_of, assembled_with, assembled, cut, IsFault}
 use Rattle.bpf_asm.specs.Sound.{IsNarrowForm, IsSoundForm, IsJump, IsSound, AreSound}
 
--- ---- rows in range
+-- ---- rows whose numbers are in range
 
 by_fits : (n : ℕ) (r : Row) (rows : List Row) (b : Bool) → line_fits r.parsed ≡ b → (rest : Option AsmFault) → or_fault (cond b None (Some (OutOfRange n))) rest
     ≡ None → (rest ≡ None → AreInRange rows) → AreInRange (r ∷ rows)
@@ -60,7 +60,7 @@ pub rows_right : (n : ℕ) (lines : List Text) → first_line_fault n lines ≡ 
 rows_right n [] e = tt
 rows_right n (text ∷ lines) e = by_row n (row_of text) (rows_of lines) (first_line_fault (n + 1) lines) e (rows_right (n + 1) lines)
 
--- ---- places of labels
+-- ---- if rows have at most 512 units in all, the place of each label is at most 512
 
 found_by : (b : Bool) (place n : ℕ) (o : Option ℕ) → place ≤ n → size_or_zero o ≤ n → size_or_zero (cond b (Some place) o) ≤ n
 found_by true place n o g h = g
@@ -80,7 +80,7 @@ labels_within at n (r ∷ rows) h =
 pub places_within : (rows : List Row) → units_in rows ≤ 512 → AreWithin 512 (labels_from 0 rows)
 places_within rows h = labels_within 0 512 rows (omega arith)
 
--- ---- instructions
+-- ---- an instruction with the opcode and the fields of its form, and with numbers in range, has no fault
 
 operator_small : (op : Operator) → operator_code op ≤ 13
 operator_small operator.Add = omega arith
@@ -176,7 +176,7 @@ is_instruction f i op h fields registers offset imm =
           ∙ passes (has_valid_fields f i) (has_valid_registers f i) (half_wide f false) fields registers (not_half f);
     }
 
--- ---- numbers in range
+-- ---- numbers that fit 16 or 32 bits
 
 signed16 : (negative : Bool) (size : Option ℕ) → fits_size (2 ^ 15) negative size ≡ true → FitsSigned w16 (signed negative (size_or_zero size))
 signed16 negative None h = absurd (cc)
@@ -204,7 +204,7 @@ apart16 p a g h = search (rules, ints)
 apart32 : (p a : ℕ) → p ≤ 512 → a ≤ 512 → FitsSigned w32 (pos p -ℤ pos (a + 1))
 apart32 p a g h = search (rules, ints)
 
--- ---- units
+-- ---- rows of at most 512 units, with numbers in range and instructions of this profile, give units without a fault
 
 plain_units : (f : Form) (p : Fields) (rest : List ProgramUnit) → IsSoundForm f p → FitsSigned w16 (int_of p.offset) → FitsSigned w32 (int_of p.imm)
     → AreUnits true rest → AreUnits true (First (inst_of f p.dst p.src (int_of p.offset) (int_of p.imm)) ∷ rest)
@@ -236,7 +236,9 @@ jump_units f p z rest h offset imm more = (
 zero16 : FitsSigned w16 (pos 0)
 zero16 = search rules
 
--- the offset and the immediate of a jump fit their bits, whichever of the two holds the distance
+-- The instruction of a jump holds the distance z: as its immediate if the form is `Ja32`, as its offset otherwise. If z
+-- fits 16 bits and 32 bits, and the parsed immediate fits 32 bits, then the instruction's offset fits 16 bits and its
+-- immediate fits 32 bits.
 jump_fits : (f : Form) (p : Fields) (z : ℤ) → FitsSigned w16 z → FitsSigned w32 z → FitsSigned w32 (int_of p.imm)
     → FitsSigned w16 (jump_inst f p z).offset × FitsSigned w32 (jump_inst f p z).imm
 jump_fits form.Ja32 p z a b d = (zero16, b)
@@ -319,8 +321,9 @@ module _ (labels : List Definition) (within : AreWithin 512 labels) where
   units_are at (r ∷ rows) l fit h = line_is at r.label r.parsed (units_from labels (at + line_len_of r.parsed) rows) (omega arith) fit.0 h.0
       (units_are (at + line_len_of r.parsed) rows (omega arith) fit.1 h.1)
 
--- the units of sound rows whose numbers are in range, if they are at most 512, are instructions without a fault, each
--- wide load with its second unit
+-- If the rows have at most 512 units in all, if the numbers of each row are in range, and if each instruction in a row
+-- is one of this profile, then the units of the rows are instructions without a fault, each wide load followed by its
+-- second unit.
 pub spelled_units : (rows : List Row) → units_in rows ≤ 512 → AreInRange rows → AreSound rows → AreUnits true (spelled rows)
 spelled_units rows l fit h = units_are (labels_from 0 rows) (places_within rows l) 0 rows (omega arith) fit h
 
@@ -341,7 +344,7 @@ units_length labels at [] = refl
 units_length labels at (r ∷ rows) = line_length labels at r.label r.parsed (units_from labels (at + line_len_of r.parsed) rows) ∙ ap
     (λ n. line_len_of r.parsed + n) (units_length labels (at + line_len_of r.parsed) rows)
 
--- ---- faults
+-- ---- the fault of rows is `Length` if they don't have 1 to 512 units
 
 pub is_fault : (f : AsmFault) → IsFault (Some f) f
 is_fault (BadLine n) = refl

@@ -72,7 +72,7 @@ opcode_there (form.Branch c w s) h = tt
 opcode_there form.Call h = tt
 opcode_there form.Exit h = tt
 
--- ---- every form
+-- ---- for each form, the canonical line of an instruction is parsed as this instruction
 
 record Parts (f : Form) (i : Inst) : Type 0 where
   dst : ((uses f).dst || (i.dst == 0)) ≡ true
@@ -404,7 +404,7 @@ module _ (i : Inst) (high : ℤ) (off : FitsSigned w16 i.offset) (imm : FitsSign
       (λ k. ParsesBack form.Exit k high) (same form.Exit i 0 0 (pos 0) (pos 0) g.op (zero_dst g.parts.dst) (zero_src g.parts.src) (int_is i.offset 0 g.parts.offset)
       (int_is i.imm 0 g.parts.imm)) (exit_line high)
 
--- ---- opcodes
+-- ---- the form that is read from an opcode has this opcode again
 
 is_its_opcode : Option Form → ℕ → Bool
 is_its_opcode None n = true
@@ -432,7 +432,7 @@ opcode_is f n is l =
     let h = both_true (opcode_of f == n) (has_opcode f) (sym (ap (λ o. is_its_opcode o n) is) ∙ t) in
     (eqb-true (opcode_of f) n h.0, opcode_there f h.1)
 
--- ---- whole programs
+-- ---- the canonical text of a program assembles to the program
 
 two_tests : (a b : Bool) (o : Option UnitFault) → cond (not a) (Some Field) (cond (not b) (Some BadRegister) o) ≡ None → (a ≡ true) × (b ≡ true)
 two_tests true true o e = (refl, refl)

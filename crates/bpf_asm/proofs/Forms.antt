@@ -44,7 +44,7 @@ use Rattle.bpf_asm.proofs.Again.{number_kind, register_by, minus_token, plus_tok
 use Rattle.bpf_asm.proofs.LineText.{clean, clean_append, decimal_clean, AreGood}
 use Rattle.bpf_asm.proofs.ReadBack.{ParsesAs}
 
--- ---- numbers
+-- ---- the text of a number is split into its tokens and parsed as this number
 
 abbrev pub value_of : ℤ → Value
 value_of (pos n) = plus (Some n)
@@ -93,7 +93,7 @@ pub in_range16 : (z : ℤ) → FitsSigned w16 z → fits (2 ^ 15) (value_of z) �
 in_range16 (pos n) h = let l : n < 32768 = omega (arith, ints, h) in grind (arith, nat_tests)
 in_range16 (negsuc n) h = let l : suc n ≤ 32768 = omega (arith, ints, h) in grind (arith, nat_tests)
 
--- ---- registers
+-- ---- the text of a register is split off as one token and parsed as this register
 
 pub narrow_token : (n : ℕ) (u : Text) → n < 2 ^ 64 → stops continues_word u → token_len (119 ∷ decimal n ++ u) ≡ suc (length (decimal n))
 narrow_token n u small stop = rw (prefix_front continues_word (decimal n) u (digits_continue (decimal n) (decimal_digits n small)) stop) (omega arith)
@@ -123,7 +123,7 @@ pub register_kind : (w : Width) (n : ℕ) → n ≤ 10 → kind_of (register_tex
 register_kind Bits64 n l = register_by n l (up_to_ten n l)
 register_kind Bits32 n l = narrow_by n (up_to_ten n l)
 
--- ---- operators and conditions
+-- ---- an operator with two operands, or a condition, is written as one token, and is parsed back from it
 
 -- With a blank after it, the text t is split off as one token, and this token is k. The text is clean: it neither ends
 -- a line nor begins a comment.
@@ -332,7 +332,7 @@ register_means operator.Arsh h w d s =
 register_means operator.Neg h w d s = absurd h
 register_means operator.SwapBytes h w d s = absurd h
 
--- ---- one register
+-- ---- the line of a negation, as in `r1 = -r1`, is parsed as this instruction
 
 pub same_number : (n : ℕ) → (n == n) ≡ true
 same_number n = grind (arith, nat_tests)
@@ -365,7 +365,7 @@ negation_line w d high l =
       units = λ ls at name. refl;
     }
 
--- ---- a number of bits
+-- ---- swaps of bytes in 16, 32 or 64 bits
 
 pub decimal16 : decimal 16 ≡ codes "16"
 decimal16 = rw (decimal_step 16 (omega arith) (omega arith), decimal_digit 1 (omega arith)) refl
@@ -439,7 +439,7 @@ swap_line w s bits d high o few l =
       units = λ ls at name. refl;
     }
 
--- ---- sign extensions
+-- ---- the line of a sign extension, as in `r1 = (s8)r2`, is parsed as this instruction
 
 pub extension8_line : (w : Width) (d s : ℕ) (high : ℤ)
     → extend w d s (extension w Byte) ≡ Some (plain (form.Arithmetic operator.Mov w source.Register) d s (exactly 8) (exactly 0)) → d ≤ 10 → s ≤ 10
@@ -546,7 +546,7 @@ extension32_line w d s high e l r =
       units = λ ls at name. refl;
     }
 
--- ---- wide loads
+-- ---- the line of a wide load, as in `r1 = 5 ll`, is parsed as this instruction
 
 pub wide_low : (a b : ℕ) → a < 2 ^ 32 → (a + 2 ^ 32 * b) % 2 ^ 32 ≡ a
 wide_low a b h = omega arith
@@ -586,7 +586,7 @@ wide_line d imm high f g l =
           (λ z. First (inst_of form.Wide d 0 (pos 0) imm) ∷ Second z ∷ []) top;
     }
 
--- ---- places
+-- ---- places in memory, and loads from them
 
 abbrev pub sign_tokens : ℤ → Tokens → Tokens
 sign_tokens (pos n) rest = Plus ∷ Number (Some n) ∷ rest
@@ -612,8 +612,8 @@ pub shift_stops : (z : ℤ) (ps : List Piece) → stops continues_word (body (sh
 shift_stops (pos n) ps = refl
 shift_stops (negsuc n) ps = refl
 
--- The text t of a SIZE, between `(` and a blank, is split off as one token, and this token is k. The text is clean: it
--- neither ends a line nor begins a comment.
+-- The text t of a SIZE, such as `u8`, is split off as one token if a blank comes after it, and this token is k. A `(`
+-- before t is split off as one token too. The text t is clean: it neither ends a line nor begins a comment.
 pub record IsSize (t : Text) (k : Token) : Type 0 where
   pub front : (u : Text) → IsFront t (32 ∷ u)
   pub open_front : (u : Text) → IsFront (codes "(") (t ++ u)
@@ -724,7 +724,7 @@ load_line f t k d b z high o e narrow l r h =
       units = λ ls at name. ap (λ x. First (inst_of f d b x (pos 0)) ∷ []) (int_back z);
     }
 
--- ---- stores
+-- ---- the line of a store, as in `*(u8 *)(r1 + 2) = r3`, is parsed as this instruction
 
 pub register_store_means : (n : Size) (b s : ℕ) (z : ℤ)
     → line_of (Star ∷ Open ∷ Unsigned n ∷ Star ∷ Close ∷ Open ∷ Register Bits64 b ∷ sign_tokens z (Close ∷ Assign operator.Mov 0 ∷ Register Bits64 s ∷ []))
@@ -790,7 +790,7 @@ number_store_line n b z v high l h g =
           (λ x. First (inst_of (form.StoreImmediate n) b 0 z x) ∷ []) (int_back v);
     }
 
--- ---- jumps
+-- ---- the line of a jump, a call or an exit is parsed as this instruction
 
 pub digits_plus : (t u : Text) → 0 < length t → all_ascii_digits t ≡ true → token_len (codes "+" ++ t ++ u) ≡ 1
 digits_plus [] u some all = absurd (omega arith)

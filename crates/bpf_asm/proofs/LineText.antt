@@ -1,4 +1,5 @@
--- The text of a list of pieces is one line, and is split into the tokens of these pieces again.
+-- A piece is the text of a token, with or without a blank before it. If `AreGood` holds for a list of pieces, then the
+-- text of the list is one line, and is split into the tokens of these pieces again.
 use Rattle.std.proofs.Common.{◌≡◌, ◌<◌, ◌^◌, ℕ, suc, List, [], ◌∷◌, ◌++◌, length, take, take_all, map, Some, None, Bool, true, false, refl, ap, sym, ◌∙◌}
 use Rattle.std.proofs.Common.{append_assoc, arith}
 use Rattle.std.specs.Prelude.{◌&&◌, ◌||◌, ◌==◌, not, nat_lt, cond, slice_index, ⊤}
@@ -101,10 +102,10 @@ digits_clean (d ∷ t) all =
 pub decimal_clean : (n : ℕ) → n < 2 ^ 64 → clean (decimal n) ≡ true
 decimal_clean n small = digits_clean (decimal n) (decimal_digits n small)
 
--- ---- lines of pieces
+-- ---- lines of pieces: a piece is the text of a token, with or without a blank before it
 
--- The token of each piece is clean, and it is the first token of the text that the piece makes with the pieces after
--- it.
+-- For each piece: its token t is clean, and t is the first token of the text that consists of t and then all pieces
+-- after this one.
 abbrev pub AreGood : List Piece → Type 0
 AreGood [] = ⊤
 AreGood (Next t ∷ ps) = IsFront t (body ps) × (clean t ≡ true) × AreGood ps
@@ -134,7 +135,8 @@ words_are ps g =
     ∙ ap split (take_all (length t) t (omega arith))
     ∙ cut_again ps (good_cut ps g)
 
--- if the tokens of the pieces are parsed as a line, then the text of the pieces is parsed as the same line
+-- if `AreGood` is true of the pieces and their tokens are parsed as a line, then the text of the pieces is parsed as
+-- the same line
 pub line_says : (ps : List Piece) (l : Line) → AreGood ps → line_of (map kind_of (map token_of ps)) ≡ Some l
     → row_of (body ps) ≡ Some (row l (label_of l (map token_of ps)))
 line_says ps l g h = ap row_by (words_are ps g) ∙ ap (λ o. row_with o (map token_of ps)) h

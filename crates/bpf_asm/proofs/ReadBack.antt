@@ -26,8 +26,8 @@ abbrev pub units_by : Bool → Inst → ℤ → List ProgramUnit
 units_by true i high = First i ∷ Second high ∷ []
 units_by false i high = First i ∷ []
 
--- The text of these pieces is parsed as the instruction i, its numbers are in range, and it names no label. If `wide`,
--- i is a wide load, whose second unit has the number `high`.
+-- The text of these pieces is parsed as an instruction that has the units of i, has its numbers in range and doesn't
+-- jump to a label. If `wide`, i is a wide load, and its second unit has the number `high`.
 pub record ParsesAs (ps : List Piece) (wide : Bool) (i : Inst) (high : ℤ) : Type 0 where
   pub parsed : Statement
   pub good : AreGood ps

@@ -160,9 +160,11 @@ register_store_opcode Half = refl
 register_store_opcode Word = refl
 register_store_opcode Double = refl
 
--- ---- tokens
+-- ---- a token is sound if its register, operator, size or swap is one of this profile
 
--- In an instruction with the offset n, the operator can have a register or a number alone as its second operand.
+-- Whether an instruction of this profile can have this operator and the number n in its offset field. Only instructions
+-- count whose second operand is just a register, as in `r1 += r2`, or just a number, as in `r1 += 5`; the result is the
+-- same for both.
 abbrev takes : Operator → ℕ → Bool
 takes operator.Add n = n == 0
 takes operator.Sub n = n == 0
@@ -206,7 +208,7 @@ both a b g h = ap (λ x. x && b) g ∙ h
 alone : (a : Bool) → a ≡ true → (a && true) ≡ true
 alone a g = ap (λ x. x && true) g
 
--- ---- instructions
+-- ---- an instruction whose parts come from sound tokens is one of this profile
 
 immediate_fields : (op : Operator) (n : ℕ) (w : Width) (dst : ℕ) (v : Value) → takes op n ≡ true
     → has_valid_fields (form.Arithmetic op w source.Immediate) (inst_of (form.Arithmetic op w source.Immediate) dst 0 (int_of (exactly n)) (int_of v)) ≡ true
@@ -523,7 +525,7 @@ move_plain w bits dst src h d e f = record {
   registers = both (nat_le dst 10) (nat_le src 10) d e;
 }
 
--- ---- statements
+-- ---- a statement that is parsed from sound tokens is an instruction of this profile
 
 abbrev SoundOption : Option Statement → Type 0
 SoundOption None = ⊤
@@ -719,7 +721,7 @@ statement_sound (Call ∷ Minus ∷ Number n ∷ []) t = call_plain (minus n)
 statement_sound (Exit ∷ []) t = exit_plain
 statement_sound tokens t = tt
 
--- ---- lines
+-- ---- each line that is parsed is empty, defines a label, or is an instruction of this profile
 
 abbrev SoundLine : Option Line → Type 0
 SoundLine None = ⊤
@@ -799,7 +801,8 @@ with_row_sound : (o : Option Row) (rows : List Row) → SoundRow o → AreSound 
 with_row_sound None rows g h = h
 with_row_sound (Some r) rows g h = (g, h)
 
--- Each row of a text is an instruction of this profile, or it takes no unit.
+-- Each row (parsed line) of a text is empty, defines a label, or is an instruction of this profile. Whether the numbers
+-- of an instruction are in range isn't stated.
 pub rows_sound : (lines : List Text) → AreSound (rows_of lines)
 rows_sound [] = tt
 rows_sound (text ∷ lines) = with_row_sound (row_of text) (rows_of lines) (row_by_sound (words_of text)) (rows_sound lines)

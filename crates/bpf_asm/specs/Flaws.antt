@@ -10,7 +10,7 @@ use Rattle.bpf_asm.specs.declared.grammar.Line.TheVariants as line
 use Rattle.bpf_asm.specs.Lex.{Text}
 use Rattle.bpf_asm.specs.Program.{Row, cut, row, row_of}
 
--- the line of a text that has this number, counted from 1; empty if the text has no such line
+-- line `number` of a text, counted from 1 (0 also gives line 1), without its LF; empty if the text has fewer lines
 abbrev pub line_at : Text → ℕ → Text
 line_at text number = unwrap_or (slice_get (cut text) (number - 1)) []
 
@@ -31,10 +31,16 @@ abbrev pub HasNoLabel : Option Row → Type 0
 HasNoLabel None = ⊤
 HasNoLabel (Some r) = r.parsed ≡ line.Empty
 
--- The flaw is the right one for this fault of the text. For a line that can't be parsed it is the byte order mark at
--- the text's beginning, else the CR at the line's end, else it has the line. For a wrong label it has the label that
--- the line defines, or the last token of the line's instruction, or the line itself if it has neither. For a number out
--- of range it has the line. For the fault that memory ran out there is no flaw.
+-- The flaw fits this fault of the text, as listed here. The line is the one whose number the fault has.
+-- - fault `BadLine`, line 1 of a text that begins with a byte order mark: the flaw `ByteOrderMark`
+-- - fault `BadLine`, another line that ends with a CR: the flaw `CarriageReturn`
+-- - fault `BadLine`, any other line: the flaw `NoForm` with the line
+-- - fault `BadLabel`, a line that defines a label: the flaw `DuplicateLabel` with this label
+-- - fault `BadLabel`, an instruction: the flaw `UndefinedLabel` with its last token
+-- - fault `BadLabel`, any other line: the flaw `NoForm` with the line
+-- - fault `OutOfRange`: the flaw `OutOfRange` with the line
+-- - fault `Length`: the flaw `Length`
+-- - fault `OutOfMemory`: no flaw
 abbrev pub Explains : Text → AsmFault → AsmFlaw → Type 0
 Explains text (fault.BadLine number) ByteOrderMark = is_marked text number ≡ true
 Explains text (fault.BadLine number) CarriageReturn = (is_marked text number ≡ false) × (ends_with_return (line_at text number) ≡ true)

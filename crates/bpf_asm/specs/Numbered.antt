@@ -1,4 +1,5 @@
--- Definitions: the text of the instruction at a unit, and a program's text with the numbers of its units (this profile).
+-- Definitions: the text of the instruction at a unit, and a program's text with the numbers of its units (this
+-- profile).
 use Rattle.std.specs.Prelude.{ℕ, ◌+◌, List, [], ◌∷◌, ◌++◌, Option, Some, None, codes, drop}
 use Rattle.std.specs.Fmt.{decimal}
 use Rattle.bpf_model.specs.declared.instruction.Unit.{Unit as ProgramUnit}

@@ -34,7 +34,7 @@ use Rattle.bpf_asm.specs.declared.AsmFault.TheVariants.{BadLine, BadLabel, OutOf
 use Rattle.bpf_asm.specs.Lex.{Text, code_len, split, kind_of}
 use Rattle.bpf_asm.specs.Grammar.{line_of}
 
--- ---- lines
+-- ---- a text is cut into lines, and each line is parsed as a row
 
 abbrev pub with_byte : ℕ → List Text → List Text
 with_byte b [] = (b ∷ []) ∷ []
@@ -55,7 +55,7 @@ line_len (b ∷ text) = if b == 10 then 0 else suc (line_len text)
 abbrev pub words_of : Text → Option (List Text)
 words_of text = if list_all (λ b. nat_lt b 128) text then split (take (code_len text) text) else None
 
--- the text of the first of a line's tokens, and below that of the last one; empty if the line has no tokens
+-- the text of a line's first token; empty if the line has no tokens; `last_word` is the same for the last token
 abbrev pub first_word : List Text → Text
 first_word [] = []
 first_word (word ∷ words) = word
@@ -65,8 +65,9 @@ last_word [] = []
 last_word (word ∷ []) = word
 last_word (word ∷ other ∷ words) = last_word (other ∷ words)
 
--- A parsed line with a label. For the definition of a label it is this label. For an instruction it is the last token,
--- which for a jump to a label is that label.
+-- A parsed line, with its `label`. If the line defines a label, `label` is this label. If the line is an instruction,
+-- `label` is the text of its last token; in a jump to a label, this is the label that it jumps to. If the line is
+-- empty, `label` is empty.
 pub record Row : Type 0 where
   pub parsed : Line
   pub label : Text
@@ -99,10 +100,10 @@ abbrev pub rows_of : List Text → List Row
 rows_of [] = []
 rows_of (text ∷ lines) = with_row (row_of text) (rows_of lines)
 
--- ---- ranges
+-- ---- a line that can't be parsed, or that has a number out of range, has a fault
 
--- The number is from minus `half` to `half` - 1. It is given by whether it is negative and by its absolute value. It
--- isn't in the range if this is None, which stands for 2^64 or more.
+-- Whether a number is from minus `half` to `half` - 1. The number is given by whether it is negative and by its
+-- absolute value. None, which stands for an absolute value of 2^64 or more, is never in this range.
 abbrev pub fits_size : ℕ → Bool → Option ℕ → Bool
 fits_size half negative None = false
 fits_size half true (Some n) = nat_le n half
@@ -142,7 +143,7 @@ abbrev pub first_line_fault : ℕ → List Text → Option AsmFault
 first_line_fault number [] = None
 first_line_fault number (text ∷ lines) = or_fault (row_fault number (row_of text)) (first_line_fault (number + 1) lines)
 
--- ---- opcodes
+-- ---- each form has an opcode
 
 abbrev pub source_bit : Source → ℕ
 source_bit source.Immediate = 0
@@ -204,7 +205,7 @@ opcode_of (form.Branch c w s) = 16 * condition_code c + source_bit s + jump_clas
 opcode_of form.Call = 0x85
 opcode_of form.Exit = 0x95
 
--- ---- units
+-- ---- an instruction takes one unit, or two if it is a wide load
 
 abbrev pub signed : Bool → ℕ → ℤ
 signed true n = neg_ℤ (pos n)
@@ -220,7 +221,7 @@ int_of v = signed v.negative (size_or_zero v.size)
 abbrev pub inst_of : Form → ℕ → ℕ → ℤ → ℤ → Inst
 inst_of f dst src offset imm = record { opcode = opcode_of f; dst = dst; src = src; offset = offset; imm = imm }
 
--- the lower 32 bits of a wide load's number, and below the upper 32 bits, each as a signed number
+-- the lower 32 bits of a wide load's number, as a signed number; `high_half` does the same for the upper 32 bits
 abbrev pub low_half : ℕ → ℤ
 low_half n = cast_signed w32 (n % 2 ^ 32)
 
@@ -242,7 +243,7 @@ abbrev pub units_in : List Row → ℕ
 units_in [] = 0
 units_in (r ∷ rows) = line_len_of r.parsed + units_in rows
 
--- ---- labels
+-- ---- a label names a unit, and a row with a wrong label has a fault
 
 pub record Definition : Type 0 where
   pub name : Text
@@ -290,15 +291,17 @@ with_name line.Label name names = names ++ name ∷ []
 with_name line.Empty name names = names
 with_name (line.Statement s) name names = names
 
--- the fault of the first row that defines a label among `before` or of an earlier row, or jumps to a label that isn't
--- in `all`; the rows count from `number`; None if there is no such row
+-- The fault of the first row with a wrong label; None if there is no such row. The rows count from `number`. A row has
+-- a wrong label in two cases:
+-- - It defines a label that is among `before`, or that an earlier row defines too.
+-- - It jumps to a label that isn't in `all`.
 abbrev pub label_fault : List Definition → ℕ → List Text → List Row → Option AsmFault
 label_fault all number before [] = None
 label_fault all number before (r ∷ rows) =
     if is_wrong all before r.parsed r.label then Some (BadLabel number)
     else label_fault all (number + 1) (with_name r.parsed r.label before) rows
 
--- ---- programs
+-- ---- the rows of a text give the units of a program, or a fault
 
 -- the distance of a jump at unit `at`, in units from the unit after the jump
 abbrev pub distance_of : List Definition → ℕ → Text → Target → ℤ
@@ -328,8 +331,9 @@ units_from labels at (r ∷ rows) = line_units labels at r.label r.parsed ++ uni
 abbrev pub length_fault : ℕ → Option AsmFault
 length_fault n = if nat_le 1 n && nat_le n 512 then None else Some Length
 
--- the fault of rows whose numbers are in range: that they don't have 1 to 512 units, or else that of the first row with
--- a wrong label; None if they have neither
+-- The fault of rows whose numbers are in range. It is `Length` if all rows together don't have 1 to 512 units.
+-- Otherwise it is `BadLabel` for the first row that defines a label which an earlier row defines too, or that jumps to
+-- a label which no row defines; None if there is no such row.
 abbrev pub rows_fault : List Row → Option AsmFault
 rows_fault rows = or_fault (length_fault (units_in rows)) (label_fault (labels_from 0 rows) 1 [] rows)
 
@@ -350,8 +354,7 @@ assembled text = assembled_with (cut text) (fault_of (cut text))
 abbrev pub AssemblesTo : Text → List ProgramUnit → Type 0
 AssemblesTo text units = assembled text ≡ Ok units
 
--- The returned fault is the one that was found (None if none was), or that memory ran out, which can happen for every
--- text.
+-- The returned fault is `found` (None if there is no fault), or that memory ran out, which can happen for every text.
 abbrev pub IsFault : Option AsmFault → AsmFault → Type 0
 IsFault found OutOfMemory = ⊤
 IsFault found (BadLine n) = found ≡ Some (BadLine n)

@@ -19,7 +19,8 @@ unfoldable pub program_in : List ℕ → Result (List ℕ) ProgramFileFault
 program_in text =
     if nat_le (length text) 65536 then bytes_or_fault (decode_of (filter (λ b. not (is_blank b)) text)) else Err TooLong
 
--- A function can return this fault: it is that memory ran out, or it is the fault that `said`, the defined result, has.
+-- The first argument is the fault that a function returned, and `said` is what a definition such as `program_in` gives.
+-- The fault is that memory ran out, or `said` is the same fault.
 abbrev pub Fails : {B : Type 0} → ProgramFileFault → Result B ProgramFileFault → Type 0
 Fails OutOfMemory said = ⊤
 Fails fault said = said ≡ Err fault
@@ -28,7 +29,7 @@ abbrev pub Gives : {A B : Type 0} → (A → B) → Result A ProgramFileFault �
 Gives view (Ok x) said = said ≡ Ok (view x)
 Gives view (Err fault) said = Fails fault said
 
--- the line of a unit: its bytes as 16 hexadecimal digits, and an LF
+-- the line of a unit: its bytes as 16 lower case hexadecimal digits, and an LF
 abbrev pub unit_line : List ℕ → ℕ → List ℕ
 unit_line bytes unit = encode_lower (take 8 (drop (8 * unit) bytes)) ++ 10 ∷ []
 

@@ -1,4 +1,4 @@
-// Flaws: the faults of an assembler text, each with what its message for people shows.
+// Flaws: the faults of an assembler text, each with the line or the label that its message shows, if it shows one.
 
 ghost use Rattle.std.specs.Prelude.{◌≡◌, ◌-◌, ℕ, [], true, IfOk, IsOk, slice_get, unwrap_or, take};
 ghost use Rattle.bpf_asm.specs.Program as spec;
@@ -20,8 +20,10 @@ pub enum AsmFlaw<'a> {
     ByteOrderMark,
     /// A1: this line can't be parsed, and without its LF it ends with a CR.
     CarriageReturn,
-    /// A1: this line can't be parsed. It isn't the first line of a text that begins with a byte order mark, and it
-    /// doesn't end with a CR.
+    /// `explain` returns this flaw for two faults:
+    /// - A1: this line can't be parsed. It isn't the first line of a text that begins with a byte order mark, and
+    ///   without its LF it doesn't end with a CR.
+    /// - A2 (a wrong label), if this line is empty or can't be parsed. `assemble` never reports A2 for such a line.
     NoForm(&'a [u8]),
     /// A2: an earlier line defines this label too.
     DuplicateLabel(&'a [u8]),
@@ -96,8 +98,8 @@ fn ending(line: &[u8]) -> &'static str
     if line.len() > MOST_SHOWN { " .." } else { "" }
 }
 
-/// Writes a printable ASCII character as it is, and any other byte as in `\x0d`. The error is that the formatter
-/// failed.
+/// Writes a printable ASCII character as it is, and any other byte as `\x` and two lower case hexadecimal digits. The
+/// error is that the formatter failed.
 fn write_byte<W: fmt::Write>(f: &mut fmt::Formatter<W>, byte: u8) -> fmt::Result
     ensures { WritesOnOk W.write_str_gives f.old result (shown_byte byte) f.new }
 {
@@ -108,8 +110,8 @@ fn write_byte<W: fmt::Write>(f: &mut fmt::Formatter<W>, byte: u8) -> fmt::Result
     }
 }
 
-/// Returns line `number` of a text, counted from 1, without its LF. Returns an empty line if the text has fewer lines.
-/// The error is that memory ran out.
+/// Returns line `number` of a text, counted from 1 (0 also gives line 1), without its LF. Returns an empty line if the
+/// text has fewer lines. The error is that memory ran out.
 fn line_of(alloc: Global, text: &[u8], number: u64) -> Result<&[u8], AllocError>
     ensures { IfOk result (λ line. line.now ≡ line_at text.now number) }
 {
@@ -171,9 +173,9 @@ fn out_of_range<'a>(alloc: Global, text: &'a [u8], number: u64) -> Result<AsmFla
     Ok(AsmFlaw::OutOfRange(line))
 }
 
-/// Returns the flaw for a fault that `assemble` found in this text: the fault with the line or the label that its
-/// message shows. The error is that memory ran out in this call, or that `fault` is `OutOfMemory`. There is no error
-/// for `Length`, nor for a line 1 that can't be parsed and begins with a byte order mark.
+/// Returns the flaw for `fault`: the fault with the line or the label that its message shows. Callers pass a fault that
+/// `assemble` found in this text. The error is that memory ran out in this call, or that `fault` is `OutOfMemory`.
+/// There is no error for `Length`, nor for a line 1 that can't be parsed and begins with a byte order mark.
 pub fn explain<'a>(
     alloc: Global,
     text: &'a [u8],

@@ -116,9 +116,9 @@ fn is_word(token: Token) -> bool
     )
 }
 
-// Parses the tokens after `dst OPERATOR=`, or after `dst =` for MOV, and returns the instruction. Returns `None` unless
-// they are one register of the same width, or one number, with or without a `-` before it. `offset` is the
-// instruction's offset field, as in `Token::Assign`.
+// Parses the tokens after `r1 OPERATOR=`, or after `r1 =` for MOV, and returns the instruction. Returns `None` unless
+// they are one register of the same width as r1, or one number, with or without a `-` before it. `width` and `dst` are
+// the width and the number of r1. `offset` is the instruction's offset field, as in `Token::Assign`.
 fn operand(
     operator: Operator,
     offset: u64,
@@ -283,9 +283,12 @@ fn is_full(width: Width) -> bool
     matches!(width, Width::Bits64)
 }
 
-// Parses the tokens after `r1 = -` as NEG. Returns `None` unless they are one token, the same register again. `width`
-// and `dst` are the register's width and number. The next three functions do the same for a sign extension, END (a swap
-// of bytes) and a wide load (of a 64-bit number).
+// Parses the tokens after `r1 = -`, where r1 can be any register, as NEG. Returns `None` unless they are one token, the
+// same register again. `width` and `dst` are the register's width and number, here and in the next three functions.
+// Each of these three parses its tokens as one instruction, and returns `None` if they aren't that instruction:
+// - `extended` parses the tokens after `r1 = (` as a sign extension.
+// - `swapped` parses the tokens after `r1 = le16` and the like as END (a swap of bytes).
+// - `wide` parses the tokens after `r1 = N` as a wide load (of a 64-bit number).
 fn negated(width: Width, dst: u8, tokens: &[Token]) -> Option<Statement>
     ensures { result ≡ spec.only_assigned width dst (Token.Minus ∷ tokens.now) }
 {
@@ -373,8 +376,8 @@ fn assigned(width: Width, dst: u8, tokens: &[Token]) -> Option<Statement>
 }
 
 // Parses the tokens after the address of a store: `=`, then a 64-bit register or a number, with or without a `-` before
-// the number. Returns the instruction that stores to the register `base` plus `offset`, or `None` if they can't be
-// parsed.
+// the number. Returns the store to the address that is the value of register `base` plus `offset`. Returns `None` if
+// they can't be parsed.
 fn stored(size: Size, base: u8, offset: Value, tokens: &[Token]) -> Option<Statement>
     ensures { result ≡ spec.stored size base offset tokens.now }
 {

@@ -107,8 +107,8 @@ fn jumps_to_label(statement: Statement) -> bool
     matches!(statement, Statement::Jump(_, _, Target::Label))
 }
 
-// Returns whether a row defines a label that is in `seen`, the labels of earlier rows, or jumps to a label that isn't
-// in `labels`. `parsed` is the row's parsed line, and `name` is its label.
+// Returns whether a row defines a label that is in `seen`, or jumps to a label that isn't in `labels`. `seen` has the
+// labels that earlier rows define. `parsed` is the row's parsed line, and `name` is its label.
 fn is_wrong(labels: &[(&[u8], u64)], seen: &[&[u8]], parsed: Line, name: &[u8]) -> bool
     ensures { result ≡ spec.is_wrong (map (λ d. spec.definition d.0.now d.1) labels.now)
         (map (λ t. t.now) seen.now) parsed name.now }

@@ -136,8 +136,8 @@ fn lookup(mut table: &[(&[u8], Token)], text: &[u8], other: Token) -> Token
     other
 }
 
-// Reads the number of a register after the first byte of `text`, and returns the register of this number and width.
-// Returns `Name` unless what follows that byte is just a number from 0 to 10, without leading zeros.
+// Returns the register of this width whose number follows the first byte of `text`. Returns `Name` unless only a number
+// from 0 to 10, without leading zeros, follows that byte.
 fn numbered(width: Width, text: &[u8]) -> Token
     ensures { result ≡ spec.numbered width text.now }
 {
@@ -184,7 +184,7 @@ pub fn code_len(line: &[u8]) -> usize
 }
 
 /// Splits `text`, a line without its comment and its LF, into tokens, and returns their texts in order. Spaces and tabs
-/// between them are skipped. Returns `None` if anything else in it isn't a token. The error is that memory ran out.
+/// between tokens are skipped. Returns `None` if `text` has anything else in it. The error is that memory ran out.
 pub fn split<'a>(alloc: Global, text: &'a [u8]) -> Result<Option<Vec<&'a [u8]>>, AllocError>
     ensures { IfOk result (λ found. option_map (λ v. map (λ t. t.now) v.items) found ≡ spec.split text.now) }
 {

@@ -45,8 +45,8 @@ mod units;
 pub use flaw::AsmFlaw;
 pub use program_file::{MOST_BYTES, ProgramFileFault};
 
-/// Returns the upper 32 bits of a wide load's number, or 0 for any other instruction. `units` are the units after the
-/// instruction's first unit. In a wide load, the first of them is its second unit, which holds these bits.
+/// Returns the upper 32 bits of a wide load's 64-bit number, or 0 for any other instruction. `units` are the units
+/// after the instruction's first unit. In a wide load, the first of them holds these bits.
 fn high(units: &[Unit]) -> i32
     ensures { result ≡ high_of units.now }
 {
@@ -136,10 +136,10 @@ fn is_length(count: u64) -> bool
     1 <= count && count <= 512
 }
 
-// Returns the program that the rows, which are parsed lines, assemble to. Each row must have its numbers in range, and
-// its instruction, if it has one, must be of this profile; so are the rows that `line::rows_of` returns. The error is
-// `Length` if the program doesn't have 1 to 512 units. Otherwise it is `BadLabel` for the first row with a wrong label,
-// or that memory ran out. `Length` is found before any memory is taken.
+// Returns the program of the rows, which are parsed lines. The numbers of each row must be in range, and an instruction
+// in a row must be one of this profile. Both are true of the rows that `line::rows_of` returns. The error is `Length`
+// if the program doesn't have 1 to 512 units. Otherwise it is `BadLabel` for the first row with a wrong label (A2), or
+// that memory ran out. `Length` is found before any memory is taken.
 fn assemble_rows(alloc: Global, rows: &[(Line, &[u8])]) -> Result<Code, AsmFault>
     requires fits { spec.AreInRange (map (λ p. spec.row p.0 p.1.now) rows.now) }
     requires sound { AreSound (map (λ p. spec.row p.0 p.1.now) rows.now) }
@@ -172,7 +172,7 @@ fn assemble_rows(alloc: Global, rows: &[(Line, &[u8])]) -> Result<Code, AsmFault
 
 /// Assembles a text, and returns its program. The error is the fault of the first line that can't be parsed or has a
 /// number out of range. If there is no such line, it is `Length` if the program doesn't have 1 to 512 units, and
-/// otherwise the fault of the first line with a wrong label. It can also be that memory ran out.
+/// otherwise `BadLabel` for the first line with a wrong label. It can also be that memory ran out.
 pub fn assemble(alloc: Global, text: &[u8]) -> Result<Code, AsmFault>
     ensures ok { IfOk result (λ code. spec.AssemblesTo text.now code) }
     ensures refused { IfErr result (λ fault. spec.IsRefused text.now fault) }

@@ -79,10 +79,10 @@ fn row_by<'a>(alloc: Global, words: &[&'a [u8]]) -> Result<Option<(Line, &'a [u8
     Ok(row_with(tokens.as_slice(), words))
 }
 
-/// Parses a line, given without its LF, and returns the parsed line with a label. This is the label that the line
-/// defines, or the text of an instruction's last token, which in a jump to a label is that label. For an empty line it
-/// is empty. Returns `None` if the line can't be parsed. The error is that memory ran out. A line with a byte that
-/// isn't ASCII, even in its comment, gives `None` and no error.
+/// Parses a line, given without its LF, and returns the parsed line with a label: the label that the line defines, or
+/// for an instruction the text of its last token. If the instruction jumps to a label, this text is that label. For an
+/// empty line the label is empty. Returns `None` if the line can't be parsed. The error is that memory ran out. A line
+/// with a byte that isn't ASCII, even in its comment, gives `None` and no error.
 pub fn row_of<'a>(alloc: Global, line: &'a [u8]) -> Result<Option<(Line, &'a [u8])>, AllocError>
     ensures found { IfOk result (λ found. option_map (λ p. spec.row p.0 p.1.now) found ≡ spec.row_of line.now) }
     ensures other { list_all (λ b. nat_lt b 128) line.now ≡ false → IsOk result }
@@ -148,8 +148,8 @@ fn line_len(text: &[u8]) -> usize
     at
 }
 
-// Returns a text without its first `n` bytes and the byte after them, which is an LF if they are a line. The result is
-// empty if the text has only `n` bytes. The text must have at least `n` bytes.
+// Returns a text without its first `n` + 1 bytes: without its first line and the LF, if this line has `n` bytes. The
+// result is empty if the text has only `n` bytes. The text must have at least `n` bytes.
 fn past(text: &[u8], n: usize) -> &[u8]
     requires { n ≤ length text.now }
     ensures value { result.now ≡ drop (n + 1) text.now }

@@ -162,8 +162,9 @@ fn write_operand(
     }
 }
 
-// Appends what follows the `=` of END (a swap of bytes), as in ` le16 r1`, and the end of the line. The next five
-// functions do the same for what follows the symbol of other operators. The error is that memory ran out.
+// Appends what follows the `=` of END (a swap of bytes), as in ` le16 r1`, and the end of the line. The error is that
+// memory ran out. `write_negated`, `write_extended` and `write_moved` do the same for NEG, for a sign extension and for
+// MOV, and `write_right` does it for any operator.
 fn write_swapped(
     out: &mut String,
     width: Width,
@@ -350,8 +351,8 @@ fn write_register_store(out: &mut String, size: Size, inst: Inst) -> Result<(), 
     end_with_register(out, Width::Bits64, inst.src)
 }
 
-// Appends `word`, the distance `to` with its sign, and the end of the line. `word` is `goto` or `gotol`, and can begin
-// with a space. `to` is in units, from the unit after the jump. The error is that memory ran out.
+// Appends `word`, a space, the distance `to` with its sign, and the end of the line. `word` is `goto` or `gotol`, and
+// can begin with a space. `to` is in units, from the unit after the jump. The error is that memory ran out.
 fn write_goto(out: &mut String, word: &str, to: i32) -> Result<(), AllocError>
     ensures { OnOk result (string_bytes out.new ≡ string_bytes out.old
         ++ line_text (Next word.now ∷ distance to [])) }

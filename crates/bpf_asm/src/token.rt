@@ -8,13 +8,13 @@ pub enum Token {
     Register(Width, u8),
     /// A number; `None` if it is above 2^64 - 1.
     Number(Option<u64>),
-    /// An operator with its `=`, as in `+=`, or `=` alone. The number is the offset of its instruction: 1 for `s/=` and
-    /// `s%=`, else 0. For `=` alone it isn't used.
+    /// An operator with its `=`, as in `+=`, or `=` alone. The number is the offset of the instruction: 1 for `s/=` and
+    /// `s%=`, else 0. For `=` alone the number isn't used.
     Assign(Operator, u64),
     Compare(Condition),
     Unsigned(Size),
     Signed(Size),
-    /// One of the words for END (a swap of bytes), `le16` to `bswap64`: the width and the source of its instruction,
+    /// One of the words for END (a swap of bytes), `le16` to `bswap64`: the width and the source of the instruction,
     /// and the number of bits.
     Swap(Width, Source, u64),
     If,
@@ -105,7 +105,7 @@ pub const WORDS: [(&[u8], Token); 22] = [
 
 ghost use Rattle.bpf_asm.specs.Tables.{TablesMatchDefinitions};
 
-/// Does nothing. Its contract is a law: `SYMBOLS` and `WORDS` are the tables that the definitions write out.
+/// Does nothing. Its contract is a law: `SYMBOLS` and `WORDS` are the tables that `specs/Tables.antt` writes out.
 pub fn tables()
     ensures { TablesMatchDefinitions }
 {}

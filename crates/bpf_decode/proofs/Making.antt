@@ -1,5 +1,5 @@
--- Instructions without a fault, each wide load with its second unit, are a program: their bytes are decoded as these
--- units.
+-- 1 to 512 units are a program (some bytes are decoded as these units) exactly if they are instructions without a
+-- fault, each wide load followed by its second unit.
 use Rattle.std.proofs.Common.{◌≡◌, ℕ, zero, suc, ◌+◌, ◌*◌, ◌<◌, ◌≤◌, List, [], ◌∷◌, ◌++◌, Option, Some, None, Bool, true, false, refl, sym, ap, ◌∙◌, subst}
 use Rattle.std.proofs.Common.{arith, length, drop, append_assoc, w16, w32, FitsSigned}
 use Rattle.std.specs.Prelude.{◌/◌, ◌%◌, ◌==◌, ◌&&◌, not, cond, slice_index, ℤ}
@@ -107,7 +107,7 @@ passes true true o e f g = g
 passes true false o e f g = absurd (cc)
 passes false b o e f g = absurd (cc)
 
--- an instruction that has no fault if a unit follows it has none as the last unit either, unless it is a wide load
+-- if an instruction has no fault where a unit follows, it has none as the last unit either, unless it is a wide load
 sound_at : (o : Option Form) (i : Inst) (last : Bool) → first_fault o i false ≡ None → (is_wide o ≡ true → last ≡ false) → first_fault o i last ≡ None
 sound_at o i false e w = e
 sound_at None i true e w = absurd (cc)
@@ -249,7 +249,7 @@ are_bytes true (Second v ∷ us) h = absurd h
 are_bytes false (First i ∷ us) h = absurd h
 are_bytes false (Second v ∷ us) h = both_bytes (unit_bytes (Second v)) (encoded us) (second_bytes v) (are_bytes true us h.1)
 
--- 1 to 512 instructions without a fault, each wide load with its second unit, are a program
+-- if 1 to 512 units are instructions without a fault, each wide load followed by its second unit, they are a program
 pub program_of_units : (us : List ProgramUnit) → AreUnits true us → 0 < length us → length us ≤ 512 → IsProgram us
 program_of_units us h some few =
     let bytes = encoded us in
@@ -374,7 +374,7 @@ module _ (bytes : List ℕ) (small : AreBytes bytes) where
             (λ k m x g e. unit (suc k) m x g (omega arith)) (λ e. absurd (cc)),
       )
 
--- the units of a program are instructions without a fault, each wide load with its second unit
+-- if units are a program, they are instructions without a fault, each wide load followed by its second unit
 pub units_of_program : (us : List ProgramUnit) → IsProgram us → AreUnits true us
 units_of_program us p =
     let long = length_of_units p.0 us p.1 in

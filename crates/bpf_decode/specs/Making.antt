@@ -1,4 +1,4 @@
--- Promises: which lists of units are a program, unit by unit.
+-- Promises: when a list of 1 to 512 units is a program, as conditions on the units and their order.
 use Rattle.std.specs.Prelude.{◌≡◌, ◌<◌, Bool, true, false, not, List, [], ◌∷◌, None, FitsSigned, ⊤}
 use Rattle.std.specs.Int.{w16, w32}
 use Rattle.bpf_model.specs.declared.instruction.Inst.{Inst}

@@ -3,7 +3,7 @@
 ghost use Rattle.std.specs.Prelude.{◌≡◌, ◌≤◌, length};
 ghost use Rattle.bpf_model.specs.Layouts.{context_len, layout_of, bytes_of};
 
-/// The layout of a context: which fields it has, and so how many bytes: 64 (`One`) or 80 (`Two`).
+/// The layout of a context: which fields and how many bytes the context has. `One` has 64 bytes, `Two` has 80.
 #[derive(Clone, Copy, PartialEq)]
 pub enum Layout {
     One,

@@ -126,7 +126,7 @@ fc_app =
     (with_subcommand top_app asm_app.top) dis_app.top) verify_app.top) play_app.top) audit_app.top) carry_app.top) report_app.top) export_app.top)
     serve_app.top
 
--- ---- jobs
+-- ---- These definitions say which job a command line asks for.
 
 -- What a command line can ask for:
 -- - `nothing`: the command line has no subcommand
@@ -190,7 +190,7 @@ verify_in rows =
     option_and_then (λ (n : ℕ). option_and_then (λ (layout : Layout). option_map (verify n layout) (first_of (codes "file") rows))
     (layout_in rows)) (mask_in rows)
 
--- the kind of rows that a text names; None for any other text
+-- the kind of rows that a text names; None for a text that isn't `sales`, `decisions` or `events`
 abbrev pub rows_named : Text → Option Rows
 rows_named t =
     if bytes_eq t (codes "sales") then Some kinds.Sales
@@ -209,8 +209,8 @@ abbrev pub export_in : List Row → Option JobRequest
 export_in rows =
     option_and_then (λ (kind : Rows). files_in (codes "config") (codes "journal") (export kind (format_in rows) (opening_in rows)) rows) (kind_in rows)
 
--- What `audit` asks for, given the folder of --days, the file of --opening, JOURNAL and CONFIG. None if --days is given
--- together with --opening or JOURNAL, and if neither --days nor JOURNAL is given.
+-- What `audit` asks for, given the folder of --days, the file of --opening, JOURNAL and CONFIG. None in two cases:
+-- --days is given together with --opening or JOURNAL, or neither --days nor JOURNAL is given.
 abbrev pub audit_by : Option Text → Option Text → Option Text → Text → Option JobRequest
 audit_by None opening None config = None
 audit_by None opening (Some journal) config = Some (audit opening config journal)
@@ -294,7 +294,7 @@ requested (job.Export rows format opening config journal) = Some (export rows fo
 requested (job.Serve served) = Some (serve_request served)
 requested (job.Show text) = None
 
--- ---- refusals
+-- ---- These definitions say which command lines get no job, and what the error messages are.
 
 -- A `clap` error of this kind is the help or the version.
 abbrev pub IsHelpOrVersion : ErrorKind → Type 0

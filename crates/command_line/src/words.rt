@@ -233,7 +233,8 @@ fn report_of(alloc: Global, matches: &ArgMatches) -> Result<Option<Job>, AllocEr
     }
 }
 
-/// Returns the rows that a text names: `sales`, `decisions` or `events`; `None` for any other text.
+/// Returns the kind of rows that `fc export` prints for the word `text`: `sales`, `decisions` or `events`. Returns
+/// `None` for any other text.
 fn rows_named(text: &str) -> Option<Rows>
     ensures { result ≡ rows_named text.now }
 {
@@ -248,7 +249,8 @@ fn rows_named(text: &str) -> Option<Rows>
     }
 }
 
-/// Returns the rows that the argument `kind` names, or `None` if the argument isn't given or its text names no rows.
+/// Returns the kind of rows that the argument `kind` names, or `None` if the argument isn't given or its text names no
+/// kind.
 fn rows_of_kind(matches: &ArgMatches) -> Option<Rows>
     ensures { result ≡ kind_in (rows_of (found_of matches.now)) }
 {
@@ -465,7 +467,7 @@ fn unasked_text(alloc: Global, matches: &ArgMatches) -> Result<String, AllocErro
 }
 
 /// Returns the job of a parsed command line. The error is `Usage` with a message if the command line asks for no job,
-/// or that memory ran out. Without a subcommand there is no error.
+/// or `OutOfMemory` if memory ran out. Without a subcommand there is no error.
 fn found_job(alloc: Global, matches: &ArgMatches) -> Result<Job, CommandFault>
     ensures requested { IfOk result (λ job. parsed_request (subcommand_rows_of matches.now) ≡ requested job) }
     ensures some { IfOk result (λ job. IsSome (requested job)) }
@@ -485,10 +487,11 @@ fn is_asked_text(kind: ErrorKind) -> bool
     matches!(kind, ErrorKind::DisplayHelp | ErrorKind::DisplayVersion)
 }
 
-/// Returns what follows from an error of `clap` with this kind and the text `made`:
+/// Returns the job or the error that an error of `clap` leads to. `kind` is the kind of the error of `clap`, and `made`
+/// is its text. The result is:
 ///
-/// - the error `OutOfMemory`, if that is the kind, or if memory ran out when the text was made
-/// - else the job `Show` with the text, if the kind is the help or the version
+/// - the error `OutOfMemory`, if `kind` is `OutOfMemory`, or if memory ran out when the text was made
+/// - else the job `Show` with the text, if `kind` is the help or the version
 /// - else the error `Usage` with the text
 fn job_from_error(kind: ErrorKind, made: Result<String, AllocError>) -> Result<Job, CommandFault>
     ensures none { IfOk result (λ job. requested job ≡ None) }
@@ -507,8 +510,8 @@ fn job_from_error(kind: ErrorKind, made: Result<String, AllocError>) -> Result<J
     }
 }
 
-/// Parses a command line, whose first argument is the program's name, and returns its job. The error is the message for
-/// a command line that isn't valid, or that memory ran out.
+/// Parses a command line, whose first argument is the program's name, and returns its job. The error is `Usage` with a
+/// message if the command line isn't valid, or `OutOfMemory` if memory ran out.
 pub fn command(alloc: Global, words: Vec<String>) -> Result<Job, CommandFault>
     ensures requested { IfOk result
         (λ job. IsSome (requested job) → parsed_request (subcommand_of fc_app (map string_bytes words.items)) ≡

@@ -43,8 +43,8 @@ event_alike old moment act (answers.Line fault) b new other h k p q = absurd h
 event_alike old moment act (answers.Program n u t) b new other h k p q = absurd h
 event_alike old moment act answers.JournalFailed b new other h k p q = absurd h
 
--- If `refusal` has numbers (so memory didn't run out), it is the refusal in `wanted`, which the verifier's definition
--- gives.
+-- Let `refusal` be the refusal in `wanted`, or `OutOfMemory` (`IsRefusal`). If `refusal` has numbers, it isn't
+-- `OutOfMemory`, which has none, and so it is the refusal in `wanted`.
 wanted_is : (wanted : Option Refusal) (refusal : Refusal) (numbers : ℕ × (Option ℕ) × (Option ℕ)) → IsRefusal wanted refusal
     → refusal_numbers refusal ≡ Some numbers → wanted ≡ Some refusal
 wanted_is wanted refusals.OutOfMemory numbers h e = absurd (cc)

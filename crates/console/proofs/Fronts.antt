@@ -1,4 +1,4 @@
--- If a play fails, a beginning of its answers was written, even if no line was answered.
+-- If a play fails, what it wrote is a beginning of its answers, perhaps an empty one.
 use Rattle.std.proofs.Common.{◌≡◌, ℕ, List, [], ◌∷◌, ◌++◌, length, take, Option, None, Result, Ok, Err, OnErr, IfOk, IfErr, inl, refl, sym, ◌∙◌, ap, subst}
 use Rattle.std.specs.Io.KnownBytes.{Appends}
 use Rattle.decision_journal.specs.Writing.{AppendsFront}
@@ -75,7 +75,8 @@ no_journal (Err session.ReadsSpent) a m left i j o p h is = absurd (cc)
 no_journal (Err session.OutOfMemory) a m left i j o p h is = absurd (cc)
 no_journal (Err session.Journal) a m left i j o p h is = (h (λ e. absurd (cc))).3.3
 
--- if writing an answer failed, only a beginning of the answer's text was written
+-- if answering `line` fails with `Write`, and only a beginning of the answer `text` was written, then `HandlerFails`
+-- holds for this error
 module _ {S O : Type 0} (out : O → Option (List ℕ)) (answers_with : S → List ℕ → List ℕ → S → Type 0) (line text : List ℕ) (s s' : S) (o o' : O)
     (all_answered : answers_with s line text s') (needs_memory : List ℕ → Type 0) where
   pub falls_short : {T : Type 0} (r : Result T HandlerError) → OnErr r ((k : ℕ) × Appends (out o) (out o') (take k text)) → IfErr r (λ e. e ≡ error.Write)

@@ -50,7 +50,8 @@ pub record ProgramRefused (old : SiteValue) (p : ProgramText) (number : ℕ) (un
   pub shown : refusal_numbers refusal ≡ Some (number, unit, part)
   pub same : new ≡ old
 
--- The program is good, and the verifier doesn't refuse it.
+-- The program is good (`IsGood`: it can be decoded, and each run of it ends and changes only declared counters, within
+-- their bounds), and the verifier doesn't refuse it.
 pub record IsAccepted (p : ProgramText) : Type 0 where
   pub good : IsGood p
   pub accepted : refusal_of p ≡ None
@@ -94,7 +95,8 @@ counter_text (Some p) = join_with_byte 32 (codes "counter" ∷ decimal p.0 ∷ d
 counter_text None = answer_line (answers.Line faults.BadNumber)
 
 -- The text answers this parsed line. The two pairs are the moment and the site, before and after the line. The answer
--- to `journal` is the journal of the site's history, and one that a site of this configuration can have.
+-- to `journal` is the journal of the site's history, and it is the journal of a history that a site with the same
+-- configuration can have.
 abbrev pub IsLineAnswerText : Result ScriptLine LineFault → ℕ × SiteValue → List ℕ → ℕ × SiteValue → Type 0
 IsLineAnswerText (Err fault) s text s' = (text ≡ answer_line (answers.Line fault)) × (s' ≡ s)
 IsLineAnswerText (Ok (lines.Act act)) s text s' = IsActAnswerText s.1 s.0 act text s'.1 × (s'.0 ≡ s.0)
@@ -120,6 +122,8 @@ abbrev pub TakesMemory : List ℕ → Type 0
 TakesMemory line = IsLoad All (words line) ⊎ IsScriptOnlyLine (line_of line)
 
 -- The play began at moment 0 and ended without a failure. At its end the moment is `moment`, and the site is `left`.
+-- All lines were answered, and all `count` answers were written. `cut` is the fault of the last line, if it is too long
+-- or has no LF; the answer to this fault is counted too.
 pub record PlayEnds (site : SiteValue) (in_old in_new out_old out_new : Option (List ℕ)) (count : ℕ) (cut : Option LineFault) : Type 0 where
   pub moment : ℕ
   pub left : SiteValue

@@ -1,4 +1,4 @@
-// The counters that programs read and change through helpers. Each has a bound that its value can't pass.
+// The counters that programs read and change through helpers. Each has a bound that its value never exceeds.
 #![tactic(auto)]
 
 ghost use Rattle.std.specs.Prelude.{◌≡◌, ℕ, ◌≤◌, ◌<◌, ◌^◌};
@@ -56,7 +56,7 @@ impl Counters {
         self.cells[c as usize].1
     }
 
-    /// Adds `n` to counter number `c`, which must be 0 to 31, and returns true. Where the sum would be above the bound,
+    /// Adds `n` to counter number `c`, which must be 0 to 31, and returns true. If the sum would be above the bound,
     /// changes nothing and returns false.
     pub fn add(&mut self, c: u32, n: u64) -> bool
         requires { c < COUNTERS }
@@ -86,7 +86,7 @@ impl Counters {
         }
     }
 
-    /// Subtracts `n` from counter number `c`, which must be 0 to 31, and returns true. Where `n` is above the value,
+    /// Subtracts `n` from counter number `c`, which must be 0 to 31, and returns true. If `n` is above the value,
     /// changes nothing and returns false.
     pub fn take(&mut self, c: u32, n: u64) -> bool
         requires { c < COUNTERS }

@@ -91,7 +91,7 @@ opened-points config (Some o) is fits = λ n x p at found.
     let whole : IsPointState p = all-at IsPointState o.points n p (fits o is) (ap (λ ps. at_number ps n) (sym same) ∙ at) in
     found-within x p.last p.unpaid whole.unpaid found
 
--- ---- no delivery in a list
+-- ---- lists that have no delivery for transaction x of point n
 
 none-head : (b : Bool) (u : Delivery) (o : Option Delivery) → (if b then Some u else o) ≡ None → (b ≡ false) × (o ≡ None)
 none-head true u o h = absurd (let e : ◌≡◌ {A = Option Delivery} (Some u) None = h in cc)
@@ -148,7 +148,7 @@ none-between prices number m (Some p) (Some q) n x apart =
 
 -- ---- the state of a day
 
--- `first` are the points when the day began, and s is the state now:
+-- `first` are the points when the day began, and s is the state now. The record says:
 -- - The last transaction number of each point is at least what it was when the day began.
 -- - No delivery in `s.unpaid` became a transaction that was unpaid when the day began.
 pub record Holds (first : List PointState) (s : DayStateValue) : Type 0 where

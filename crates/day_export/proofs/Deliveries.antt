@@ -36,7 +36,7 @@ use Rattle.day_export.proofs.Prices.{effect-prices}
 use Rattle.day_export.proofs.Clearing.{Cleared, effect-clears, made-clears}
 use Rattle.day_export.proofs.CarriedIn.{carried-first, carried-told, nothing-there, opened-points, some-same, unpaid-there}
 
--- ---- one delivery in a list
+-- ---- lists that have the delivery of transaction x of point n
 
 abbrev IsThere : List Delivery → ℕ → ℕ → Type 0
 IsThere us n x = IsSome (delivery_of us n x)
@@ -103,8 +103,8 @@ Takes s e =
 none-some : {P : Type 0} (o : Option Transaction) → o ≡ None → IsSome o → P
 none-some o none some = nothing-there (subst IsSome none some)
 
--- If point m changed from p to q and gave out the transaction number x, then the entry ended the delivery of
--- transaction x.
+-- Let entry `number` change point m from p to q. If the point gave out x as its next transaction number, then the entry
+-- ended the delivery of transaction x.
 ended-core : (prices : List ℕ) (number m x : ℕ) (p q : PointState) → q.last ≡ p.last + 1 → (q.last == x) ≡ true
     → IsThere (option_to_list (ended_at prices number m p q)) m x
 ended-core prices number m x p q grew is =
@@ -185,7 +185,7 @@ kept-more first s e kept takes = λ n x q at found new.
       | inr now ↦ there-behind left ended n x now
     ]
 
--- ---- sales
+-- ---- the row of a sale, and the sale's transaction, which is no longer unpaid after the sale
 
 abbrev row-made : (s : DayStateValue) (e : Entry) (o : Option Sale) → Option (List Cell)
 row-made s e o =
@@ -195,8 +195,8 @@ full-cells : (sale : Sale) (x : ℕ) (o : Option Delivery) → IsSome o → HasD
 full-cells sale x None h = nothing-there h
 full-cells sale x (Some e) h = (tt, tt, tt)
 
--- e is the entry that the site makes for its act, in the state b and after the entries `past`. The day's state s has
--- the same points as b.
+-- e is the entry that the site makes for the act `e.act`, in the state b and after the entries `past`. The day's state
+-- s has the same points as b.
 record Fits (config : ConfigValue) (past : List Entry) (b : SiteState) (s : DayStateValue) (e : Entry) : Type 0 where
   points : s.points ≡ b.points
   is : e ≡ entry_of past e.pass e.moment e.act (effect config past b e.moment e.act)

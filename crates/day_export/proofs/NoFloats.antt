@@ -1,4 +1,5 @@
--- The JSON object of a row has no floating-point number, so its text is defined.
+-- The JSON object of a row has no floating-point number. So the contract of `serde_json` says exactly what text is
+-- written for the object.
 use Rattle.std.proofs.Common.{◌≡◌, ℕ, List, [], ◌∷◌, Bool, true, false, refl}
 use Rattle.std.specs.Prelude.{◌||◌}
 use Rattle.std.specs.Ordering.{nat_cmp, match_ordering}

@@ -104,7 +104,7 @@ decided-same : (config : ConfigValue) (past : List Entry) (s : SiteState) (till 
 decided-same config past s till moment (Err r) there = subst (Same s) (sym (decided-refused config past s till moment r)) refl
 decided-same config past s till moment (Ok q) there = version-same config past s till moment q there.0 (in_force config q.slot past) refl there.1
 
--- ---- price changes
+-- ---- After a till's request to change a price, the site's prices are those that `prices_after` gives.
 
 -- The effect of the act changes the site's prices as `prices_after` says for this act and the effect's reply.
 abbrev Tells : SiteState → Act → Effect → Type 0

@@ -1,4 +1,4 @@
--- A CSV reader with the default settings reads back the fields that were written as CSV with CRLF.
+-- With its default settings, the crate `csv` reads back the fields that were written as CSV with CRLF.
 use Rattle.std.proofs.Common.{◌≡◌, ◌==◌, ◌++◌, ◌∷◌, ◌∙◌, [], ℕ, List, Bool, Some, None, refl, ap, subst, true, false, append_assoc, inl, inr, map}
 use Rattle.std.specs.Prelude.{◌||◌}
 use Rattle.std.specs.List.{list_any, concat}
@@ -113,7 +113,7 @@ read-row x y ys tail =
     ≡ Some ([] ++ (x ∷ y ∷ ys), st.AfterCr, 10 ∷ tail)) e (rest-run [] x (y ∷ ys) tail) in
     rw (row-split x y ys tail, e) (first x (tail-of (y ∷ ys) tail) ∙ run ∙ more)
 
--- ---- many records
+-- ---- The reader reads back a header and rows, as one record each, if each of them has at least two fields.
 
 -- The record has at least two fields.
 abbrev pub IsLong : List (List ℕ) → Type 0

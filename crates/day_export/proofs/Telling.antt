@@ -1,4 +1,4 @@
--- `RowsShowTheDay` holds for every history.
+-- The rows of any history show its sales, its decisions and all its entries, as `RowsShowTheDay` says.
 use Rattle.std.proofs.Common.{◌≡◌, ◌++◌, ◌∙◌, ℕ, List, [], ◌∷◌, length, map, Option, Some, None, refl, ap, sym, subst, All}
 use Rattle.std.specs.Prelude.{IfSome}
 use Rattle.std.specs.List.{concat, cons_option, filter_map}
@@ -22,7 +22,7 @@ use Rattle.day_export.specs.Text.{csv_writer, header_bytes, row_bytes, rows_text
 use Rattle.day_export.specs.Laws.{RowsShowEachDay, sale_in, cells_of_sale}
 use Rattle.day_export.proofs.ReadBack.{AreLong, IsLong, read-all}
 
--- ---- sales, decisions and entries
+-- ---- The rows of the three kinds show the sales, the decisions and all the entries of any history.
 
 abbrev row-made : (s : DayStateValue) (e : Entry) (o : Option Sale) → Option (List Cell)
 row-made s e o =
@@ -82,7 +82,7 @@ rows-long which s [] = tt
 rows-long which s (e ∷ entries) =
     one-long which (row_of which s e) (rows_from which (state_after_entry s e) entries) (row-full which s e) (rows-long which (state_after_entry s e) entries)
 
--- ---- the CSV
+-- ---- With its default settings, the crate `csv` reads the names of the columns and the rows' texts from the CSV.
 
 bytes-are : (which : Rows) (all : List (List Cell)) → concat (map (row_text csv_writer) (map (map cell_text) all)) ≡ concat (map (row_bytes which format.Csv) all)
 unfolding row_bytes

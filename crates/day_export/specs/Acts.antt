@@ -24,7 +24,7 @@ use Rattle.day_export.specs.declared.replies.ReplyCells.{ReplyCells}
 use Rattle.day_export.specs.declared.runs.RunCells.{RunCells}
 use Rattle.day_export.specs.Cells.{optional}
 
--- ---- acts
+-- ---- the cells of an act
 
 -- the cells of an act that has no values but its sender and its verb
 abbrev pub bare_act_cells : Word → Word → ActCells
@@ -92,7 +92,7 @@ act_cells (act.Dispenser n event) = event_cells n event
 act_cells (act.Load slot mask layout bytes) =
     record (bare_act_cells word.Owner word.Load) { slot = cell.Number slot; mask = cell.Number mask; layout = cell.Number (layout_number layout) }
 
--- ---- replies
+-- ---- the cells of a reply
 
 -- the cells of a reply that is only a word
 abbrev pub word_reply_cells : Word → ReplyCells
@@ -115,7 +115,8 @@ order_cells order.Suspend = order_word_cells word.Suspend
 order_cells order.Resume = order_word_cells word.Resume
 order_cells order.Stop = order_word_cells word.Stop
 
--- The cells of a reply. If the reply shows a point, the point's values have no cells.
+-- The cells of a reply. For the reply `Point` only the cell `reply` has a value: there are no columns for the point's
+-- values.
 abbrev pub reply_cells : Reply → ReplyCells
 reply_cells reply.Done = word_reply_cells word.Done
 reply_cells (reply.Granted granted version) = record (word_reply_cells word.Granted) { granted = cell.Number granted; version = cell.Number version }
@@ -124,7 +125,7 @@ reply_cells (reply.Order order) = order_cells order
 reply_cells (reply.Point state nozzle unpaid amount volume limit preset) = word_reply_cells word.Point
 reply_cells (reply.Refused number value) = record (word_reply_cells word.Refused) { refusal = cell.Number number; detail = optional value }
 
--- ---- runs
+-- ---- the cells of a run of a rule, and those of the context that the rule ran on
 
 -- The cells of a run of a rule: its slot, its version and its answer, `r0`. They are empty if no rule ran.
 abbrev pub run_cells : Option Run → RunCells

@@ -123,7 +123,7 @@ state_at_start config = record { points = (opening_state config).points; prices 
 abbrev pub state_after_history : ConfigValue → List Entry → DayStateValue
 state_after_history config history = fold state_after_entry (state_at_start config) history
 
--- ---- promises of private functions
+-- ---- The contracts of private functions use these definitions.
 
 abbrev pub state_value : DayState → DayStateValue
 state_value s = record { points = s.points.items; prices = s.prices.items; unpaid = s.unpaid.items }

@@ -43,7 +43,7 @@ cells_of_sale sale =
 -- - The rows of sales are the sales that `day_report` finds, each once and in order.
 -- - There is a row for each decision, and one for each entry.
 -- - Each row has a cell for each column.
--- - From the CSV, a CSV reader with the default settings reads the names of the columns, and then the texts of the
+-- - With its default settings, the crate `csv` reads from the CSV the names of the columns, and then the texts of the
 --   rows.
 pub record RowsShowTheDay (config : ConfigValue) (history : List Entry) : Type 0 where
   pub sales : map sale_in (rows_of rows.Sales config history) ≡ map cells_of_sale (sales_of config history)
@@ -53,11 +53,11 @@ pub record RowsShowTheDay (config : ConfigValue) (history : List Entry) : Type 0
   pub read_back : (which : Rows) → AreRecords default_config state.StartRecord (strip_bom (rows_text which format.Csv config history))
       (columns which ∷ map (map cell_text) (rows_of which config history))
 
--- `RowsShowTheDay` holds for every history, legal or not.
+-- The rows of any history, legal or not, show its sales, its decisions and all its entries, as `RowsShowTheDay` says.
 abbrev pub RowsShowEachDay : Type 0
 RowsShowEachDay = (config : ConfigValue) (history : List Entry) → RowsShowTheDay config history
 
--- ---- legal histories
+-- ---- the law that the rows of any legal history agree with the site's state
 
 abbrev pub IsNumber : Cell → Type 0
 IsNumber (cell.Number n) = Unit {0}
@@ -93,19 +93,20 @@ HasValidOpeningPoints config = (o : OpeningValue) → config.opening ≡ Some o 
 -- After the history, the rows agree with the site's state:
 -- - The points and the prices that follow from the entries are those of the site.
 -- - The row of each sale has its delivery, unless the sale's transaction was unpaid when the day began.
--- - The row of a sale whose transaction was unpaid then has no delivery, if `HasValidOpeningPoints` holds.
+-- - If a sale's transaction was unpaid when the day began, and `HasValidOpeningPoints` holds, then the sale's row has
+--   no delivery.
 pub record RowsAgreeWithTheSite (config : ConfigValue) (history : List Entry) (state : SiteState) : Type 0 where
   pub points : (state_after_history config history).points ≡ state.points
   pub prices : (state_after_history config history).prices ≡ state.prices
   pub deliveries : All (λ (row : List Cell). IsFalse (is_carried_in config row) → HasDelivery row) (rows_of rows.Sales config history)
   pub carried : HasValidOpeningPoints config → All (λ (row : List Cell). IsTrue (is_carried_in config row) → HasNoDelivery row) (rows_of rows.Sales config history)
 
--- `RowsAgreeWithTheSite` holds for every legal history.
+-- The rows of any legal history agree with the state that the history leads to, as `RowsAgreeWithTheSite` says.
 abbrev pub RowsAgreeWithEachSite : Type 0
 RowsAgreeWithEachSite =
     (config : ConfigValue) (history : List Entry) (state : SiteState) → LegalHistory config history state → RowsAgreeWithTheSite config history state
 
--- ---- contexts
+-- ---- the law that the row of a decision shows the context that the rule ran on
 
 -- The value of a field is a number that its 4 or 8 bytes can hold.
 abbrev pub FitsField : Field → Type 0
@@ -116,14 +117,15 @@ abbrev pub cell_of_field : Field → Cell
 cell_of_field (Four x) = cell.Number x
 cell_of_field (Eight x) = cell.Number x
 
--- The cells of a context (the record that a rule runs on): its fields in order. For layout 1 the last two cells are
+-- The cells of a context (the record that a rule runs on): its fields in order. The context has this layout, and is
+-- made from the site's state s, the till's number, the moment and the question q. For layout 1 the last two cells are
 -- empty, because it has no counts of cleared transactions and of open points. The zero that ends layout 2 has no cell.
 abbrev pub context_cells : Layout → SiteState → ℕ → ℕ → Question → List Cell
 context_cells layout.One s till moment q = map cell_of_field (shared_fields s till moment q) ++ cell.Nothing ∷ cell.Nothing ∷ []
 context_cells layout.Two s till moment q = map cell_of_field (shared_fields s till moment q) ++ cell.Number s.clears ∷ cell.Number (open_points s) ∷ []
 
--- The row of a decision has, from the column `context_till` on, the fields of the context that the rule ran on. Each
--- field must fit in its bytes.
+-- The row of a decision has, from the column `context_till` on, the fields of the context that the rule ran on. The
+-- value of each field must fit in the field's 4 or 8 bytes.
 abbrev pub RowsShowContexts : Type 0
 RowsShowContexts =
     (layout : Layout) (s : SiteState) (till moment : ℕ) (q : Question) (entry : Entry) (run : Run) (is_granted : Bool) → entry.run ≡ Some run

@@ -16,9 +16,10 @@ use Rattle.day_export.specs.Cells.{moment_cell}
 use Rattle.day_export.specs.Acts.{act_cells, reply_cells, run_cells, field_cell}
 use Rattle.day_export.specs.DayState.{DayStateValue, delivery_of, transaction_cleared, state_after_entry, state_at_start}
 
--- ---- sales
+-- ---- the row of a sale
 
--- The cell of one number of a delivery; the second argument picks the number. The cell is empty without a delivery.
+-- The cell of one field of a delivery, such as its price. The second argument takes this field from the delivery. The
+-- cell is empty without a delivery.
 abbrev pub ended_cell : Option Delivery → (Delivery → ℕ) → Cell
 ended_cell None field = cell.Nothing
 ended_cell (Some e) field = cell.Number (field e)
@@ -47,7 +48,7 @@ sale_row s entry =
       | Some sale ↦ Some (sale_cells sale (transaction_cleared entry.act) (delivery_of s.unpaid sale.point (transaction_cleared entry.act)))
     ]
 
--- ---- decisions
+-- ---- the row of a decision
 
 abbrev pub answer_cell : Bool → Cell
 answer_cell true = cell.Word word.Granted
@@ -88,7 +89,7 @@ decision_cells entry is_granted =
 unfoldable pub decision_row : Entry → Option (List Cell)
 decision_row entry = elim (decision_of entry) [ None ↦ None | Some d ↦ Some (decision_cells entry d.is_granted) ]
 
--- ---- all entries
+-- ---- the row that each entry has, whatever its act and its reply
 
 unfoldable pub event_row : Entry → List Cell
 event_row entry =
@@ -115,7 +116,7 @@ event_row entry =
     ∷ (reply_cells entry.reply).detail
     ∷ []
 
--- ---- a day
+-- ---- all rows of one kind for the history of a day
 
 -- The row of this kind for an entry; None if it has none. The second argument is the state before the entry.
 abbrev pub row_of : Rows → DayStateValue → Entry → Option (List Cell)

@@ -28,8 +28,8 @@ cell_data (cell.Number n) = number (unsigned n)
 cell_data (cell.Word w) = string (word_text w)
 cell_data cell.Nothing = null
 
--- The members after the value of each cell was put in under its name. Names without a cell, and cells without a name,
--- are ignored.
+-- The members of a JSON object: `members`, with the value of each cell put in under the name of the cell's column.
+-- Names without a cell, and cells without a name, are ignored.
 abbrev pub with_cells : Members → List (List ℕ) → List Cell → Members
 with_cells members (name ∷ names) (c ∷ cells) = with_cells (put name (cell_data c) members) names cells
 with_cells members _ _ = members
@@ -52,7 +52,7 @@ header_bytes which format.Json = []
 abbrev pub rows_text : Rows → Format → ConfigValue → List Entry → List ℕ
 rows_text which form config history = header_bytes which form ++ concat (map (row_bytes which form) (rows_of which config history))
 
--- ---- promises of private functions
+-- ---- The contracts of private functions use these definitions.
 
 -- The CSV writer has the settings `csv_writer`, and is between two records.
 pub record IsBetweenRecords {W : Type 0} (writer : Writer W) : Type 0 where

@@ -65,7 +65,7 @@ fn fill_header(row: &mut ByteRecord, rows: Rows) -> Result<(), AllocError>
 }
 
 /// Writes the record `row` to `writer`. The writer must have the settings that `CsvRows::start` gives it, and be
-/// between two records. The error is that of the underlying writer, or that memory ran out.
+/// between two records. The error is an error of the underlying writer, or that memory ran out.
 fn write_record<W: Write + Drop>(writer: &mut Writer<W>, row: &ByteRecord) -> Result<(), RowsFault>
     requires { IsBetweenRecords writer.old }
     ensures text { OnOk result (Appends (text_written W.contents writer.old) (text_written W.contents writer.new)
@@ -77,7 +77,7 @@ fn write_record<W: Write + Drop>(writer: &mut Writer<W>, row: &ByteRecord) -> Re
 
 impl<W: Write + Drop> CsvRows<W> {
     /// Makes a writer of rows on top of `out`, and writes the names of the columns as the first record. Bytes can stay
-    /// in the new writer's buffer until `finish`. The error is that of `out`, or that memory ran out.
+    /// in the new writer's buffer until `finish`. The error is an error of `out`, or that memory ran out.
     pub(crate) fn start(alloc: Global, rows: Rows, out: W) -> Result<CsvRows<W>, RowsFault>
         ensures text { IfOk result (λ it. Appends (W.contents out) (text_written W.contents it.writer) (header_bytes
             rows format.Csv)) }
@@ -92,8 +92,8 @@ impl<W: Write + Drop> CsvRows<W> {
         Ok(CsvRows { writer, row })
     }
 
-    /// Writes the bytes that are still buffered, and returns the underlying writer. The error is that of the underlying
-    /// writer.
+    /// Writes the bytes that are still buffered, and returns the underlying writer. The error is an error of the
+    /// underlying writer.
     pub(crate) fn finish(self) -> Result<W, RowsFault>
         ensures text { IfOk result (λ out. Keeps (text_written W.contents self.writer) (W.contents out)) }
         ensures cause { result ≢ Err RowsFault.OutOfMemory }

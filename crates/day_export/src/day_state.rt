@@ -24,7 +24,7 @@ use till_request::{Act, Reply, Request};
 ///
 /// - `point` and `transaction`: its point, and the number of the transaction that it became
 /// - `number`: the number of the entry that ended it
-/// - `product`: the number of its nozzle
+/// - `product`: the product's number, which is that of the lifted nozzle, since nozzle n carries product n
 /// - `price`: the product's price before that entry, in thousandths of the currency per litre
 #[derive(Clone, Copy)]
 pub(crate) struct Delivery {

@@ -7,14 +7,14 @@ ghost use Rattle.day_export.specs.Laws.{RowsShowContexts, RowsShowEachDay, RowsA
 /// - The rows of sales are the sales that `day_report` finds, each once and in order.
 /// - There is a row for each decision, and one for each entry.
 /// - Each row has a cell for each column.
-/// - From the CSV, a CSV reader with the default settings reads the names of the columns, and then the texts of the
+/// - With its default settings, the crate `csv` reads from the CSV the names of the columns, and then the texts of the
 ///   rows.
 pub fn law_of_rows()
     ensures { RowsShowEachDay }
 {}
 
 /// Does nothing. Its contract is a law: from the column `context_till` on, the row of a decision has the fields of the
-/// context that the rule ran on, in order, if each field fits in its bytes.
+/// context that the rule ran on, in order. The value of each field must fit in the field's 4 or 8 bytes.
 ///
 /// - Layout 1: the last two cells are empty, because it has no counts of cleared transactions and of open points.
 /// - Layout 2: the zero that ends the context has no cell.
@@ -27,8 +27,8 @@ pub fn law_of_contexts()
 /// - The points and the prices from which rows are made are those of the site.
 /// - The row of a sale has numbers in the columns `ended`, `product` and `price`, unless the sale's transaction was
 ///   unpaid when the day began.
-/// - If it was unpaid then, these three cells are empty, provided that the configuration has no opening, or one whose
-///   points have values that a point can have.
+/// - If it was, these three cells are empty. This is claimed only if the configuration has no opening, or an opening
+///   whose points are all valid (`IsPointState`).
 pub fn law_of_sites()
     ensures { RowsAgreeWithEachSite }
 {}

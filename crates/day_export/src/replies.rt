@@ -59,7 +59,8 @@ fn order_cells(order: Order) -> ReplyCells
     }
 }
 
-/// Returns the cells of a reply. If the reply shows a point, the point's values have no cells.
+/// Returns the cells of a reply. For the reply `Point` only the cell `reply` has a value: there are no columns for the
+/// point's values.
 pub(crate) fn reply_cells(reply: Reply) -> ReplyCells
     ensures { result ≡ reply_cells reply }
 {

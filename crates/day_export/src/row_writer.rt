@@ -21,7 +21,7 @@ pub(crate) trait RowWriter {
     ghost is_ready: { Self → Type 0 };
 
     /// Writes a row of the kind `rows` with these cells. `is_ready` must hold, and still holds if there is no error.
-    /// The error is that of the underlying writer, or that memory ran out. After an error, a part of the row was
+    /// The error is an error of the underlying writer, or that memory ran out. After an error, a part of the row was
     /// perhaps written.
     fn write_row(&mut self, rows: Rows, cells: &[Cell]) -> Result<(), RowsFault>
         requires { is_ready self.old }

@@ -14,8 +14,9 @@ use day_report::rulings::decision_of;
 use day_report::sales::sale_of;
 use decision_journal::Entry;
 
-/// Returns the row of a sale whose transaction has the number `transaction`. `ended` is the sale's delivery, or `None`
-/// if no entry of the day ended it. For `None` the cells `ended`, `product` and `price` are `Nothing`.
+/// Returns the row of a sale whose transaction has the number `transaction`. `ended` is the delivery of the fuel that
+/// was sold, or `None` if no entry of the day ended this delivery. For `None` the cells `ended`, `product` and `price`
+/// are `Nothing`.
 fn sale_cells(sale: &Sale, transaction: u32, ended: Option<Delivery>) -> [Cell; 10]
     ensures { result ≡ sale_cells sale.now transaction ended }
 {

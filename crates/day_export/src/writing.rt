@@ -21,7 +21,7 @@ use std::alloc::Global;
 use std::io::Write;
 
 /// Writes the row, unless it is `None`. `is_ready` must hold for `to`, and still holds if there is no error. The error
-/// is that of `write_row`. Without a row there is no error.
+/// is an error of `write_row`. Without a row there is no error.
 fn put_some<T: RowWriter, const N: usize>(
     to: &mut T,
     rows: Rows,
@@ -40,8 +40,8 @@ fn put_some<T: RowWriter, const N: usize>(
 }
 
 /// Writes the row of the kind `rows` for an entry, if it has one; `day_state` is the state before the entry. `is_ready`
-/// must hold for `to`, and still holds if there is no error. The error is that of `write_row`. Without a row nothing is
-/// written, and there is no error.
+/// must hold for `to`, and still holds if there is no error. The error is an error of `write_row`. Without a row
+/// nothing is written, and there is no error.
 fn put_row<T: RowWriter>(
     to: &mut T,
     rows: Rows,
@@ -63,7 +63,7 @@ fn put_row<T: RowWriter>(
 
 /// Writes all rows of the kind `rows` for these entries, on a site with this configuration. `is_ready` must hold for
 /// `to`, and still holds if there is no error. There must be at most `ENTRIES` entries. The error is that memory ran
-/// out, or that of `write_row`. After an error, some of the rows were perhaps written.
+/// out, or an error of `write_row`. After an error, some of the rows were perhaps written.
 fn put_rows<T: RowWriter>(
     alloc: Global,
     to: &mut T,
@@ -86,7 +86,7 @@ fn put_rows<T: RowWriter>(
 }
 
 /// Writes the rows of a site's history as CSV, after a record with the names of the columns. Returns the writer `out`.
-/// The error is that memory ran out, or the error of `out`.
+/// The error is that memory ran out, or an error of `out`.
 fn write_csv<W: Write + Drop>(
     alloc: Global,
     site: &Site,
@@ -102,7 +102,7 @@ fn write_csv<W: Write + Drop>(
 }
 
 /// Writes the rows of a site's history as lines of JSON, and returns the writer `out`. The error is that memory ran
-/// out, or the error of `out`.
+/// out, or an error of `out`.
 fn write_json<W: Write + Drop>(
     alloc: Global,
     site: &Site,
@@ -118,7 +118,7 @@ fn write_json<W: Write + Drop>(
 }
 
 /// Writes the rows of a site's history to `out`, and returns `out`. In CSV the names of the columns come first. The
-/// error is that memory ran out, or the error of `out`. After an error, some of the rows were perhaps written.
+/// error is that memory ran out, or an error of `out`. After an error, some of the rows were perhaps written.
 pub fn write_rows<W: Write + Drop>(
     alloc: Global,
     site: &Site,

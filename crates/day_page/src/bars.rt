@@ -2,7 +2,7 @@
 //! units wide, and all lengths are in these units.
 ghost use Rattle.std.specs.Prelude.{◌<◌};
 
-use crate::html::HtmlBuilder;
+use crate::builder::TextBuilder;
 use crate::pictures::{COLUMNS_END, END, add_head, add_label, add_rect};
 use crate::tables::outcome_of;
 use crate::texts::{Text, number, scaled};
@@ -16,7 +16,7 @@ const VALUE_WIDTH: usize = 140;
 
 /// Adds the start of a picture that has room for `bars` bars. `title` and `text` are the title and description that
 /// screen readers read.
-fn add_bars_head(html: &mut HtmlBuilder, bars: usize, title: &'static str, text: &'static str) {
+fn add_bars_head(html: &mut TextBuilder, bars: usize, title: &'static str, text: &'static str) {
     add_head(
         html,
         bars.saturating_mul(APART).saturating_add(4),
@@ -28,7 +28,7 @@ fn add_bars_head(html: &mut HtmlBuilder, bars: usize, title: &'static str, text:
 /// Adds the bar at `place`, counted from 0 at the top. It begins `left` from the left edge of the picture and is
 /// `width` wide. `name` is written to the left of it, and `value` to the right.
 fn add_bar(
-    html: &mut HtmlBuilder,
+    html: &mut TextBuilder,
     place: usize,
     left: usize,
     width: usize,
@@ -59,7 +59,7 @@ fn most_sold(sums: &[Sum]) -> u128 {
 }
 
 /// Adds the picture of sales by point: one bar for each point. `sums` has the sales of each point, point 1 first.
-pub(crate) fn add_points(html: &mut HtmlBuilder, sums: &[Sum]) {
+pub(crate) fn add_points(html: &mut TextBuilder, sums: &[Sum]) {
     add_bars_head(
         html,
         sums.len(),
@@ -100,7 +100,7 @@ pub(crate) fn greatest_and_bars(counts: &[usize]) -> (usize, usize) {
 
 /// Adds the picture of refusals: one bar for each refusal that occurred. `counts` has how often each of the refusals
 /// S20 to S34 was the reply, S20 first.
-pub(crate) fn add_refusals(html: &mut HtmlBuilder, counts: &[usize]) {
+pub(crate) fn add_refusals(html: &mut TextBuilder, counts: &[usize]) {
     let (most, bars) = greatest_and_bars(counts);
     add_bars_head(
         html,
@@ -131,7 +131,7 @@ pub(crate) fn add_refusals(html: &mut HtmlBuilder, counts: &[usize]) {
 
 /// Adds the picture of sales by hour of the day: one column for each hour. `sums` has the sales of each hour, hour 0
 /// first.
-pub(crate) fn add_hours(html: &mut HtmlBuilder, sums: &[Sum]) {
+pub(crate) fn add_hours(html: &mut TextBuilder, sums: &[Sum]) {
     add_head(
         html,
         236,
@@ -147,7 +147,7 @@ pub(crate) fn add_hours(html: &mut HtmlBuilder, sums: &[Sum]) {
 }
 
 /// Adds the column of an hour (0 to 23), `height` high, with the hour's number below it.
-fn add_hour(html: &mut HtmlBuilder, hour: usize, height: usize) {
+fn add_hour(html: &mut TextBuilder, hour: usize, height: usize) {
     let left = hour.saturating_mul(41).saturating_add(8);
     add_rect(
         html,
@@ -166,9 +166,10 @@ fn add_hour(html: &mut HtmlBuilder, hour: usize, height: usize) {
 /// more, neighbouring versions share a column.
 const COLUMNS: usize = 1000;
 
-/// Adds the picture of decisions by version, in the order of the versions in `totals`. Each version has a column of two
-/// parts, granted and denied. If there are 1,000 versions or more, neighbouring versions share a column.
-pub(crate) fn add_versions(html: &mut HtmlBuilder, totals: &Totals) {
+/// Adds the picture of decisions by version, in the order of the versions in `totals`. Each column has two parts,
+/// granted and denied. If there are fewer than 1,000 versions, each has its own column; else neighbouring versions
+/// share a column.
+pub(crate) fn add_versions(html: &mut TextBuilder, totals: &Totals) {
     add_head(
         html,
         226,
@@ -186,7 +187,7 @@ pub(crate) fn add_versions(html: &mut HtmlBuilder, totals: &Totals) {
 
 /// Adds the columns of the picture of decisions by version. Each column shows `together` neighbouring versions; the
 /// last one can show fewer. `together` must not be 0.
-fn add_columns(html: &mut HtmlBuilder, totals: &Totals, together: usize)
+fn add_columns(html: &mut TextBuilder, totals: &Totals, together: usize)
     requires { 0 < together }
 {
     let columns = totals.versions.len().div_ceil(together);
@@ -252,7 +253,7 @@ fn column_at(place: usize, columns: usize) -> (usize, usize) {
 
 /// Adds the column at `place`, counted from 0. There are `columns` columns in all. `low` is the height of its lower
 /// part (granted), `high` that of its upper part (denied).
-fn add_column(html: &mut HtmlBuilder, place: usize, columns: usize, low: usize, high: usize) {
+fn add_column(html: &mut TextBuilder, place: usize, columns: usize, low: usize, high: usize) {
     let (left, width) = column_at(place, columns);
     let top = 206usize.saturating_sub(low);
     add_rect(html, "granted", left, top, width, low);
@@ -263,7 +264,7 @@ fn add_column(html: &mut HtmlBuilder, place: usize, columns: usize, low: usize, 
 
 /// Adds the number of a version below the column at `place`, counted from 0. There are `columns` columns in all. If
 /// there are more than 24 columns, nothing is added.
-fn add_name(html: &mut HtmlBuilder, place: usize, columns: usize, version: u32) {
+fn add_name(html: &mut TextBuilder, place: usize, columns: usize, version: u32) {
     if columns <= 24 {
         let (left, width) = column_at(place, columns);
         let middle = left.saturating_add(width / 2);

@@ -1,5 +1,5 @@
 //! The picture of the points' states through the day. A picture is 1,000 units wide, and lengths are in these units.
-use crate::html::HtmlBuilder;
+use crate::builder::TextBuilder;
 use crate::names::{STATES, state_name};
 use crate::pictures::{END, add_head, add_label};
 use crate::texts::{Text, number, scaled};
@@ -14,7 +14,7 @@ pub(crate) const WIDTH: usize = 900;
 
 /// Adds the axis below a drawing, with labels at its ends and at each quarter. `axis` says whether the labels are
 /// entries' numbers or times of day. The line of the axis is `top` below the upper edge of the picture.
-pub(crate) fn add_axis(html: &mut HtmlBuilder, axis: Axis, top: usize) {
+pub(crate) fn add_axis(html: &mut TextBuilder, axis: Axis, top: usize) {
     html.fill(
         "<path class=\"axis\" d=\"M{} {}h{}\"/>\n",
         &[number(LEFT), number(top), number(WIDTH)],
@@ -26,7 +26,7 @@ pub(crate) fn add_axis(html: &mut HtmlBuilder, axis: Axis, top: usize) {
 
 /// Adds the label that stands `quarters` quarters along an axis, from 0 (the axis's start) to 4 (its end). The label's
 /// baseline is `foot` below the upper edge of the picture.
-fn add_place(html: &mut HtmlBuilder, axis: Axis, quarters: usize, foot: usize) {
+fn add_place(html: &mut TextBuilder, axis: Axis, quarters: usize, foot: usize) {
     let x = quarters.min(4) * (WIDTH / 4) + LEFT;
     let anchor = match quarters {
         0 => "start",
@@ -44,11 +44,15 @@ fn add_place(html: &mut HtmlBuilder, axis: Axis, quarters: usize, foot: usize) {
     );
 }
 
-/// Returns the label that stands `quarters` quarters along an axis, from 0 (the axis's start) to 4 (its end). The label
-/// is an entry's number, which is at least 1, or a time of day.
+/// Returns the label for the place `quarters` quarters along an axis, from 0 (the axis's start) to 4 (its end). The
+/// label is a time of day, or the number of an entry: the one that is drawn there, or the last one at the axis's end.
+/// If there is no entry, this number is 1.
 fn name_at(axis: Axis, quarters: usize) -> Text {
     match axis {
-        Axis::Entries(count) => Text::Entry(step_of(quarters as u64, 4, count).max(1) as u64),
+        Axis::Entries(count) => {
+            let before = step_of(quarters as u64, 4, count);
+            Text::Entry(before.saturating_add(1).min(count.max(1)) as u64)
+        }
         Axis::Time(first, last) => {
             let quarter = last.saturating_sub(first) / 4;
             Text::Clock(first.saturating_add(quarter.saturating_mul(quarters as u64)))
@@ -56,13 +60,13 @@ fn name_at(axis: Axis, quarters: usize) -> Text {
     }
 }
 
-/// The distance between the bands of two neighbouring points.
+/// How far the band of each point lies below the band of the point before it, from middle to middle.
 const APART: usize = 26;
 
 /// Adds the picture of the points' states: a band for each point, and the axis below the bands. In each step of the
 /// axis, a band has the colour of the state that `bands` has for the point in this step. `axis` must be the axis for
 /// which `bands` was made.
-pub(crate) fn add_bands(html: &mut HtmlBuilder, bands: &Bands, axis: Axis) {
+pub(crate) fn add_bands(html: &mut TextBuilder, bands: &Bands, axis: Axis) {
     let foot = bands.points.saturating_mul(APART).saturating_add(6);
     add_head(
         html,
@@ -79,7 +83,7 @@ pub(crate) fn add_bands(html: &mut HtmlBuilder, bands: &Bands, axis: Axis) {
 }
 
 /// Adds the band of the point at `place`, counted from 0, with the point's name to its left.
-fn add_point(html: &mut HtmlBuilder, bands: &Bands, place: usize) {
+fn add_point(html: &mut TextBuilder, bands: &Bands, place: usize) {
     let y = place.saturating_mul(APART).saturating_add(16);
     let name = Text::Point((place as u64).saturating_add(1));
     add_label(html, 80, y.saturating_add(5), "end", name);
@@ -103,7 +107,7 @@ fn is_at(bands: &Bands, place: usize, state: State, step: usize) -> bool {
 /// Adds a horizontal line to the path that `add_path_head` began. The line covers the steps `from..to` of the axis, `y`
 /// below the upper edge of the picture. The line's start and width are in 2,000ths of the drawing's width: `add_point`
 /// scales them.
-fn add_stretch(html: &mut HtmlBuilder, bands: &Bands, from: usize, to: usize, y: usize) {
+fn add_stretch(html: &mut TextBuilder, bands: &Bands, from: usize, to: usize, y: usize) {
     let left = scaled(from as u128, bands.steps as u128, 2000);
     let width = scaled(to as u128, bands.steps as u128, 2000).saturating_sub(left);
     html.fill("M{} {}h{}", &[number(left), number(y), number(width)]);
@@ -111,7 +115,7 @@ fn add_stretch(html: &mut HtmlBuilder, bands: &Bands, from: usize, to: usize, y:
 
 /// Adds the start of a path that marks the steps in which a point is shown in the state `state`. The path is thicker if
 /// a delivery is authorised or under way in this state.
-fn add_path_head(html: &mut HtmlBuilder, state: State) {
+fn add_path_head(html: &mut TextBuilder, state: State) {
     let thick = if state.is_busy() { " busy" } else { "" };
     html.fill(
         "<path class=\"band s{}{}\" d=\"",
@@ -132,7 +136,7 @@ fn end_of(bands: &Bands, place: usize, state: State, from: usize) -> usize {
 
 /// Adds the path that marks the steps in which `bands` shows the point at `place`, counted from 0, in the state
 /// `state`. The path is `y` below the upper edge of the picture. If there is no such step, nothing is added.
-fn add_state(html: &mut HtmlBuilder, bands: &Bands, place: usize, state: State, y: usize) {
+fn add_state(html: &mut TextBuilder, bands: &Bands, place: usize, state: State, y: usize) {
     let mut is_begun = false;
     let mut is_before = false;
     for step in 0..bands.steps {
@@ -152,7 +156,7 @@ fn add_state(html: &mut HtmlBuilder, bands: &Bands, place: usize, state: State, 
 }
 
 /// Adds the item of the legend for a state: its colour, number and name.
-fn add_name(html: &mut HtmlBuilder, state: State) {
+fn add_name(html: &mut TextBuilder, state: State) {
     let digit = Text::Number(state.number() as u64);
     html.fill(
         "<li><i class=\"s{}\">&#160;</i>{} {}</li>\n",
@@ -161,7 +165,7 @@ fn add_name(html: &mut HtmlBuilder, state: State) {
 }
 
 /// Adds the legend of the states' colours.
-pub(crate) fn add_legend(html: &mut HtmlBuilder) {
+pub(crate) fn add_legend(html: &mut TextBuilder) {
     html.add("<ul class=\"legend\">\n");
     for state in &STATES {
         add_name(html, *state);

@@ -3,8 +3,8 @@
 #![tactic(auto)]
 
 mod bars;
+mod builder;
 mod drawn;
-mod html;
 pub mod names;
 pub mod page;
 mod pictures;
@@ -13,7 +13,7 @@ mod style;
 pub mod tables;
 pub mod texts;
 
-pub use html::HtmlBuilder;
+pub use builder::TextBuilder;
 pub use html_text::Escaped;
 pub use names::STATES;
 pub use page::Page;

@@ -1,6 +1,6 @@
 //! The page and its sections.
 
-use crate::html::HtmlBuilder;
+use crate::builder::TextBuilder;
 use crate::style::{HEAD, STYLE};
 use crate::texts::Text;
 use crate::{bars, drawn, prices, tables};
@@ -77,14 +77,14 @@ impl Day {
 
 /// Makes the page that shows this day. The error is that memory ran out.
 fn page_of(alloc: Global, day: &Day) -> Result<Page, AllocError> {
-    let mut html = HtmlBuilder::new(alloc);
+    let mut html = TextBuilder::new(alloc);
     add_day(&mut html, day);
     Ok(Page {
         text: html.finish()?,
     })
 }
 
-fn add_day(html: &mut HtmlBuilder, day: &Day) {
+fn add_day(html: &mut TextBuilder, day: &Day) {
     html.add(HEAD);
     html.add("<title>The day in a picture</title>\n");
     html.add(STYLE);
@@ -105,7 +105,7 @@ const SECTION_END: &str = "</section>\n";
 
 /// Adds the number of entries, the title and the main totals. If `axis` is time, also adds the moments at which the
 /// axis begins and ends.
-fn add_headline(html: &mut HtmlBuilder, totals: &Totals, axis: Axis) {
+fn add_headline(html: &mut TextBuilder, totals: &Totals, axis: Axis) {
     html.fill(
         "<p class=\"audited\">{} entries, audited</p>\n<h1>The day in a picture</h1>\n",
         &[Text::Thousands(totals.entries as u128)],
@@ -119,7 +119,7 @@ fn add_headline(html: &mut HtmlBuilder, totals: &Totals, axis: Axis) {
     add_figures(html, totals);
 }
 
-fn add_figures(html: &mut HtmlBuilder, totals: &Totals) {
+fn add_figures(html: &mut TextBuilder, totals: &Totals) {
     html.add("<ul class=\"figures\">\n");
     add_figure(html, "Sold", Text::Hundredths(totals.sold.cents));
     add_figure(html, "Sales", Text::Thousands(totals.sold.count as u128));
@@ -147,7 +147,7 @@ fn add_figures(html: &mut HtmlBuilder, totals: &Totals) {
 }
 
 /// Adds a list item that shows a figure: its name and its value.
-pub fn add_figure(html: &mut HtmlBuilder, name: &'static str, value: Text) {
+pub fn add_figure(html: &mut TextBuilder, name: &'static str, value: Text) {
     html.fill(
         "<li><span>{}</span> <b>{}</b></li>\n",
         &[Text::Words(name), value],
@@ -155,7 +155,7 @@ pub fn add_figure(html: &mut HtmlBuilder, name: &'static str, value: Text) {
 }
 
 /// Adds the section of what the day took over from the day before.
-fn add_carried(html: &mut HtmlBuilder, carried: CarriedIn) {
+fn add_carried(html: &mut TextBuilder, carried: CarriedIn) {
     html.add(
         "<section id=\"carried\"><h2>Carried in from the day before</h2>\n<ul class=\"figures\">\n",
     );
@@ -183,7 +183,7 @@ fn add_carried(html: &mut HtmlBuilder, carried: CarriedIn) {
     html.add(SECTION_END);
 }
 
-fn add_sales(html: &mut HtmlBuilder, totals: &Totals) {
+fn add_sales(html: &mut TextBuilder, totals: &Totals) {
     html.add("<section id=\"sales\"><h2>Sales</h2>\n");
     bars::add_points(html, &totals.by_point);
     add_sums(html, totals);
@@ -194,7 +194,7 @@ fn add_sales(html: &mut HtmlBuilder, totals: &Totals) {
 
 /// Adds the table of sales by point, and the table of sales by the till that cleared them. If there are no sales, the
 /// second table is left out.
-fn add_sums(html: &mut HtmlBuilder, totals: &Totals) {
+fn add_sums(html: &mut TextBuilder, totals: &Totals) {
     html.add("<div class=\"side\"><div><h3>By point</h3>");
     tables::add_points(html, totals);
     if totals.sold.count > 0 {
@@ -215,7 +215,7 @@ fn has_sale(sums: &[Sum]) -> bool {
 }
 
 /// Adds the picture and the table of sales by hour, or a note if no sale has a moment.
-fn add_hours(html: &mut HtmlBuilder, sums: &[Sum]) {
+fn add_hours(html: &mut TextBuilder, sums: &[Sum]) {
     if !has_sale(sums) {
         return html.add("<p class=\"note\">No sale tells its moment, so there are no hours.</p>\n");
     }
@@ -225,7 +225,7 @@ fn add_hours(html: &mut HtmlBuilder, sums: &[Sum]) {
     html.add("\n");
 }
 
-fn add_unpaid(html: &mut HtmlBuilder, unpaid: &[Unpaid]) {
+fn add_unpaid(html: &mut TextBuilder, unpaid: &[Unpaid]) {
     if !unpaid.is_empty() {
         html.add("<h3>Unpaid at the end</h3>");
         tables::add_unpaid(html, unpaid);
@@ -233,7 +233,8 @@ fn add_unpaid(html: &mut HtmlBuilder, unpaid: &[Unpaid]) {
     }
 }
 
-/// Returns whether at least one of `counters` has a bound that isn't 0. Each counter is its value and its bound.
+/// Returns whether at least one of `counters` has a bound that isn't 0. Each pair has the value and the bound of a
+/// counter.
 fn has_bound(counters: &[(u64, u64)]) -> bool {
     for counter in counters {
         if counter.1 > 0 {
@@ -243,7 +244,7 @@ fn has_bound(counters: &[(u64, u64)]) -> bool {
     false
 }
 
-fn add_rules(html: &mut HtmlBuilder, totals: &Totals, counters: &[(u64, u64)]) {
+fn add_rules(html: &mut TextBuilder, totals: &Totals, counters: &[(u64, u64)]) {
     html.add("<section id=\"rules\"><h2>Rules</h2>\n");
     if totals.versions.is_empty() {
         html.add("<p class=\"note\">No rule was loaded.</p>\n");
@@ -262,7 +263,7 @@ const VERSIONS_LEGEND: &str = "<ul class=\"legend\"><li><i class=\"granted\">&#1
 <li><i class=\"denied\">&#160;</i>denied</li></ul>
 ";
 
-fn add_versions(html: &mut HtmlBuilder, totals: &Totals) {
+fn add_versions(html: &mut TextBuilder, totals: &Totals) {
     html.add(VERSIONS_LEGEND);
     bars::add_versions(html, totals);
     tables::add_versions(html, totals);
@@ -272,7 +273,7 @@ fn add_versions(html: &mut HtmlBuilder, totals: &Totals) {
     }
 }
 
-fn add_points(html: &mut HtmlBuilder, bands: &Bands, axis: Axis) {
+fn add_points(html: &mut TextBuilder, bands: &Bands, axis: Axis) {
     html.add("<section id=\"points\"><h2>Points</h2>\n");
     drawn::add_legend(html);
     drawn::add_bands(html, bands, axis);
@@ -283,7 +284,7 @@ fn add_points(html: &mut HtmlBuilder, bands: &Bands, axis: Axis) {
     html.add(SECTION_END);
 }
 
-fn add_refusals(html: &mut HtmlBuilder, counts: &[usize]) {
+fn add_refusals(html: &mut TextBuilder, counts: &[usize]) {
     html.add("<section id=\"refusals\"><h2>Refusals</h2>\n");
     if bars::greatest_and_bars(counts).1 > 0 {
         bars::add_refusals(html, counts);
@@ -294,7 +295,7 @@ fn add_refusals(html: &mut HtmlBuilder, counts: &[usize]) {
     html.add(SECTION_END);
 }
 
-fn add_prices(html: &mut HtmlBuilder, opening: &[u32; 8], changes: &[PriceChange], axis: Axis) {
+fn add_prices(html: &mut TextBuilder, opening: &[u32; 8], changes: &[PriceChange], axis: Axis) {
     html.add("<section id=\"price-part\"><h2>Prices</h2>\n");
     prices::add_legend(html, opening, changes);
     html.add("\n");

@@ -1,10 +1,10 @@
 //! The parts that pictures are made of. A picture is an SVG element, 1,000 units wide.
-use crate::html::HtmlBuilder;
+use crate::builder::TextBuilder;
 use crate::texts::{Text, number};
 
 /// Adds the start of a picture: its height, and the title and the description (`text`) that screen readers read.
 pub(crate) fn add_head(
-    html: &mut HtmlBuilder,
+    html: &mut TextBuilder,
     height: usize,
     title: &'static str,
     text: &'static str,
@@ -24,7 +24,7 @@ pub(crate) const COLUMNS_END: &str = "<path class=\"axis\" d=\"M0 206.5h1000\"/>
 /// Adds a text to a picture. `anchor` says which part of the text is `x` from the left edge of the picture: `start`,
 /// `middle` or `end`. The text's baseline is `y` below the picture's upper edge.
 pub(crate) fn add_label(
-    html: &mut HtmlBuilder,
+    html: &mut TextBuilder,
     x: usize,
     y: usize,
     anchor: &'static str,
@@ -39,7 +39,7 @@ pub(crate) fn add_label(
 /// Adds a rectangle whose upper left corner is `x` from the left edge of the picture and `y` below its upper edge. The
 /// end of the rectangle's tag is left out, so that the caller can add attributes before it adds the end.
 pub(crate) fn add_rect(
-    html: &mut HtmlBuilder,
+    html: &mut TextBuilder,
     class: &'static str,
     x: usize,
     y: usize,

@@ -1,6 +1,6 @@
 //! The picture of the prices through the day: a line for each product.
+use crate::builder::TextBuilder;
 use crate::drawn::{LEFT, WIDTH, add_axis};
-use crate::html::HtmlBuilder;
 use crate::pictures::{END, add_head, add_label};
 use crate::texts::{Text, number, scaled};
 use day_report::{Axis, PriceChange};
@@ -59,7 +59,7 @@ fn range_of(opening: &[u32; 8], changes: &[PriceChange]) -> Range {
 /// Adds the picture of the prices: a line for each product that has a price. `opening` has the prices of products 1 to
 /// 8 before the first entry, 0 for none. `changes` has the changes since then, oldest first.
 pub(crate) fn add_lines(
-    html: &mut HtmlBuilder,
+    html: &mut TextBuilder,
     opening: &[u32; 8],
     changes: &[PriceChange],
     axis: Axis,
@@ -82,7 +82,7 @@ pub(crate) fn add_lines(
 }
 
 /// Adds the labels beside the drawing: the greatest price at its top, the least at its foot.
-fn add_range(html: &mut HtmlBuilder, range: Range) {
+fn add_range(html: &mut TextBuilder, range: Range) {
     add_label(html, 80, 16, "end", Text::Thousandths(range.greatest));
     add_label(html, 80, 174, "end", Text::Thousandths(range.least));
     html.add("\n");
@@ -90,11 +90,16 @@ fn add_range(html: &mut HtmlBuilder, range: Range) {
 
 /// Returns how far from the left of the picture a change of a price is drawn, in units of the picture.
 fn x_of(change: &PriceChange, axis: Axis) -> usize {
+    // As in the picture of the points (`drawn`), each entry, or each second, gets an equal share of the axis.
     let place = match axis {
-        Axis::Entries(count) => scaled(change.number as u128, count as u128, PLACES),
+        Axis::Entries(count) => {
+            let before = change.number.saturating_sub(1);
+            scaled(before as u128, count as u128, PLACES)
+        }
         Axis::Time(first, last) => {
             let since = change.moment.saturating_sub(first);
-            scaled(since as u128, last.saturating_sub(first) as u128, PLACES)
+            let seconds = last.saturating_sub(first) as u128 + 1;
+            scaled(since as u128, seconds, PLACES)
         }
     };
     LEFT + place * APART
@@ -105,7 +110,7 @@ fn x_of(change: &PriceChange, axis: Axis) -> usize {
 /// - If `is_begun`, the line first goes straight up or down from its end so far to `depth`.
 /// - Otherwise the line begins here, at `x`.
 fn add_step(
-    html: &mut HtmlBuilder,
+    html: &mut TextBuilder,
     product: u32,
     is_begun: bool,
     x: usize,
@@ -131,7 +136,7 @@ fn add_step(
 /// before the first entry, 0 for none. If it is 0, the line begins at the product's first change, or nothing is added
 /// if there is none.
 fn add_line(
-    html: &mut HtmlBuilder,
+    html: &mut TextBuilder,
     product: u32,
     opening: u64,
     changes: &[PriceChange],
@@ -161,7 +166,7 @@ fn add_line(
 
 /// Adds the legend of the lines' colours, with an item for each product that has a price at the start or at the end.
 /// `opening` has the prices of products 1 to 8 before the first entry, 0 for none.
-pub(crate) fn add_legend(html: &mut HtmlBuilder, opening: &[u32; 8], changes: &[PriceChange]) {
+pub(crate) fn add_legend(html: &mut TextBuilder, opening: &[u32; 8], changes: &[PriceChange]) {
     html.add("<ul class=\"legend\">\n");
     for (place, price) in opening.iter().enumerate() {
         let product = (place as u32).saturating_add(1);
@@ -176,7 +181,7 @@ pub(crate) fn add_legend(html: &mut HtmlBuilder, opening: &[u32; 8], changes: &[
 
 /// Adds a product's item of the legend: colour, number, and the prices at the start (`opening`) and the end (`last`) of
 /// the day. If these are the same, only one is shown. A price of 0 means none, and is written as 0.000.
-fn add_product(html: &mut HtmlBuilder, product: u32, opening: u64, last: u64) {
+fn add_product(html: &mut TextBuilder, product: u32, opening: u64, last: u64) {
     let product = Text::Number(product as u64);
     html.fill(
         "<li><i class=\"p{}\">&#160;</i>product {}: ",

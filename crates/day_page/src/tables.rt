@@ -1,5 +1,5 @@
 //! The tables of a page.
-use crate::html::HtmlBuilder;
+use crate::builder::TextBuilder;
 use crate::names::state_name;
 use crate::texts::{Text, number, numbered};
 use day_report::{CarriedRule, Load, Outcomes, PriceChange, Sum, Totals, Unpaid};
@@ -20,7 +20,7 @@ macro_rules! head {
 }
 
 /// Adds a row of a table: its name, then its other cells.
-pub fn add_row(html: &mut HtmlBuilder, name: Text, cells: &[Text]) {
+pub fn add_row(html: &mut TextBuilder, name: Text, cells: &[Text]) {
     html.fill("<tr><th scope=\"row\">{}</th>", &[name]);
     for cell in cells {
         html.fill("<td>{}</td>", &[*cell]);
@@ -31,7 +31,7 @@ pub fn add_row(html: &mut HtmlBuilder, name: Text, cells: &[Text]) {
 const FOOT: &str = "</tbody></table></div>\n";
 
 /// Adds a row of sales: how many there are, their money and their litres.
-fn add_sum(html: &mut HtmlBuilder, name: Text, sum: &Sum) {
+fn add_sum(html: &mut TextBuilder, name: Text, sum: &Sum) {
     let cells = [
         Text::Thousands(sum.count as u128),
         Text::Hundredths(sum.cents),
@@ -42,7 +42,7 @@ fn add_sum(html: &mut HtmlBuilder, name: Text, sum: &Sum) {
 
 /// Adds a row of the table of points: the sales, the number of unpaid transactions, and the state at the end of the
 /// history. The last row is for all points together, and has an empty `state`.
-fn add_point(html: &mut HtmlBuilder, name: Text, sum: &Sum, unpaid: usize, state: &'static str) {
+fn add_point(html: &mut TextBuilder, name: Text, sum: &Sum, unpaid: usize, state: &'static str) {
     let cells = [
         Text::Thousands(sum.count as u128),
         Text::Hundredths(sum.cents),
@@ -55,7 +55,7 @@ fn add_point(html: &mut HtmlBuilder, name: Text, sum: &Sum, unpaid: usize, state
 
 /// Adds the row of `point`, which is at `place`, counted from 0, in `totals.points`. If `totals.by_point` has no such
 /// place, nothing is added.
-fn add_place(html: &mut HtmlBuilder, totals: &Totals, place: usize, point: &Point) {
+fn add_place(html: &mut TextBuilder, totals: &Totals, place: usize, point: &Point) {
     if let Some(sum) = totals.by_point.get(place) {
         let state = state_name(point.state());
         add_point(
@@ -73,7 +73,7 @@ const BY_POINT: &str =
 
 /// Adds the table of the points: each point's sales, and the number of its unpaid transactions and its state at the end
 /// of the history. A last row is for all points together.
-pub(crate) fn add_points(html: &mut HtmlBuilder, totals: &Totals) {
+pub(crate) fn add_points(html: &mut TextBuilder, totals: &Totals) {
     html.add(BY_POINT);
     for (place, point) in totals.points.iter().enumerate() {
         add_place(html, totals, place, point);
@@ -96,7 +96,7 @@ pub(crate) const BY_HOUR: &str = head!("by-hour"; "Hour", "Sales", "Money", "Lit
 
 /// Adds a table of sales by till or by hour, with a row for each till or hour that has a sale. `head` is `BY_TILL` or
 /// `BY_HOUR`. `first` is the number of the till or hour to which the first of `sums` belongs.
-pub(crate) fn add_parts(html: &mut HtmlBuilder, head: &str, sums: &[Sum], first: u64) {
+pub(crate) fn add_parts(html: &mut TextBuilder, head: &str, sums: &[Sum], first: u64) {
     html.add(head);
     for (place, sum) in sums.iter().enumerate() {
         if sum.count > 0 {
@@ -107,7 +107,7 @@ pub(crate) fn add_parts(html: &mut HtmlBuilder, head: &str, sums: &[Sum], first:
 }
 
 /// Adds the row of an unpaid transaction.
-fn add_transaction(html: &mut HtmlBuilder, unpaid: &Unpaid) {
+fn add_transaction(html: &mut TextBuilder, unpaid: &Unpaid) {
     let holder = match unpaid.holder {
         0 => Text::Words("nobody"),
         till => Text::Number(till as u64),
@@ -124,7 +124,7 @@ fn add_transaction(html: &mut HtmlBuilder, unpaid: &Unpaid) {
 const UNPAID: &str = head!("unpaid"; "Point", "Transaction", "Money", "Litres", "Held by till");
 
 /// Adds the table of the transactions that are unpaid at the end.
-pub(crate) fn add_unpaid(html: &mut HtmlBuilder, unpaid: &[Unpaid]) {
+pub(crate) fn add_unpaid(html: &mut TextBuilder, unpaid: &[Unpaid]) {
     html.add(UNPAID);
     for transaction in unpaid {
         add_transaction(html, transaction);
@@ -150,10 +150,10 @@ pub(crate) fn outcome_of(outcomes: &Outcomes, place: usize) -> (u64, u64) {
 ///
 /// - `place` is the version's place in `totals.versions`, counted from 0.
 /// - `rule` has the version's slot and number.
-/// - `entry` is the number of the entry that loaded the version, and `loaded` the last moment before that entry. For a
-///   version from the day before, `entry` is `carried in`, and `loaded` is empty.
+/// - `entry` is the number of the entry that loaded the version, and `loaded` the moment of the last earlier entry that
+///   has one. For a version from the day before, `entry` is `carried in`, and `loaded` is empty.
 fn add_version(
-    html: &mut HtmlBuilder,
+    html: &mut TextBuilder,
     totals: &Totals,
     place: usize,
     rule: CarriedRule,
@@ -178,7 +178,7 @@ fn add_version(
 }
 
 /// Adds the row of the version that `load` loaded. `place` is the place of `load` in `totals.loads`, counted from 0.
-fn add_load(html: &mut HtmlBuilder, totals: &Totals, place: usize, load: &Load) {
+fn add_load(html: &mut TextBuilder, totals: &Totals, place: usize, load: &Load) {
     let rule = CarriedRule {
         slot: load.slot,
         version: load.version,
@@ -201,7 +201,7 @@ const VERSIONS: &str = head!(
 
 /// Adds the table of the versions of rules, with how many requests each granted and denied. First come those that were
 /// carried in from the day before, then those that were loaded.
-pub(crate) fn add_versions(html: &mut HtmlBuilder, totals: &Totals) {
+pub(crate) fn add_versions(html: &mut TextBuilder, totals: &Totals) {
     html.add(VERSIONS);
     for (place, rule) in totals.carried.iter().enumerate() {
         let (entry, loaded) = (Text::Words("carried in"), Text::Words(""));
@@ -217,7 +217,7 @@ pub(crate) fn add_versions(html: &mut HtmlBuilder, totals: &Totals) {
 /// the version's number, and `at` its place, counted from 0, in the lists of each of `tills`. `rows` is how many rows
 /// there are so far, and the new number is returned. Rows beyond `ROWS` are counted, but left out.
 fn add_tills(
-    html: &mut HtmlBuilder,
+    html: &mut TextBuilder,
     tills: &[Outcomes],
     at: usize,
     version: u32,
@@ -245,7 +245,7 @@ const BY_VERSION_AND_TILL: &str = head!("versions-by-till"; "Version", "Till", "
 
 /// Adds the table of decisions by version and till: how many requests of each till a version granted and denied. If
 /// there are more than `ROWS` rows, it has the first `ROWS`, and a note below it says how many are left out.
-pub(crate) fn add_versions_by_till(html: &mut HtmlBuilder, totals: &Totals) {
+pub(crate) fn add_versions_by_till(html: &mut TextBuilder, totals: &Totals) {
     html.add(BY_VERSION_AND_TILL);
     let mut rows = 0;
     for (place, version) in totals.versions.iter().enumerate() {
@@ -258,7 +258,7 @@ pub(crate) fn add_versions_by_till(html: &mut HtmlBuilder, totals: &Totals) {
 
 /// Adds the note `remark`, in which `ROWS` replaces the first `{}` and `left` the second. `left` is how many rows are
 /// left out. If it is 0, nothing is added.
-fn add_remark(html: &mut HtmlBuilder, remark: &str, left: usize) {
+fn add_remark(html: &mut TextBuilder, remark: &str, left: usize) {
     if left > 0 {
         html.fill(remark, &[number(ROWS), Text::Thousands(left as u128)]);
     }
@@ -266,7 +266,7 @@ fn add_remark(html: &mut HtmlBuilder, remark: &str, left: usize) {
 
 /// Adds the row of counter number `place`, counted from 0. `counter` is its value and its bound. If the bound is 0,
 /// nothing is added.
-fn add_counter(html: &mut HtmlBuilder, place: usize, counter: &(u64, u64)) {
+fn add_counter(html: &mut TextBuilder, place: usize, counter: &(u64, u64)) {
     let (value, bound) = *counter;
     if bound > 0 {
         let cells = [
@@ -281,7 +281,7 @@ const COUNTERS: &str = head!("counters"; "Counter", "Value at the end", "Bound")
 
 /// Adds the table of the counters whose bound isn't 0, with their values at the end and their bounds. `counters` has
 /// the value and the bound of each counter, counter 0 first.
-pub(crate) fn add_counters(html: &mut HtmlBuilder, counters: &[(u64, u64)]) {
+pub(crate) fn add_counters(html: &mut TextBuilder, counters: &[(u64, u64)]) {
     html.add(COUNTERS);
     for (place, counter) in counters.iter().enumerate() {
         add_counter(html, place, counter);
@@ -290,7 +290,7 @@ pub(crate) fn add_counters(html: &mut HtmlBuilder, counters: &[(u64, u64)]) {
 }
 
 /// Adds the row of a changed price.
-fn add_change(html: &mut HtmlBuilder, change: &PriceChange) {
+fn add_change(html: &mut TextBuilder, change: &PriceChange) {
     let cells = [
         Text::Moment(change.moment),
         Text::Number(change.product as u64),
@@ -308,7 +308,7 @@ const PRICES: &str = head!(
 
 /// Adds the table of the changed prices. If there are more than `ROWS`, it has the last `ROWS` of them, and a note
 /// below it says how many are left out.
-pub(crate) fn add_prices(html: &mut HtmlBuilder, changes: &[PriceChange]) {
+pub(crate) fn add_prices(html: &mut TextBuilder, changes: &[PriceChange]) {
     html.add(PRICES);
     let left = changes.len().saturating_sub(ROWS);
     for change in changes.iter().skip(left) {

@@ -1,4 +1,5 @@
--- The invariant of the loop that finds where the steps of a picture end.
+-- The picture of a day shows the states of the points in equal steps of an axis: time or the entries. This is the
+-- invariant of the loop that finds the places in the history where the steps end.
 use Rattle.std.proofs.Common.{◌≡◌, ℕ, ◌<◌, ◌≤◌, List, length, drop, get_or}
 use Rattle.decision_journal.specs.declared.entries.Entry.{Entry}
 use Rattle.day_report.specs.declared.steps.Axis.{Axis}

@@ -1,5 +1,8 @@
--- What the next entry changes in the points and adds to the sales and the loads, what the next slot adds to the rules,
--- and the next point to the unpaid transactions. If such a total is empty, nothing was added to it.
+-- What one more entry, slot or point changes or adds:
+-- - An entry can change the points and the last moment, and can add a sale or a load.
+-- - A slot can add a rule to those that the opening carries in from the day before.
+-- - A point adds its unpaid transactions.
+-- If the list of all sales, loads, rules or unpaid transactions is empty, nothing was added to it at any place.
 use Rattle.std.proofs.Common.{◌≡◌, ℕ, ◌+◌, ◌<◌, List, [], ◌∷◌, ◌++◌, length, map, take, drop, append_assoc, arith, Option, Some, None, refl, ap, ◌∙◌, sym, get_or}
 use Rattle.std.specs.Prelude.{fold, option_to_list}
 use Rattle.std.specs.List.{cons_option}
@@ -67,7 +70,7 @@ moment-more moment entries i entry h is =
     ap (λ es. fold moment_after moment es) (take_more entries i entry h ∙ ap (λ e. take i entries ++ e ∷ []) (sym is))
     ∙ fold_push moment_after moment (take i entries) entry
 
--- ---- rules that are carried in
+-- ---- the rules that an opening carries in from the day before
 
 carried-push : (slot : ℕ) (rules : List (Option Version)) (rule : Option Version) → carried_from slot (rules ++ rule ∷ []) ≡ carried_from slot rules
     ++ option_to_list (carried_at (slot + length rules) rule)
@@ -89,7 +92,7 @@ carried-more rules i rule h is =
     ∙ carried-push 0 (take i rules) rule
     ∙ ap (λ n. carried_from 0 (take i rules) ++ option_to_list (carried_at n rule)) place
 
--- ---- unpaid transactions
+-- ---- These lemmas say which unpaid transactions one more point adds.
 
 pub map-option : {A B : Type 0} (f : A → B) (o : Option A) → map f (option_to_list o) ≡ option_to_list (option_map f o)
 map-option f None = refl
@@ -127,13 +130,14 @@ unpaid-more points i p first second h is both =
     ∙ (λ j. map-option f first j ++ map-option f second j))
     ∙ sym (append_assoc (unpaid_from 1 (take i points)) (option_to_list (option_map f first)) (option_to_list (option_map f second)))
 
--- ---- closed points
+-- ---- These lemmas say that two ways to make a list of closed points give the same list.
 
 same-points : (points : List (ℕ × ℕ)) → replicate (length points) fresh_point ≡ map (λ (_ : ℕ × ℕ). fresh_point) points
 same-points [] = refl
 same-points (p ∷ points) = ap (λ xs. fresh_point ∷ xs) (same-points points)
 
--- Replacing each item of a list by a closed point gives as many closed points as the list has items.
+-- If the lists `pairs` and `expected` are equal, then a list of `length pairs` closed points (`fresh_point`) is
+-- `expected` with each item replaced by a closed point.
 pub closed-is : (pairs expected : List (ℕ × ℕ)) → pairs ≡ expected → replicate (length pairs) fresh_point ≡ map (λ (_ : ℕ × ℕ). fresh_point) expected
 closed-is pairs expected same = same-points pairs ∙ ap (map (λ (_ : ℕ × ℕ). fresh_point)) same
 
@@ -195,7 +199,7 @@ carried-append slot (r ∷ rules) more =
     ap (cons_option (carried_at slot r)) (carried-append (slot + 1) rules more ∙ ap (λ n. carried_from (slot + 1) rules ++ carried_from n more) same)
     ∙ cons-append (carried_at slot r) (carried_from (slot + 1) rules) (carried_from (slot + length (r ∷ rules)) more)
 
--- If no slot has a rule that is carried in, then slot i is empty.
+-- If no slot carries in a rule from the day before, then slot i is empty.
 pub carried-none : (rules : List (Option Version)) (i : ℕ) (rule : Option Version) → i < length rules → rule ≡ get_or rules i rule
     → carried_from 0 rules ≡ []
     → carried_at i rule ≡ None

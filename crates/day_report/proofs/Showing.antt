@@ -15,7 +15,7 @@ use Rattle.day_report.specs.Following.{HaveNumbersUpTo}
 use Rattle.day_report.specs.Picture.{AreStepEnds, Shows, cut_from, entries_between, is_behind, point_changed_by_act, step_at, step_shows, steps_along, steps_show, with_point}
 use Rattle.day_report.specs.Picture.{with_points}
 
--- ---- within a step
+-- ---- These lemmas say what one more entry changes in what a step shows.
 
 shows-push : (states : List State) (points : List PointState) (entries : List Entry) (entry : Entry)
     → with_points states points (entries ++ entry ∷ [])
@@ -48,8 +48,9 @@ module _ (axis : Axis) (steps : ℕ) where
       cond_both (is_behind k (step_at axis place e.moment steps)) place (cut_from axis steps k (place + 1) entries) (λ x. x ≤ place + length (e ∷ entries))
       (λ _. omega arith) (λ _. omega (arith, at_most k (place + 1) entries))
 
-  -- If the step `s` comes after step k, it comes after step j too, since j ≤ k. So, if x and a are at most b, the
-  -- number chosen for j is at most the number chosen for k.
+  -- Let j ≤ k, x ≤ b and a ≤ b. The number for j is x if the step `s` comes after step j, or else a. The number for k
+  -- is x if `s` comes after step k, or else b. The number for j is at most the number for k, since a step after step k
+  -- is after step j too.
   behind_both : (s : Option ℕ) (j k : ℕ) → j ≤ k → (x a b : ℕ) → x ≤ b → a ≤ b → (if is_behind j s then x else a) ≤ (if is_behind k s then x else b)
   behind_both None j k le x a b low up = up
   behind_both (Some step) j k le x a b low up =
@@ -73,10 +74,11 @@ module _ (axis : Axis) (steps : ℕ) where
     pub cuts_ascend : (j k : ℕ) → j ≤ k → k < length step_ends → get_or step_ends j 0 ≤ get_or step_ends k 0
     cuts_ascend j k le lt = omega (arith, cut_is j (omega (arith, le, lt)), cut_is k lt, ascend j k le 0 entries)
 
--- ---- step after step
+-- ---- `Stands` says what holds in a loop over the steps. The lemmas show it at the start and after each step.
 
 -- A loop over `step_ends` has come to step i, and has applied the first `done` entries:
--- - `now` are the points after these entries. They have given out no number over 4,290,000,000 + `done`.
+-- - `now` are the points after these entries. They have given out no transaction number over 4,290,000,000 + `done`:
+--   the limit is 4,290,000,000 at the start, and rises by one with each entry.
 -- - No step from step i on ends before place `done`.
 -- - `states`, followed by what the steps from step i on show, is what all steps show.
 pub record Stands (points : List PointState) (entries : List Entry) (step_ends : List ℕ) (i done : ℕ) (now : List PointState) (states : List State) : Type 0 where

@@ -58,7 +58,7 @@ use Rattle.day_report.specs.declared.counting.DecisionPart.TheVariants as decidi
 use Rattle.day_report.proofs.OneMore.{loads-push}
 use Rattle.day_report.proofs.SiteSales.{none-key, one-key, add-keys, no-keys}
 
--- ---- the six counts of one version
+-- ---- the six counts of one version's decisions: grants and denials of releases, of presets and of prices
 
 one-of-six : (a : RequestKind) (g b : Bool) → (if (is_release a && g) && b then 1 else 0) + (if (is_release a && not g) && b then 1 else 0)
     + (if (is_preset a && g) && b then 1 else 0) + (if (is_preset a && not g) && b then 1 else 0) + (if (is_price a && g) && b then 1 else 0)
@@ -116,7 +116,7 @@ above-none v m (n ∷ ns) h lt =
 first-once : (n : ℕ) (ns : List ℕ) → AllByRecursion (λ k. (n == k) ≡ false) ns → times n (n ∷ ns) ≡ 1
 first-once n ns h = sum_by-cons (λ k. if n == k then 1 else 0) n ns ∙ (λ i. (if eq-eqb n n refl i then 1 else 0) + apart-none n ns h i)
 
--- ---- the versions that are carried in
+-- ---- the versions that an opening carries in from the day before
 
 -- If P holds for the number of each version in the slots, then it holds for the number of v, the version in `slot`.
 at-slot : (P : ℕ → Type 0) (rules : List (Option Version)) (slot : ℕ) (v : Version) → AllByRecursion P (rule_numbers rules)
@@ -325,8 +325,8 @@ quiet config past a r h =
       fits = subst (λ o. VersionsFit config (versions past) (option_to_list o)) (sym none) tt;
     }
 
--- If the reply r is the verdict of v, a version of the day, on a request that a rule decides, then r counts as exactly
--- one decision.
+-- Let q be a request that a rule decides, and let v be a version of the day. If the reply r to q is the verdict of v (a
+-- grant if g is true, or else a denial), then r counts as exactly one decision.
 says : (config : ConfigValue) (past : List Entry) (till : ℕ) (q : Request) (x : RequestKind) (r : Reply) (v : Version) (g : Bool) → kind_of_request q ≡ Some x → verdict_of r ≡ Some (v.number, g)
     → is_decided r ≡ true → IsVersion config (versions past) v.number → DecidesOne config past (act.Till till q) r
 says config past till q x r v g asks gives is range =

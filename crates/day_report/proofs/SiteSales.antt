@@ -277,9 +277,11 @@ comes config [] s l =
     }
 comes config (entry ∷ past) s l = comes-more config past l.0 s entry (comes config past l.0 l.1) l.3.enters l.3.leaves
 
--- ---- sums by a key
+-- ---- A sale's key is its point or its till. These lemmas say that the sums for all keys add up to the sum of all
+-- sales.
 
--- If x is below a, then none of the n numbers from a on equals x, so the sum is 0.
+-- The sum counts v for each of the n numbers from a on that equals x, and 0 for each other. If x is below a, none of
+-- the numbers equals x, so the sum is 0.
 pub none-key : (a n x v : ℕ) → x < a → sum_by (λ k. if x == k then v else 0) (range_with_len a n) ≡ 0
 none-key a zero x v below = refl
 none-key a (suc n) x v below =
@@ -298,7 +300,8 @@ by-first a n x v false is least less later =
     let rest = later more (omega arith) in
     sum_by-cons (λ k. if x == k then v else 0) a (range_with_len (a + 1) n) ∙ (λ i. (if is i then v else 0) + rest i) ∙ omega arith
 
--- If x is one of the n numbers from a on, then exactly one of them equals x, so the sum is v.
+-- The sum counts v for each of the n numbers from a on that equals x, and 0 for each other. If x is one of the numbers,
+-- exactly one of them equals x, so the sum is v.
 pub one-key : (a n x v : ℕ) → a ≤ x → x < a + n → sum_by (λ k. if x == k then v else 0) (range_with_len a n) ≡ v
 one-key a zero x v least less = absurd (omega arith)
 one-key a (suc n) x v least less = by-first a n x v (x == a) refl least less (λ more fewer. one-key (a + 1) n x v more fewer)

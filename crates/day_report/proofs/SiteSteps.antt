@@ -101,7 +101,7 @@ fault-silent NoSuchTransaction = tt
 fault-silent NoOrder = tt
 fault-silent Unexpected = tt
 
--- ---- commands
+-- ---- These lemmas show `AgreesAfter` for a request whose command needs no decision.
 
 -- The transaction that a command clears; None if the command isn't Clear, or if there is no such transaction.
 abbrev clears-what : PointState → Command → Option Transaction
@@ -253,7 +253,7 @@ done-tells s till n r c None some at told = subst (AgreesAfter s (act.Till till 
 done-tells s till n r c (Some p) some at told =
     subst (AgreesAfter s (act.Till till r)) (sym (till_command_effect-some s till n c p at)) (done-at s till n p r c (command_step p till c) some at told refl)
 
--- ---- decisions
+-- ---- These lemmas show `AgreesAfter` for a request that a rule decides: a release, a preset or a price.
 
 -- The result is a question to a rule, of kind k and about point n, or it is a refusal.
 abbrev AsksAt : Kind → ℕ → Result Question Reply → Type 0

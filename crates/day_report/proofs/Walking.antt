@@ -16,8 +16,9 @@ use Rattle.site_core.proofs.Points.{at_number-read}
 use Rattle.day_report.specs.Walk.{with_changed, with_command, with_event, after_event}
 use Rattle.day_report.specs.Following.{UpdatesTo}
 
--- Let the outcome of a command at the point p follow the table of fuelling points. Then `new` is the table's next point
--- if the command is accepted, and p if it is refused.
+-- Let `a` be the step that the table of fuelling points (`command_step`) has for a command at the point p. Let the
+-- command follow `a`, and let `new` be the point after the command. If the table allows the step, `new` is the point
+-- that the step leads to. If the table refuses the step, `new` is p.
 after-command-is : (a : StepResult (Option ℕ)) (p new : PointState) (outcome : Result (Option ℕ) PointFault) → FollowsTable a p outcome new
     → (elim a as (λ _. PointState) [ Ok o ↦ o.0 | Err f ↦ p ]) ≡ new
 after-command-is (Ok (q, given)) p new outcome h = sym h.1
@@ -28,8 +29,9 @@ after-event-is : (a : StepResult (Option Order)) (p new : PointState) (outcome :
 after-event-is (Ok (q, given)) p new outcome h = sym h.1
 after-event-is (Err f) p new outcome h = sym h.1
 
--- Let no point have given out a number over k. If point n, which is p, is replaced by `new`, and the last number of
--- `new` is at most 1 greater than that of p, then no point has given out a number over k + 1.
+-- Let no point have given out a transaction number over k. Let p be point n, and let the last transaction number of
+-- `new` be at most 1 greater than that of p. If `new` replaces p, then no point has given out a transaction number over
+-- k + 1.
 bounded-set : (points : List PointState) (n : ℕ) (p new : PointState) → 1 ≤ n → n ≤ length points → p ≡ get_or points (n - 1) p → new.last ≤ p.last + 1
     → (k : ℕ) → All (λ (x : PointState). x.last ≤ k) points → All (λ (x : PointState). x.last ≤ k + 1) (slice_set points (n - 1) new)
 bounded-set points n p new one le is last k all =
@@ -37,7 +39,7 @@ bounded-set points n p new one le is last k all =
     All-set (λ (x : PointState). x.last ≤ k + 1) points (n - 1) new (omega arith)
     (λ j d h. let l : (get_or points j d).last ≤ k = all j d h in omega (arith, l))
 
--- If there is a point n, then only this point is changed.
+-- If p is point n, then `with_changed` replaces p by `becomes p`, and changes no other point.
 pub changed-at : (points : List PointState) (n : ℕ) (p : PointState) (becomes : PointState → PointState) → at_number points n ≡ Some p
     → with_changed points n becomes ≡ slice_set points (n - 1) (becomes p)
 unfolding with_changed

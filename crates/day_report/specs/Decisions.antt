@@ -52,8 +52,8 @@ changed_price number moment _ _ = None
 unfoldable pub price_change_of : Entry → Option PriceChange
 price_change_of entry = changed_price entry.number entry.moment entry.act entry.reply
 
--- The last moment (time in seconds) of a history that ends with the entry: the entry's own, or, if it has none,
--- `moment`, the last moment before the entry.
+-- The last moment (time in seconds) of a history that ends with the entry. It is the entry's own moment, if the entry
+-- has one. Otherwise it is `moment`, the last moment before the entry.
 abbrev pub moment_after : ℕ → Entry → ℕ
 moment_after moment entry = if entry.moment == 0 then moment else entry.moment
 

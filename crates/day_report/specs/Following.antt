@@ -11,8 +11,8 @@ HaveNumbersUpTo n points = All (λ (p : PointState). p.last ≤ n) points
 abbrev pub HaveFreeNumbers : List PointState → ℕ → Type 0
 HaveFreeNumbers points entries = (n : ℕ) × HaveNumbersUpTo n points × (n + entries ≤ 4294967295)
 
--- The points `new` are the points `expected`. If no point of `old` has given out a number over k, then no point of
--- `new` has given out one over k + 1.
+-- The points `new` are the points `expected`. If no point of `old` has given out a transaction number over k, then no
+-- point of `new` has given out one over k + 1.
 pub record UpdatesTo (old expected new : List PointState) : Type 0 where
   pub is : new ≡ expected
   pub bounded : (k : ℕ) → HaveNumbersUpTo k old → HaveNumbersUpTo (k + 1) new

@@ -18,9 +18,10 @@ use Rattle.day_report.specs.declared.sales.SalesPart.TheVariants as part
 -- The sales in a journal agree with the state of its site:
 -- - The points after the last entry are the site's points.
 -- - What was cleared before the day, plus the sales of the day, is what the site cleared: in number, and in cents.
--- - The cents of the day are also the sum over all points of the configuration, if the site begins with that many
---   points.
--- - They are also the sum over the tills 1 to `tills`, if these include all tills of the configuration.
+-- - The cents of the sales at each point of the configuration add up to the cents of the day, if the site begins with
+--   as many points as the configuration has.
+-- - The cents that each till from 1 to `tills` cleared add up to the cents of the day too, if these tills include all
+--   tills of the configuration.
 pub record AgreesWithItsSite (config : ConfigValue) (history : List Entry) (state : SiteState) : Type 0 where
   pub points : points_after config history ≡ state.points
   pub count : (opening_state config).clears + count_in part.All (sales_of config history) ≡ state.clears
@@ -40,8 +41,9 @@ decided_in_all v ds =
     decided_by deciding.Releases true v ds + decided_by deciding.Releases false v ds + decided_by deciding.Presets true v ds
     + decided_by deciding.Presets false v ds + decided_by deciding.Prices true v ds + decided_by deciding.Prices false v ds
 
--- In a legal history, all versions, carried in or loaded, together granted and denied as often as an entry's reply is a
--- grant or the refusal S24. `HasValidOpening` is required so that no version is counted twice.
+-- In a legal history, the decisions (grants and denials) of all versions are together as many as the entries whose
+-- reply is a grant or S24 (a denial by a program). The versions are those carried in from the day before and those
+-- loaded. `HasValidOpening` is required so that no version is counted twice.
 abbrev pub VersionsCountAllDecisions : Type 0
 VersionsCountAllDecisions =
     (config : ConfigValue) (history : List Entry) (state : SiteState) → HasValidOpening config → LegalHistory config history state →

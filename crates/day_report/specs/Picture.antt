@@ -1,6 +1,7 @@
 -- Definitions: how the picture of a day divides its history into steps, and what each step shows (this profile). The
 -- axis of the picture is time or the entries, divided into equal steps. For each point, a step shows the state with the
--- greatest number.
+-- greatest `state_number` among the states that the point has before the step's entries and after each of these
+-- entries.
 use Rattle.std.specs.Prelude.{◌≡◌, ◌<◌, ◌++◌, replicate, slice_index, ℕ, ◌+◌, ◌-◌, ◌*◌, ◌/◌, ◌==◌, ◌&&◌, nat_le, nat_lt, min, if◌then◌else◌, List, [], ◌∷◌, length, Option, Some, None, Bool, true, false}
 use Rattle.std.specs.Prelude.{map, take, drop, slice_index_or, slice_set}
 use Rattle.decision_journal.specs.declared.entries.Entry.{Entry}
@@ -17,12 +18,14 @@ use Rattle.day_report.specs.declared.steps.Axis.{Axis}
 use Rattle.day_report.specs.declared.steps.Axis.TheVariants as axis
 
 -- The step, counted from 0, that `at` belongs to if the numbers below `most` are divided into `steps` equal steps:
--- - If `most` is 0, it is step 0.
--- - Otherwise, if `at` isn't below `most`, it is step `steps`.
+-- - It is step 0 if `most` is 0.
+-- - Otherwise it is step `steps` if `at` isn't below `most`.
+-- - Otherwise it is step `at * steps / most`, rounded down.
 abbrev pub step_of : ℕ → ℕ → ℕ → ℕ
 step_of at most steps = if most == 0 then 0 else min (at * steps / most) steps
 
--- How many steps a picture has along this axis: one for each entry or for each second, but at most 2,000.
+-- How many steps a picture has along this axis: one for each entry, or one for each second that passes from the first
+-- moment to the last, but at most 2,000.
 abbrev pub steps_along : Axis → ℕ
 steps_along (axis.Entries count) = min count 2000
 steps_along (axis.Time first last) = min (last - first) 2000
@@ -30,8 +33,8 @@ steps_along (axis.Time first last) = min (last - first) 2000
 -- The step of an entry with this place and this moment, if the axis has this many steps. Steps and places are counted
 -- from 0.
 -- - If the axis is the entries, the place decides.
--- - If the axis is time, which includes its last second, the moment decides. Then the step is None if the entry has no
---   moment.
+-- - If the axis is time, the moment decides: the seconds from the axis's first moment to its last, both included, are
+--   divided into the steps. The step is None if the entry has no moment.
 abbrev pub step_at : Axis → ℕ → ℕ → ℕ → Option ℕ
 step_at (axis.Entries count) place moment steps = Some (step_of place count steps)
 step_at (axis.Time first last) place moment steps =
@@ -106,16 +109,17 @@ pub record AreStepEnds (axis : Axis) (steps : ℕ) (entries : List Entry) (step_
   pub long : length step_ends ≡ steps
   pub each : (k : ℕ) → k < steps → slice_index step_ends k ≡ cut_from axis steps k 0 entries
 
--- The list of states with point n's state replaced by `state`, if `state` has the greater number. If there is no point
--- n, the list stays the same.
+-- The list `states` with the state of point n replaced by `state`, if `state` has the greater `state_number` of the
+-- two. If there is no point n, the list stays the same.
 abbrev pub raised : List State → ℕ → State → List State
 raised states n state =
     if nat_le 1 n && nat_le n (length states) && nat_lt (state_number (slice_index_or states (n - 1) state)) (state_number state)
     then slice_set states (n - 1) state else states
 
--- The states that a step shows after an entry, made from the states that it showed before. Only the point with the
--- optional number can change: its state after the entry is shown if it has the greater number. `points` are the points
--- after the entry.
+-- The states that a step shows after an entry. `states` are the states that it showed before the entry, and `points`
+-- are the points after the entry. The third argument is the number of the one point whose state can change, or None if
+-- no state can. This point's state in `points` replaces the one in `states`, if the one in `points` has the greater
+-- `state_number`. If there is no such point, the states stay the same.
 abbrev pub with_point : List State → List PointState → Option ℕ → List State
 with_point states points None = states
 with_point states points (Some n) = elim (at_number points n) [ None ↦ states | Some p ↦ raised states n p.state ]
@@ -127,8 +131,8 @@ with_points states points [] = states
 with_points states points (entry ∷ entries) =
     with_points (with_point states (with_entry points entry) (point_changed_by_act entry.act)) (with_entry points entry) entries
 
--- The state that a step shows for each point: of the point's states before the step's entries and after each of them,
--- the one with the greatest number. `points` are the points before the entries.
+-- The state that a step shows for each point: the one with the greatest `state_number` among the states that the point
+-- has before the step's entries and after each of these entries. `points` are the points before the entries.
 abbrev pub step_shows : List PointState → List Entry → List State
 step_shows points entries = with_points (map (λ (p : PointState). p.state) points) points entries
 
@@ -136,8 +140,8 @@ step_shows points entries = with_points (map (λ (p : PointState). p.state) poin
 abbrev pub entries_between : List Entry → ℕ → ℕ → List Entry
 entries_between entries from to = take (to - from) (drop from entries)
 
--- The states that some steps show, step after step. The last list has the ends of these steps. The first of them begins
--- at place `from` of the entries. `points` are the points before all entries.
+-- The states that some steps show, step after step. The last argument has the places in `entries` where these steps
+-- end. The first step begins at place `from`. `points` are the points before all entries.
 abbrev pub steps_show : List PointState → List Entry → ℕ → List ℕ → List State
 steps_show points entries from [] = []
 steps_show points entries from (cut ∷ step_ends) =
@@ -150,7 +154,7 @@ pub record Shows (axis : Axis) (points : List PointState) (entries : List Entry)
   pub divided : AreStepEnds axis (steps_along axis) entries step_ends
   pub shown : states ≡ steps_show points entries 0 step_ends
 
--- ---- promises of private functions
+-- ---- The contracts of private functions use these definitions.
 
 -- `first`, or `moment` if `first` is 0; a `first` of 0 means that there is no first moment yet
 abbrev pub first_or : ℕ → ℕ → ℕ

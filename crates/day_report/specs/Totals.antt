@@ -88,8 +88,8 @@ pub record IsSum (sum : Sum) (part : SalesPart) (sales : List Sale) : Type 0 whe
   pub cents : sum.cents ≡ cents_in part sales
   pub centilitres : sum.centilitres ≡ centilitres_in part sales
 
--- The part whose sum is at place k of the sums by point: the sales at point k + 1. Places and hours are counted from 0,
--- points and tills from 1.
+-- The part for place k, counted from 0, in the list of sums by point: the sales at point k + 1. For the sums by till
+-- and by hour, `part_of_till` and `part_of_hour` do the same. Points and tills are counted from 1, hours from 0.
 abbrev pub part_of_point : ℕ → SalesPart
 part_of_point k = part.Point (k + 1)
 
@@ -109,7 +109,8 @@ pub record SumsUp (part_at : ℕ → SalesPart) (count : ℕ) (sums : List Sum) 
   pub long : length sums ≡ count
   pub each : (k : ℕ) (d : Sum) → k < length sums → IsSum (slice_index_or sums k d) (part_at k) sales
 
--- There are `long` counts. The count at place k says how often the number 20 + k is among the numbers.
+-- There are `long` counts, one for each refusal from S20 on. The count at place k says how often its refusal's number,
+-- 20 + k, is among `numbers`.
 abbrev pub CountsNumbers : ℕ → List ℕ → List ℕ → Type 0
 CountsNumbers long counts numbers =
     (length counts ≡ long) × ((k : ℕ) → k < length counts → slice_index counts k ≡ count_by (λ n. n == 20 + k) numbers)
@@ -158,13 +159,13 @@ carried_in o = record {
   cleared = o.cleared;
 }
 
--- ---- promises of private functions
+-- ---- The contracts of private functions use these definitions.
 
 -- the count that a map has for a version; 0 if it has none
 abbrev pub count_for : {S : Type 0} → HashMap ℕ ℕ S → ℕ → ℕ
 count_for counts v = unwrap_or (hash.get nat_eq counts v) 0
 
--- For each version the map has how many of the decisions in the part are grants by it (if `granted` is true) or denials
--- by it (if it is false). A version that isn't in the map has none.
+-- For each version, the map has how many of the decisions in the part are grants by it (if `granted` is true) or
+-- denials by it (if it is false). A version that isn't in the map has none.
 abbrev pub CountsVersions : {S : Type 0} → DecisionPart → Bool → List Decision → HashMap ℕ ℕ S → Type 0
 CountsVersions part granted decisions counts = (v : ℕ) → count_for counts v ≡ decided_by part granted v decisions

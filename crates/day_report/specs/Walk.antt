@@ -1,5 +1,5 @@
--- Definitions: how the entries of a journal, oldest first, change the points of its site (this profile). The table of
--- fuelling points defines what a command or an event does at a point.
+-- Definitions of this profile: how the entries of a journal, oldest first, change the points of its site. What a
+-- command or an event does at a point is defined by the table in `fuelling_point/specs/Table.antt`.
 use Rattle.std.specs.Prelude.{ℕ, ◌-◌, nat_lt, if◌then◌else◌, List, fold, slice_set, Option, Some, None, Ok, Err}
 use Rattle.fuelling_point.specs.Table.{PointState, event_step}
 use Rattle.fuelling_point.specs.declared.kinds.Command.{Command}

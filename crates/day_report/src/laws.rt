@@ -12,8 +12,9 @@ pub fn law_of_sales()
     ensures { SalesAgreeWithTheSite }
 {}
 
-/// Does nothing. Its contract is a law: in a legal history, all versions of rules, carried in or loaded, together
-/// granted and denied as often as an entry's reply is a grant or the refusal S24. The configuration must have no
+/// Does nothing. Its contract is a law: in any history that the site's steps can make, the decisions (grants and
+/// denials) of all versions of rules are together as many as the entries whose reply is a grant or S24 (a denial by a
+/// program). The versions are those carried in from the day before and those loaded. The configuration must have no
 /// opening, or one that a site with the configuration's points can begin with.
 pub fn law_of_decisions()
     ensures { VersionsCountAllDecisions }

@@ -69,6 +69,7 @@ pub fn axis_of(entries: &[Entry]) -> Axis
 ///
 /// - 0 if `most` is 0
 /// - otherwise `steps` if `at` isn't below `most`
+/// - otherwise `at * steps / most`, rounded down
 pub fn step_of(at: u64, most: u128, steps: usize) -> usize
     ensures step { result ≡ step_of at most steps }
     ensures within_limit { result ≤ steps }
@@ -80,7 +81,8 @@ pub fn step_of(at: u64, most: u128, steps: usize) -> usize
     (scaled / most).min(steps as u128) as usize
 }
 
-/// Returns how many steps a picture has along this axis: one for each entry or for each second, but at most 2,000.
+/// Returns how many steps a picture has along this axis: one for each entry, or one for each second that passes from
+/// the first moment to the last, but at most 2,000.
 fn steps_of(axis: Axis) -> usize
     ensures { result ≡ steps_along axis }
 {
@@ -141,8 +143,10 @@ fn step_ends(
     Ok(step_ends)
 }
 
-/// The states that a picture shows of `points` points in `steps` steps: first the states of all points in step 0, point
-/// 1 first, then those in step 1, and so on.
+/// The states that a picture shows:
+///
+/// - `points` and `steps`: how many points and how many steps the picture has
+/// - `states`: first the states of all points in step 0, point 1 first, then those in step 1, and so on
 #[derive(Drop)]
 pub struct Bands {
     pub points: usize,
@@ -168,8 +172,8 @@ fn point_of(entry: &Entry) -> Option<u32>
     }
 }
 
-/// Sets the state of point `n` in `states` to `state`, if `state` has a greater number than the state it replaces. If
-/// there is no point `n`, nothing changes.
+/// Sets the state of point `n` in `states` to `state`, if `state` has a greater `State::number` than the state it
+/// replaces. If there is no point `n`, nothing changes.
 fn raise(states: &mut [State], n: u32, state: State)
     ensures { states.new ≡ raised states.old n state }
 {
@@ -178,8 +182,8 @@ fn raise(states: &mut [State], n: u32, state: State)
     }
 }
 
-/// Sets the state of point `n` in `states` to its state in `points`, if the one in `points` has the greater number. If
-/// `n` is `None` or there is no such point, nothing changes.
+/// Sets the state of point `n` in `states` to its state in `points`, if the one in `points` has the greater
+/// `State::number`. If `n` is `None` or there is no such point, nothing changes.
 fn show_point(states: &mut [State], points: &[Point], n: Option<u32>)
     ensures { states.new ≡ with_point states.old points.now n }
 {
@@ -192,8 +196,8 @@ fn show_point(states: &mut [State], points: &[Point], n: Option<u32>)
 }
 
 /// Applies the entries of a step to the points. After each entry, the new state of the point that the entry can change
-/// replaces the point's state in `states`, if the new one has the greater number. The last transaction number of each
-/// point, plus the number of entries, must be at most 2^32 - 1.
+/// replaces the point's state in `states`, if the new one has the greater `State::number`. The last transaction number
+/// of each point, plus the number of entries, must be at most 2^32 - 1.
 fn replay_step(points: &mut [Point], states: &mut [State], entries: &[Entry])
     requires within_limit { HaveFreeNumbers points.old (length entries.now) }
     ensures replayed { points.new ≡ replayed points.old entries.now }
@@ -217,9 +221,10 @@ fn states_of(alloc: Global, points: &[Point]) -> Result<Vec<State>, AllocError>
     Ok(states)
 }
 
-/// Applies the entries of a step to the points. Returns for each point the state with the greatest number among its
-/// states before the entries and after each of them. The last transaction number of each point, plus the number of
-/// entries, must be at most 2^32 - 1. The error is that memory ran out; then nothing is promised about the points.
+/// Applies the entries of a step to the points. Returns for each point the state with the greatest `State::number`
+/// among its states before the entries and after each of them. The last transaction number of each point, plus the
+/// number of entries, must be at most 2^32 - 1. The error is that memory ran out; then nothing is promised about the
+/// points.
 fn step_states(
     alloc: Global,
     points: &mut [Point],
@@ -236,9 +241,10 @@ fn step_states(
     Ok(states)
 }
 
-/// Returns what the picture of the history of a site of this configuration shows for each step of the axis and each
-/// point: of the point's states before the step's entries and after each of them, the one with the greatest number.
-/// There must be at most 1,048,576 entries. The error is that memory ran out.
+/// Returns the states that the picture of a day shows: for each step of the axis and each point, the state with the
+/// greatest `State::number` among those that the point has before the step's entries and after each of these entries.
+/// `entries` is the history of a site of this configuration; it must have at most 1,048,576 entries. The error is that
+/// memory ran out.
 pub fn states_by_step(
     alloc: Global,
     config: &Config,

@@ -39,7 +39,7 @@ same_tail w v ws vs h = cc
 one_reading : (r : Result Line LineFault) (l m : Line) → r ≡ Ok l → r ≡ Ok m → l ≡ m
 one_reading r l m h k = cc
 
--- lines with one spelling are the same line
+-- if two lines have the same spelling, and both are read back from it, then they are the same line
 one_line : (l m : Line) → ReadsBack l → ReadsBack m → line_spelling m ≡ line_spelling l → m ≡ l
 one_line l m h k e = one_reading (line_read (line_spelling m)) m l k (ap line_read e ∙ h)
 
@@ -49,7 +49,10 @@ not_none ws vs some h = let e : length (vs ++ ws) ≡ 0 = ap length (sym h) in a
 pieces : (bs : List ℕ) → 0 < length (slice_split (λ b. eqb b 10) bs)
 pieces bs = omega (arith, length-slice_split (λ b. eqb b 10) bs)
 
--- Where the pieces of a text are the spellings of `ms`, and begin with those of `ls`, the lines `ms` begin with `ls`.
+-- `ms` begins with the lines `ls`, and the spellings of its further lines, followed by an empty piece, are `ws`, if
+-- - the spellings of `ms`, followed by an empty piece, are the spellings of `ls`, followed by `ws`
+-- - `ws` has at least one piece
+-- - each line of `ls` and each line of `ms` is read back from its spelling
 prefix : (ls ms : List Line) (ws : List (List ℕ)) → AllByRecursion ReadsBack ls → AllByRecursion ReadsBack ms → 0 < length ws
     → map line_spelling ms ++ [] ∷ [] ≡ map line_spelling ls ++ ws → (more : List Line) × (ms ≡ ls ++ more) × (map line_spelling more ++ [] ∷ [] ≡ ws)
 prefix [] ms ws hl hm some h = (ms, refl, h)
@@ -61,8 +64,8 @@ prefix (l ∷ ls) (m ∷ ms) ws hl hm some h =
     prefix ls ms ws hl.1 hm.1 some (same_tail (line_spelling m) (line_spelling l) (map line_spelling ms ++ [] ∷ []) (map line_spelling ls ++ ws) h) in
     (rest.0, ap (λ x. x ∷ ms) first ∙ ap (λ xs. l ∷ xs) rest.1, rest.2)
 
--- The opening has the lines in `taken`, and then those in `more`. These can come after them, and are the lines of
--- `rest`.
+-- The opening has the lines in `taken`, and then those in `more`. The lines in `more` can come after those in `taken`,
+-- and are the lines of the text `rest`.
 record Begins (f : OpeningFile) (taken : List Line) (rest : List ℕ) : Type 0 where
   more : List Line
   lines : opening_lines f ≡ taken ++ more
@@ -116,7 +119,7 @@ cut_none text n cut f good fits is =
     by_more (l ∷ ls) e =
         not_none ([] ∷ []) (map line_spelling ls) (omega arith) (sym (same_tail (line_spelling l) cut.line (map line_spelling ls ++ [] ∷ []) [] e))
 
--- a line whose program is refused can't come next
+-- if the verifier refuses a line's program, then the line can't come next
 refused_stands : (r : ReadingValue) (l : Line) (refusal : Refusal) → IsRefusedIn (program_in l) refusal → IsAllowedNext r l → ⊥
 refused_stands r (lines.Day n) refusal h c = h
 refused_stands r (lines.Cleared total count) refusal h c = h
@@ -153,7 +156,7 @@ one_file text n r has f good fits is =
     by_more (l ∷ ls) e h =
         absurd (not_none ([] ∷ []) (map line_spelling ls) (omega arith) (sym (same_tail (line_spelling l) [] (map line_spelling ls ++ [] ∷ []) [] h)))
 
--- openings with one text are the same
+-- if two openings have the same text, then they are the same
 pub one_opening : (f g : OpeningFile) → IsOpeningFile f → FileFits f → IsOpeningFile g → FileFits g → opening_text f ≡ opening_text g → f ≡ g
 one_opening f g good fits good' fits' is =
     let leads = opening_leads f good in
@@ -167,13 +170,14 @@ one_opening f g good fits good' fits' is =
     } in
     ap (λ (r : ReadingValue). r.file) (one_file (opening_text f) (min (length (opening_lines f) + 1) 4294967295) (record { next = 61; file = f }) has g good' fits' (sym is))
 
--- if the whole text was read, and no last line of an opening was among its lines, then no opening has the text
+-- if a whole text was read, but not the line that ends an opening (`r.next` isn't 61), then no opening has the text
 pub short_none : (text : List ℕ) (n : ℕ) (r : ReadingValue) → HasRead text [] n r → ¬ (r.next ≡ 61) → HasNoOpening text
 short_none text n r has open_yet f good fits is = open_yet (ap (λ (x : ReadingValue). x.next) (one_file text n r has f good fits is))
 
--- ---- the line of a flaw
+-- ---- if `Flawed` holds of a text and a flaw, then `IsFlaw` holds of them too
 
--- From any place on, there are lines that can come one after another, up to the last line of an opening.
+-- Whatever has been read, some lines can come next, one after another, up to an opening's last line. `k` is the least
+-- place that the next line can have, or 61 after the last line: then no line has to come.
 ends : (k : ℕ) (f : OpeningFile) → k ≤ 61 → (more : List Line) × AreAllowedInOrder (record { next = k; file = f }) more
     × ((after_lines (record { next = k; file = f }) more).next ≡ 61)
 ends zero f le = (
@@ -198,7 +202,7 @@ stand_on : (r : ReadingValue) (ls ms : List Line) → AreAllowedInOrder r ls →
 stand_on r [] ms h k = k
 stand_on r (l ∷ ls) ms h k = (h.0, stand_on (after_line r l) ls ms h.1 k)
 
--- lines that can come one after another from the beginning are the first lines of an opening
+-- if lines can come one after another from the beginning, then they are the first lines of an opening
 begin_one : (ls : List Line) → AreAllowedInOrder nothing_read ls → BeginOne ls
 begin_one ls h =
     let r : ReadingValue = after_lines nothing_read ls in
@@ -237,7 +241,7 @@ bad_piece text n bad = record {
   so = follows bad.read.taken bad.read.back bad.r bad.read.is bad.line bad.bad (slice_split (λ b. eqb b 10) bad.behind);
 }
 
--- an empty line is no line
+-- if a line is read back from its spelling, then its spelling isn't empty
 empty_line : (l : Line) → ReadsBack l → line_spelling l ≡ [] → ⊥
 empty_line l back is = let e : line_read [] ≡ Ok l = ap line_read (sym is) ∙ back in absurd (cc)
 

@@ -1,4 +1,6 @@
--- The lines of numbered items: of two lists behind one another, and of a list that changes at its end.
+-- The lines of numbered items. Two lists joined have the lines of the first list, and then those of the second, whose
+-- numbers go on. If an item gets more lines after its own, and no later item has lines, then these are added at the end
+-- of the list's lines.
 use Rattle.std.proofs.Common.{◌≡◌, ℕ, zero, suc, ◌+◌, ◌-◌, ◌<◌, ◌≤◌, set, subst, List, []}
 use Rattle.std.proofs.Common.{◌∷◌, ◌++◌, length, take, get_or, refl, sym, ◌∙◌, ap, append_assoc, append-nil, arith}
 use Rattle.std.proofs.lemmas.List.{length-take-le, take_more}
@@ -16,7 +18,8 @@ numbered_both w n (x ∷ xs) ys =
     ap (λ ls. w n x ++ ls) (numbered_both w (n + 1) xs ys ∙ ap (λ k. numbered_lines w (n + 1) xs ++ numbered_lines w k ys) (on n (length xs) (length (x ∷ xs)) (omega arith)))
     ∙ sym (append_assoc (w n x) (numbered_lines w (n + 1) xs) (numbered_lines w (n + length (x ∷ xs)) ys))
 
--- the lines of the first i + 1 items are those of the first i items, followed by those of the next item
+-- if a list has more than i items, then the lines of its first i + 1 items are those of its first i items, followed by
+-- those of the next item
 pub numbered_more : {T : Type 0} (w : ℕ → T → List Line) (n : ℕ) (xs : List T) (i : ℕ) (d : T) → i < length xs
     → numbered_lines w n (take (i + 1) xs) ≡ numbered_lines w n (take i xs) ++ w (n + i) (get_or xs i d)
 numbered_more w n xs i d lt =
@@ -25,13 +28,13 @@ numbered_more w n xs i d lt =
     ∙ ap (λ k. numbered_lines w n (take i xs) ++ (w (n + k) (get_or xs i d) ++ [])) short
     ∙ ap (λ ls. numbered_lines w n (take i xs) ++ ls) (append-nil (w (n + i) (get_or xs i d)))
 
--- ---- items without lines
+-- ---- if no item from a place on has lines, the lines of a new item there are added at the end of the list's lines
 
 pub both_none : {T : Type 0} (xs ys : List T) → xs ++ ys ≡ [] → (xs ≡ []) × (ys ≡ [])
 both_none [] ys h = (refl, h)
 both_none (x ∷ xs) ys h = absurd (cc)
 
--- From place i of the list on, no item has a line; the first item of the list has the number n.
+-- From place i of the list on, counted from 0, no item has a line. The first item of the list has the number n.
 abbrev pub NoneFrom : {T : Type 0} → (ℕ → T → List Line) → ℕ → ℕ → List T → Type 0
 NoneFrom w n zero xs = numbered_lines w n xs ≡ []
 NoneFrom w n (suc i) [] = Unit {0}
@@ -63,7 +66,8 @@ none_set w n i [] v h = tt
 none_set w n zero (x ∷ xs) v h = h
 none_set w n (suc i) (x ∷ xs) v h = none_set w (n + 1) i xs v h
 
--- if the item at place i gets more lines, and no item after it has lines, then these lines are added at the end
+-- Let no item after place i have lines. If the new item at place i has the lines of the old one, followed by the lines
+-- `more`, then `more` is added at the end of the list's lines.
 pub numbered_set : {T : Type 0} (w : ℕ → T → List Line) (n i : ℕ) (xs : List T) (d v : T) (more : List Line) → i < length xs
     → w (n + i) v ≡ w (n + i) (get_or xs i d) ++ more → NoneFrom w n (suc i) xs → numbered_lines w n (set xs i v) ≡ numbered_lines w n xs ++ more
 numbered_set w n zero [] d v more lt e h = absurd (omega arith)
@@ -77,7 +81,8 @@ numbered_set w n (suc i) (x ∷ xs) d v more lt e h =
     let own : w (n + 1 + i) v ≡ w (n + 1 + i) (get_or xs i d) ++ more = subst (λ k. w k v ≡ w k (get_or xs i d) ++ more) z e in
     ap (λ ls. w n x ++ ls) (numbered_set w (n + 1) i xs d v more (omega arith) own h) ∙ sym (append_assoc (w n x) (numbered_lines w (n + 1) xs) more)
 
--- if no item from place i on has lines, then the lines of a new item at place i are added at the end
+-- if no item from place i on has lines, then the lines of a new item at place i are added at the end of the list's
+-- lines
 pub numbered_placed : {T : Type 0} (w : ℕ → T → List Line) (n i : ℕ) (xs : List T) (d v : T) → i < length xs → NoneFrom w n i xs
     → numbered_lines w n (set xs i v) ≡ numbered_lines w n xs ++ w (n + i) v
 numbered_placed w n i xs d v lt h =

@@ -92,7 +92,8 @@ one_line (lines.Unpaid n t) h =
     (large n h.0, (small t.number h.1, (large t.amount h.2, (large t.volume h.3, (small t.holder h.4, tt)))))
 one_line (lines.Journal n digest) h = without_join 10 32 (codes "journal") (decimal n ∷ encode_lower digest ∷ []) refl refl (small n h.0, (hex digest h.1, tt))
 
--- a text of lines, split at its LFs, gives the lines, and nothing behind the last LF
+-- if the numbers of these lines are in range, then their text, split at its LFs, gives the lines, and an empty piece
+-- after the last LF
 pub split_text : (ls : List Line) → AllByRecursion LineFits ls → slice_split (λ b. eqb b 10) (flat_map line_text ls) ≡ map line_spelling ls ++ [] ∷ []
 split_text [] h = refl
 split_text (l ∷ ls) h =

@@ -1,4 +1,5 @@
--- The lines that were read of a text, and the flaw of the line after them.
+-- A text is read line by line. If the next line is taken, then the text was read up to the end of this line. If the
+-- next line has a flaw, then the text has this flaw.
 use Rattle.std.proofs.Common.{◌≡◌, ℕ, ◌+◌, List, [], ◌∷◌, ◌++◌, length, map, min, eqb, MatchOption}
 use Rattle.std.proofs.Common.{Option, Some, Err, refl, sym, ◌∙◌, ap, subst, append_assoc, length-append, arith}
 use Rattle.std.specs.List.{AllByRecursion, slice_split}
@@ -9,9 +10,6 @@ use Rattle.days.specs.declared.file.OpeningFlaw.TheVariants as flaws
 use Rattle.days.specs.Reading.{AreAllowedInOrder, IsAllowedNext, Flawed, HasRead, IsRefusedIn, Takes}
 use Rattle.days.specs.Reading.{program_in, ReadingValue, ReadsBack, after_line, after_lines, nothing_read}
 use Rattle.days.specs.Text.{line_spelling}
-
-pub read_none : (text : List ℕ) (r : ReadingValue) → r ≡ nothing_read → HasRead text text 1 r
-read_none text r e = record { taken = []; split = refl; back = tt; allowed = tt; is = e; number_is = refl }
 
 stand_more : (r : ReadingValue) (ls : List Line) (l : Line) → AreAllowedInOrder r ls → IsAllowedNext (after_lines r ls) l → AreAllowedInOrder r (ls ++ l ∷ [])
 stand_more r [] l h k = (k, tt)

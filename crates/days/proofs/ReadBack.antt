@@ -29,7 +29,8 @@ use Rattle.days.specs.Parsing.{order_read, point_begun, point_ended, point_with,
 use Rattle.days.specs.Reading.{ReadsBack}
 use Rattle.days.specs.Text.{order_word, yes_or_no}
 
--- The numbers of a point's own line are in range.
+-- The snapshot `s` fits into a point's line: its numbers are in range, and it has no unpaid transactions, which would
+-- need lines of their own.
 pub record ValuesFit (s : Snapshot) : Type 0 where
   pub nozzle : s.nozzle < 2 ^ 32
   pub preset : s.preset < 2 ^ 64
@@ -99,7 +100,7 @@ state_small states.SuspendedFuelling = lit< tt
 bytes_back : (bytes : List ℕ) → IsBytes bytes → bytes_by (encode_lower bytes) ≡ Ok bytes
 bytes_back bytes h = ap bytes_from (decode_of-encode_lower bytes h)
 
--- a word of `authorise:` and digits is longer than ten bytes
+-- if the word `w` isn't empty, then `authorise:` and `w` together have more than ten bytes
 long_word : (w : List ℕ) → 0 < length w → nat_lt 10 (length (codes "authorise:" ++ w)) ≡ true
 long_word [] h = absurd (omega arith)
 long_word (x ∷ w) h = let m : 10 < length (codes "authorise:" ++ x ∷ w) = omega arith in search (rules, common_steps)
@@ -168,7 +169,8 @@ journal_back n digest h b e =
     small n (λ x. digest_by (encode_lower digest) >>= (λ d. Ok (lines.Journal x d))) h
     ∙ bound (digest_by (encode_lower digest)) digest (λ d. Ok (lines.Journal n d)) (digest_back digest b e)
 
--- What has been read of a point's line before its last five words. The other values are 0, false or nothing.
+-- What has been read of a point's line before its last five words: `state`, `nozzle`, `preset` and `limit`. The values
+-- that haven't been read yet are 0, false or None. `s` isn't used.
 abbrev begun : Snapshot → State → ℕ → ℕ → ℕ → Snapshot
 begun s state nozzle preset limit = record {
   state = state;

@@ -21,7 +21,7 @@ use Rattle.days.specs.Reading.{AreAllowedInOrder, IsAllowedNext, ReadingValue, a
 use Rattle.days.specs.Text.{counter_lines, head_lines, numbered_lines, opening_lines, own_values, point_lines, price_lines, version_lines}
 use Rattle.days.proofs.Taken.{one_counter, one_price}
 
--- The lines can all come, one after another, when `r` has been read, and what has been read after them is `s`.
+-- When `r` has been read, the lines `ls` can all come, one after another. Once they are read too, `s` has been read.
 pub record Leads (r : ReadingValue) (ls : List Line) (s : ReadingValue) : Type 0 where
   pub allowed : AreAllowedInOrder r ls
   pub after : after_lines r ls ≡ s
@@ -43,7 +43,7 @@ leads_both r s t ls ms h k = record {
 leads_one : (r s : ReadingValue) (l : Line) → IsAllowedNext r l → after_line r l ≡ s → Leads r (l ∷ []) s
 leads_one r s l h e = record { allowed = (h, tt); after = e }
 
--- ---- lists whose items are put in their places one after another
+-- ---- if each item of a list fills its place (`Fills`), then all of the list's lines can come one after another
 
 set_front : {T : Type 0} (xs : List T) (i : ℕ) (x y : T) (rest : List T) → length xs ≡ i → set (xs ++ x ∷ rest) i y ≡ (xs ++ y ∷ []) ++ rest
 set_front [] zero x y rest e = refl
@@ -51,14 +51,18 @@ set_front [] (suc i) x y rest e = absurd (omega (arith, e))
 set_front (z ∷ xs) zero x y rest e = absurd (omega (arith, e))
 set_front (z ∷ xs) (suc i) x y rest e = ap (λ ys. z ∷ ys) (set_front xs i x y rest (omega (arith, e)))
 
--- The item has no line, and is as if it hadn't been read. Or it has one line, which can come next and puts it in its
--- place i.
+-- `St k ys` is what has been read when the list has the items `ys`, and k is the least place that the next line can
+-- have. `w number x` is the lines of the item `x` with the number `number`. Either `x` has no line, and is `blank`, as
+-- if it hadn't been read. Or `x` has one line, which can come next and puts `x` in place i of `ys`. The least place
+-- that the next line can have is then `base` + i + 1.
 abbrev Fills : {T : Type 0} → (ℕ → List T → ReadingValue) → (ℕ → T → List Line) → T → ℕ → ℕ → ℕ → ℕ → List T → T → Type 0
 Fills St w blank base k i number ys x =
     ((w number x ≡ []) × (x ≡ blank))
     ⊎ ((l : Line) × (w number x ≡ l ∷ []) × IsAllowedNext (St k ys) l × (after_line (St k ys) l ≡ St (base + i + 1) (set ys i x)))
 
--- The lines lead from `r` to the list with the items `ys`. The next place is then from 3 to `most`.
+-- The lines `ls` lead from `r` to `St j ys`, for some j from 3 to `most`. `St j ys` is what has been read when one list
+-- of the opening (its slots, products or counters) has the items `ys`, and j is the least place that the next line can
+-- have.
 abbrev Filled : {T : Type 0} → (ℕ → List T → ReadingValue) → ReadingValue → List Line → ℕ → List T → Type 0
 Filled St r ls most ys = (j : ℕ) × (3 ≤ j) × (j ≤ most) × Leads r ls (St j ys)
 
@@ -97,7 +101,8 @@ fill_on St w blank base count k i number xs x zs e ge le on (inr one) =
           (subst (λ b. Leads (St (base + i + 1) ((xs ++ x ∷ []) ++ replicate (length zs) blank)) (numbered_lines w (number + 1) zs) (St rest.0 b)) (append_assoc xs (x ∷ []) zs) rest.3)),
     )
 
--- Each of the items is good for the list that has the items before it in their places, and blanks behind them.
+-- `Good` holds for each item of `zs` and the list into which this item is put. The list has the items `xs`, then the
+-- items of `zs` before this one, and then `blank` for this item and for each later one.
 abbrev AllPlaced : {T : Type 0} → (List T → T → Type 0) → T → List T → List T → Type 0
 AllPlaced Good blank xs [] = Unit {0}
 AllPlaced Good blank xs (x ∷ zs) = Good (xs ++ replicate (length (x ∷ zs)) blank) x × AllPlaced Good blank (xs ++ x ∷ []) zs
@@ -117,7 +122,7 @@ fill St w blank n base count Good item k i number xs (x ∷ zs) e ge le total at
     (omega (arith, le')) (omega (arith, total)) (omega (arith, at)) good.1)
     (item k i number (xs ++ replicate (length (x ∷ zs)) blank) x ge le (omega (arith, total)) at good.0)
 
--- ---- slots, products and counters
+-- ---- `Fills` holds for the slots, products and counters that are allowed in an opening
 
 -- What has been read of an opening's file before its last line, with these slots, prices, counters and points. The next
 -- place is k.
@@ -146,12 +151,12 @@ no_prices = replicate 8 0
 abbrev no_counters : List (ℕ × ℕ)
 no_counters = replicate 32 (0, 0)
 
--- The slot has no version, or a good one with a number that none of the slots has yet.
+-- The slot has no version, or one for which `IsRule` holds, with a number that none of the slots has yet.
 abbrev IsPlacedRule : ℕ → List (Option Version) → Option Version → Type 0
 IsPlacedRule versions ys None = Unit {0}
 IsPlacedRule versions ys (Some v) = IsRule versions (Some v) × IsNewNumber ys v.number
 
--- a number that is new to a list of slots isn't the number of any version in it
+-- if no version in a list of slots has the number n, then the version `v` in the list doesn't have it
 new_past : (xs zs : List (Option Version)) (v : Version) (n : ℕ) → IsNewNumber (xs ++ Some v ∷ zs) n → (n == v.number) ≡ false
 new_past [] zs v n h = h.0
 new_past (None ∷ xs) zs v n h = new_past xs zs v n h
@@ -161,7 +166,7 @@ none_new : (k n : ℕ) → IsNewNumber (replicate k None) n
 none_new zero n = tt
 none_new (suc k) n = none_new k n
 
--- the number of a version is new to the slots before it
+-- if no two versions in a list of slots have the same number, then no version before `v` has the number of `v`
 new_behind : (xs zs : List (Option Version)) (v : Version) (k : ℕ) → HaveOwnNumbers (xs ++ Some v ∷ zs) → IsNewNumber (xs ++ replicate k None) v.number
 new_behind [] zs v k h = none_new k v.number
 new_behind (None ∷ xs) zs v k h = new_behind xs zs v k h
@@ -225,7 +230,7 @@ counter_fills f k i number ys (v, suc b) ge le lt at good =
           ∙ ap (λ m. stage f f.opening.rules f.opening.prices (set ys m (v, suc b)) [] (27 + i + 1)) same,
     )
 
--- ---- points
+-- ---- the lines of an opening's points can come one after another, and are read as these points
 
 abbrev owes : PointState → List Transaction → PointState
 owes p us = record p { unpaid = us }
@@ -314,7 +319,7 @@ points_lead f k n xs (p ∷ zs) ge le at last good =
           (point_leads f k n xs p p.unpaid ge le at (all_first (λ (q : PointState). q.last ≤ 4290000000) p zs last) (all_first IsPointState p zs good)) rest.3),
     )
 
--- ---- all lines
+-- ---- all lines of an opening can come one after another, and are read as that opening
 
 pub each : {T : Type 0} (P : T → Type 0) (xs : List T) → All P xs → AllByRecursion P xs
 each P [] h = tt

@@ -31,7 +31,8 @@ use Rattle.days.proofs.Numbered.{NoneFrom, none_more, none_placed, numbered_both
 abbrev pub ending : ℕ → OpeningFile → List Line
 ending next f = cond (nat_lt 60 next) (lines.Journal f.entries f.digest ∷ []) []
 
--- The lines of what was read, from those of points on. Below: the same from those of counters, products and slots on.
+-- The lines of what was read, from those of points on. `counters_on`, `prices_on` and `rules_on` start earlier: with
+-- the lines of counters, of products and of slots.
 abbrev pub points_on : ℕ → OpeningFile → List Line
 points_on next f = numbered_lines point_lines 1 f.opening.points ++ ending next f
 
@@ -44,12 +45,14 @@ prices_on next f = numbered_lines price_lines 1 f.opening.prices ++ counters_on 
 abbrev pub rules_on : ℕ → OpeningFile → List Line
 rules_on next f = numbered_lines version_lines 0 f.opening.rules ++ prices_on next f
 
--- The lines of what was read.
+-- The lines of what was read: the first three (only the first `r.next` of them, if that is less), then those of slots,
+-- products, counters and points, and the last line if it was read.
 abbrev pub lines_read : ReadingValue → List Line
 lines_read r = take r.next (head_lines r.file) ++ rules_on r.next r.file
 
--- What holds of what has been read, after any number of lines. No slot, product or counter whose place is `next` or a
--- later one has a line yet. There are points only if `next` is 59 or more.
+-- What holds of what has been read, `r`, after any number of lines. The values that were read are allowed in an
+-- opening. No slot, product or counter whose place is `next` or a later one has a line yet. There are points only if
+-- `next` is 59 or more.
 pub record IsReading (r : ReadingValue) : Type 0 where
   pub few : r.next ≤ 61
   pub day : 1 ≤ r.next → 2 ≤ r.file.day
@@ -73,20 +76,21 @@ pub record IsReading (r : ReadingValue) : Type 0 where
   pub rules : All (IsRule r.file.opening.versions) r.file.opening.rules
   pub distinct : HaveOwnNumbers r.file.opening.rules
 
--- `IsReading` holds after the line. `lines_read` is then what it was before, with this line added at its end.
+-- `IsReading` holds of what has been read after the line `l`: its values are allowed in an opening, and no place that
+-- comes later has a line yet. Its lines are those of `r`, and then `l`.
 pub record AddsLine (r : ReadingValue) (l : Line) : Type 0 where
   pub is : IsReading (after_line r l)
   pub lines : lines_read (after_line r l) ≡ lines_read r ++ l ∷ []
 
--- a line in front of nothing is the last one
+-- if `ys` is empty, then `xs`, `l` and `ys` in this order are the same list as `xs`, `ys` and `l`
 snoc : (xs ys : List Line) (l : Line) → ys ≡ [] → (xs ++ l ∷ []) ++ ys ≡ (xs ++ ys) ++ l ∷ []
 snoc xs ys l h = ap (λ zs. (xs ++ l ∷ []) ++ zs) h ∙ append-nil (xs ++ l ∷ []) ∙ ap (λ zs. zs ++ l ∷ []) (sym (append-nil xs) ∙ ap (λ zs. xs ++ zs) (sym h))
 
--- if a list ends in a line, it still does with another list in front of it
+-- if `ys` is `zs` followed by the line `l`, then `xs` and `ys` together are `xs` and `zs` together, followed by `l`
 behind : (xs ys zs : List Line) (l : Line) → ys ≡ zs ++ l ∷ [] → xs ++ ys ≡ (xs ++ zs) ++ l ∷ []
 behind xs ys zs l h = ap (λ ws. xs ++ ws) h ∙ sym (append_assoc xs zs (l ∷ []))
 
--- if the first three lines were read, `lines_read` begins with all of them
+-- if the first three lines were read, `lines_read` begins with all three
 heads : (r : ReadingValue) → 3 ≤ r.next → take r.next (head_lines r.file) ≡ head_lines r.file
 heads r h = take_all r.next (head_lines r.file) h
 
@@ -105,12 +109,12 @@ no_prices_on : (next : ℕ) (f : OpeningFile) → numbered_lines price_lines 1 f
     → prices_on next f ≡ []
 no_prices_on next f p c h k = ap (λ ls. ls ++ counters_on next f) p ∙ no_counters_on next f c h k
 
--- if no item has a line from the first place on, then the list has no lines
+-- if no item from index i on has lines, and i is 0, then the list has no lines
 none_yet : {T : Type 0} (w : ℕ → T → List Line) (n i : ℕ) (xs : List T) → i ≡ 0 → NoneFrom w n i xs → numbered_lines w n xs ≡ []
 none_yet w n i xs e h = subst (λ j. NoneFrom w n j xs) e h
 
--- if a list gets one more line at its end, and the list behind it is empty before and after, then the two together get
--- this line at their end
+-- if `ps'` is `ps` followed by the line `l`, and `xs` and `xs'` are empty, then `ps'` and `xs'` together are `ps` and
+-- `xs` together, followed by `l`
 grown : (ps ps' xs xs' : List Line) (l : Line) → ps' ≡ ps ++ l ∷ [] → xs' ≡ [] → xs ≡ [] → ps' ++ xs' ≡ (ps ++ xs) ++ l ∷ []
 grown ps ps' xs xs' l e h' h =
     ap (λ zs. ps' ++ zs) h' ∙ append-nil ps' ∙ e ∙ ap (λ zs. zs ++ l ∷ []) (sym (append-nil ps) ∙ ap (λ zs. ps ++ zs) (sym h))
@@ -120,7 +124,7 @@ headed : (r : ReadingValue) (next : ℕ) (f : OpeningFile) (ys ys' : List Line) 
 headed r next f ys ys' l h k e g =
     ap (λ t. t ++ ys') (take_all next (head_lines f) k ∙ e ∙ sym (heads r h)) ∙ behind (take r.next (head_lines r.file)) ys' ys l g
 
--- ---- the first three lines
+-- ---- if `IsReading` holds, then `AddsLine` holds for a first, second or third line that can come next
 
 day_goes : (f : OpeningFile) (n : ℕ) → IsReading (record { next = 0; file = f }) → 2 ≤ n → AddsLine (record { next = 0; file = f }) (lines.Day n)
 day_goes f n h k = record {
@@ -208,7 +212,7 @@ versions_goes f n h k = record {
   lines = snoc (lines.Day f.day ∷ lines.Cleared f.opening.cleared f.opening.clears ∷ []) (rules_on 2 f) (lines.Versions n) (h.early (lit≤ tt));
 }
 
--- ---- the lines of slots, products and counters
+-- ---- if `IsReading` holds, then `AddsLine` holds for a line of a slot, product or counter that can come next
 
 version_goes : (r : ReadingValue) (slot number mask : ℕ) (layout : Layout) (bytes : List ℕ) → IsReading r
     → IsAllowedNext r (lines.Version slot number mask layout bytes) → AddsLine r (lines.Version slot number mask layout bytes)
@@ -364,9 +368,10 @@ counter_goes r n value bound h c =
           (no_points_on r.next f points (omega (arith, c.1, c.2))))));
     }
 
--- ---- the lines of points
+-- ---- if `IsReading` holds, then `AddsLine` holds for a line of a point or unpaid transaction that can come next
 
--- a point without unpaid transactions has one line, which is the one that it was read from
+-- if the snapshot `s` has no unpaid transactions, then an opening has one line for its point: the line of point n with
+-- the values of `s`
 own_line : (n : ℕ) (s : Snapshot) → s.unpaid ≡ None ∷ None ∷ [] → point_lines n (snapshot_state s) ≡ lines.Point n s ∷ []
 own_line n s h =
     ap (λ (u : List (Option Transaction)). point_lines n (snapshot_state (record s { unpaid = u }))) h
@@ -418,11 +423,11 @@ point_goes r n s h c =
           refl (no_ending r.next f (omega (arith, c.1)))))));
     }
 
--- one more unpaid transaction adds one line
+-- a point `p` with one more unpaid transaction `t` has the lines of `p` in an opening, followed by the line of `t`
 unpaid_line : (n : ℕ) (p : PointState) (t : Transaction) → point_lines n (with_unpaid p t) ≡ point_lines n p ++ lines.Unpaid n t ∷ []
 unpaid_line n p t = ap (λ ls. lines.Point n (own_values p) ∷ ls) (map-append (λ u. lines.Unpaid n u) p.unpaid (t ∷ []))
 
--- after the last item of a list no item has lines
+-- if a list has at most i items, then no item from index i on has lines
 none_past : {T : Type 0} (w : ℕ → T → List Line) (n i : ℕ) (xs : List T) → length xs ≤ i → NoneFrom w n i xs
 none_past w n zero [] h = refl
 none_past w n zero (x ∷ xs) h = absurd (omega arith)
@@ -475,7 +480,7 @@ unpaid_goes f n t h c =
           (none_past point_lines 1 (suc (n - 1)) f.opening.points (omega (arith, c.1, c.2)))) refl refl))));
     }
 
--- ---- the last line
+-- ---- if `IsReading` holds, then `AddsLine` holds for the last line if it can come next
 
 journal_goes : (r : ReadingValue) (entries : ℕ) (digest : List ℕ) → IsReading r → IsAllowedNext r (lines.Journal entries digest)
     → AddsLine r (lines.Journal entries digest)
@@ -515,7 +520,7 @@ journal_goes r entries digest h c =
           (ap (λ ls. ls ++ l ∷ []) (sym (no_ending r.next f c.1)))))));
     }
 
--- ---- all lines
+-- ---- if `IsReading` holds, then `AddsLine` holds for any line that can come next
 
 pub goes : (r : ReadingValue) (l : Line) → IsReading r → IsAllowedNext r l → AddsLine r l
 goes r (lines.Day n) h c =
@@ -539,7 +544,8 @@ goes r (lines.Unpaid n t) h c =
     subst Q (sym c.0) (unpaid_goes r.file n t (subst P c.0 h) (refl, c.1, c.2, c.3))
 goes r (lines.Journal entries digest) h c = journal_goes r entries digest h c
 
--- `IsReading` holds after these lines. `lines_read` is then what it was before, with these lines added at its end.
+-- `IsReading` holds of what has been read after the lines `ls`: its values are allowed in an opening, and no place that
+-- comes later has a line yet. Its lines are those of `r`, and then `ls`.
 pub record AddsAllLines (r : ReadingValue) (ls : List Line) : Type 0 where
   pub is : IsReading (after_lines r ls)
   pub lines : lines_read (after_lines r ls) ≡ lines_read r ++ ls
@@ -553,7 +559,7 @@ all_gone r (l ∷ ls) h s =
       lines = rest.lines ∙ ap (λ ms. ms ++ ls) one.lines ∙ append_assoc (lines_read r) (l ∷ []) ls;
     }
 
--- `IsReading` holds before the first line
+-- `IsReading` holds before the first line, when nothing has been read
 pub nothing_is : IsReading nothing_read
 nothing_is = record {
   few = lit≤ tt;
@@ -579,7 +585,7 @@ nothing_is = record {
   distinct = own_none;
 }
 
--- the lines that were read up to the last one are those of the opening
+-- if lines were taken, up to an opening's last line, then they are the lines of the opening that was read
 pub whole_lines : (r : ReadingValue) (ls : List Line) → r ≡ after_lines nothing_read ls → AreAllowedInOrder nothing_read ls → r.next ≡ 61 → opening_lines r.file ≡ ls
 whole_lines r ls e s last =
     let gone : AddsAllLines nothing_read ls = all_gone nothing_read ls nothing_is s in
@@ -606,11 +612,11 @@ whole_file r ls e s some =
       products = h.products;
     }
 
--- the counters that were read are within their bounds
+-- if a whole text was read, then the value of each counter that was read is at most the counter's bound
 pub read_bounded : (text : List ℕ) (n : ℕ) (r : ReadingValue) → HasRead text [] n r → All (λ (c : ℕ × ℕ). c.0 ≤ c.1) r.file.opening.counters
 read_bounded text n r has = (subst IsReading (sym has.is) (all_gone nothing_read has.taken nothing_is has.allowed).is).bounded
 
--- ---- the text
+-- ---- a whole text that was read up to an opening's last line is the text of that opening
 
 join_on : (w : List ℕ) (ws : List (List ℕ)) (v : List ℕ) → join_with_byte 10 (w ∷ (ws ++ v ∷ [])) ≡ w ++ 10 ∷ join_with_byte 10 (ws ++ v ∷ [])
 join_on w [] v = refl
@@ -622,7 +628,7 @@ joined_text (l ∷ ls) =
     join_on (line_spelling l) (map line_spelling ls) [] ∙ ap (λ t. line_spelling l ++ 10 ∷ t) (joined_text ls)
     ∙ sym (append_assoc (line_spelling l) (10 ∷ []) (flat_map line_text ls))
 
--- a text whose lines were all read, up to the last one, is that of the opening
+-- if a whole text was read, up to an opening's last line, then it is the text of the opening that was read
 pub whole_text : (text : List ℕ) (n : ℕ) (r : ReadingValue) → HasRead text [] n r → r.next ≡ 61 → opening_text r.file ≡ text
 whole_text text n r has last =
     ap (flat_map line_text) (whole_lines r has.taken has.is has.allowed last) ∙ sym (joined_text has.taken) ∙ ap (join_with_byte 10) (sym has.split)

@@ -1,5 +1,6 @@
--- Lines that are appended to a text one after another.
-use Rattle.std.proofs.Common.{◌≡◌, ℕ, ◌+◌, ◌<◌, List, [], ◌∷◌, ◌++◌, length, take, get_or, arith, ◌≤◌, refl, sym, ◌∙◌, ap, subst, append_assoc, append-nil}
+-- Lines are appended to a text one after another. If the text was empty, and they are all lines of an opening, then the
+-- result is the opening's text.
+use Rattle.std.proofs.Common.{◌≡◌, ℕ, ◌+◌, ◌<◌, List, [], ◌∷◌, ◌++◌, length, take, get_or, arith, ◌≤◌, refl, sym, ◌∙◌, ap, subst, append_assoc}
 use Rattle.std.proofs.lemmas.List.{take_all}
 use Rattle.std.specs.List.{flat_map}
 use Rattle.days.specs.declared.line.Line.{Line}
@@ -15,45 +16,43 @@ pub texts_both : (ls ms : List Line) → flat_map line_text (ls ++ ms) ≡ flat_
 texts_both [] ms = refl
 texts_both (l ∷ ls) ms = ap (λ t. line_text l ++ t) (texts_both ls ms) ∙ sym (append_assoc (line_text l) (flat_map line_text ls) (flat_map line_text ms))
 
-pub adds_none : (a : List ℕ) → AddsLines a a []
-adds_none a = sym (append-nil a)
-
 pub adds_both : (a b c : List ℕ) (ls ms : List Line) → AddsLines a b ls → AddsLines b c ms → AddsLines a c (ls ++ ms)
 adds_both a b c ls ms h k =
     k ∙ ap (λ t. t ++ flat_map line_text ms) h ∙ append_assoc a (flat_map line_text ls) (flat_map line_text ms) ∙ ap (λ t. a ++ t) (sym (texts_both ls ms))
 
-pub adds_three : (a b c d : List ℕ) (ls ms ns : List Line) → AddsLines a b ls → AddsLines b c ms → AddsLines c d ns → AddsLines a d (ls ++ (ms ++ ns))
-adds_three a b c d ls ms ns h k g = adds_both a b d ls (ms ++ ns) h (adds_both b c d ms ns k g)
-
--- if the lines of the items before item i were appended, and then those of item i, then those of the first i + 1 items
--- were
+-- Let n be the number of the first item. If the lines of the items before item i were appended, followed by those of
+-- item i, then those of the first i + 1 items were appended.
 pub adds_item : {T : Type 0} (w : ℕ → T → List Line) (n : ℕ) (xs : List T) (i : ℕ) (d : T) (a b c : List ℕ) → i < length xs
     → AddsLines a b (numbered_lines w n (take i xs)) → AddsLines b c (w (n + i) (get_or xs i d)) → AddsLines a c (numbered_lines w n (take (i + 1) xs))
 adds_item w n xs i d a b c lt h k =
     let P : List Line → Type 0 = λ ls. AddsLines a c ls in
     subst P (sym (numbered_more w n xs i d lt)) (adds_both a b c (numbered_lines w n (take i xs)) (w (n + i) (get_or xs i d)) h k)
 
--- the same as `adds_item`, with the item's number written as i + n
+-- Let n be the number of the first item, so that item i has the number i + n. If the lines of the items before item i
+-- were appended, followed by those of item i, then those of the first i + 1 items were appended.
 pub adds_next : {T : Type 0} (w : ℕ → T → List Line) (n : ℕ) (xs : List T) (i : ℕ) (d : T) (a b c : List ℕ) → i < length xs
     → AddsLines a b (numbered_lines w n (take i xs)) → AddsLines b c (w (i + n) (get_or xs i d)) → AddsLines a c (numbered_lines w n (take (i + 1) xs))
 adds_next w n xs i d a b c lt h k =
     let P : ℕ → Type 0 = λ m. AddsLines b c (w m (get_or xs i d)) in
     let e : i + n ≡ n + i = omega arith in adds_item w n xs i d a b c lt h (subst P e k)
 
--- the same as `adds_next`, for an item that was read by its index
+-- Let n be the number of the first item, and let `x` be item i, which has the number i + n. If the lines of the items
+-- before item i were appended, followed by those of `x`, then those of the first i + 1 items were appended.
 pub adds_indexed : {T : Type 0} (w : ℕ → T → List Line) (n : ℕ) (xs : List T) (i : ℕ) (x : T) (a b c : List ℕ) → i < length xs
     → AddsLines a b (numbered_lines w n (take i xs)) → x ≡ get_or xs i x → AddsLines b c (w (i + n) x) → AddsLines a c (numbered_lines w n (take (i + 1) xs))
 adds_indexed w n xs i x a b c lt h e k =
     let P : _ → Type 0 = λ y. AddsLines b c (w (i + n) y) in adds_next w n xs i x a b c lt h (subst P e k)
 
--- the same as `adds_indexed`, for items that are numbered from 0
+-- Let the items be numbered from 0, and let `x` be item i. If the lines of the items before item i were appended,
+-- followed by those of `x`, then those of the first i + 1 items were appended.
 pub adds_from_zero : {T : Type 0} (w : ℕ → T → List Line) (xs : List T) (i : ℕ) (x : T) (a b c : List ℕ) → i < length xs
     → AddsLines a b (numbered_lines w 0 (take i xs)) → x ≡ get_or xs i x → AddsLines b c (w i x) → AddsLines a c (numbered_lines w 0 (take (i + 1) xs))
 adds_from_zero w xs i x a b c lt h e k =
     let P : ℕ → Type 0 = λ m. AddsLines b c (w m x) in
     let z : i ≡ i + 0 = omega arith in adds_indexed w 0 xs i x a b c lt h e (subst P z k)
 
--- the same as `adds_item`, for a counter whose value and bound were read one by one
+-- Let `value` and `bound` be the value and the bound of counter i. If the lines of the counters before counter i were
+-- appended, followed by those of counter i, then those of the first i + 1 counters were appended.
 pub adds_counter : (xs : Counters) (i value bound : ℕ) (a b c : List ℕ) → i < 32 → AreCounters xs → value ≡ (counter xs i).0 → bound ≡ (counter xs i).1
     → AddsLines a b (numbered_lines counter_lines 0 (take i xs)) → AddsLines b c (counter_lines i (value, bound))
     → AddsLines a c (numbered_lines counter_lines 0 (take (i + 1) xs))
@@ -72,8 +71,8 @@ pub adds_whole : {T : Type 0} (w : ℕ → T → List Line) (n : ℕ) (xs : List
 adds_whole w n xs i a b ge h =
     let P : List _ → Type 0 = λ ys. AddsLines a b (numbered_lines w n ys) in subst P (take_all i xs ge) h
 
--- the first three lines, those of slots and products, those of counters and points, and the last line are the whole
--- text
+-- if an opening's first three lines, those of its slots and products, those of its counters and points, and its last
+-- line were appended to an empty text, one after another, then the result is the opening's text
 pub whole_text : (f : OpeningFile) (z a b c d : List ℕ) → z ≡ [] → AddsLines z a (head_lines f)
     → AddsLines a b (numbered_lines version_lines 0 f.opening.rules ++ numbered_lines price_lines 1 f.opening.prices)
     → AddsLines b c (numbered_lines counter_lines 0 f.opening.counters ++ numbered_lines point_lines 1 f.opening.points)

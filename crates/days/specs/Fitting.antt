@@ -29,9 +29,11 @@ pub record Fits (config : ConfigValue) (o : OpeningValue) : Type 0 where
 abbrev pub AreBounded : Counters → Counters → Counters → Type 0
 AreBounded values bounds cells = (c : ℕ) → c < 32 → counter cells c ≡ ((counter values c).0, (counter bounds c).1)
 
--- The opening `o` fits `config`, and `begun` is the configuration of a site of `config` that begins with it: `config`
--- with the opening `o`, whose counters keep their values and have the bounds in `config`. The opening with these
--- counters is one that a site with as many points as `config` has can begin with.
+-- A site of `config` begins with the opening `o`, and `begun` is then its configuration:
+-- - `o` fits `config`.
+-- - The counters `cells` have their values from `o` and their bounds from `config`.
+-- - A site with as many points as `config` has can begin with the opening that is `o` with the counters `cells`.
+-- - `begun` is `config` with this changed opening.
 abbrev pub BeginsWith : ConfigValue → OpeningValue → ConfigValue → Type 0
 BeginsWith config o begun =
     Fits config o

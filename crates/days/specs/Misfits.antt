@@ -31,8 +31,8 @@ pub record IsHeldOver (tills : ℕ) (points : List PointState) (at : ℕ) (t : T
   pub before : HaveTills tills (take at points)
   pub held : IfSome (slice_get points at) (λ p. first_held tills p.unpaid ≡ Some t)
 
--- The reason is right: it is the first reason why the opening doesn't fit the configuration, and has the numbers of
--- both. The points are compared first, then the tills, and then the counters.
+-- The reason is right: it is the first reason why the opening doesn't fit the configuration, and its values are those
+-- of the opening and of the configuration. The points are compared first, then the tills, and then the counters.
 abbrev pub Misfits : ConfigValue → OpeningValue → Misfit → Type 0
 Misfits config o (misfit.Points points there) = (points ≡ length o.points) × (there ≡ length config.points) × (points ≢ there)
 Misfits config o (misfit.Till at t tills) =
@@ -40,9 +40,12 @@ Misfits config o (misfit.Till at t tills) =
 Misfits config o (misfit.Counter c value bound) =
     (length o.points ≡ length config.points) × HaveTills config.tills o.points × IsOver o.counters config.counters (c, value, bound)
 
--- The reason is right: it is why no site of this configuration begins with the opening. Either the two don't fit each
--- other. Or they do, and no site with the configuration's number of points can begin with the opening once its counters
--- have the configuration's bounds. Or one can, and memory ran out.
+-- The reason is right: it is why no site of `config` begins with the opening `o`, or it is that memory ran out.
+-- - `Misfit`: `o` doesn't fit `config`, as `Misfits` says.
+-- - `Fault`: `o` fits `config`. Let the changed opening be `o` with the counters `cells`, which have their values from
+--   `o` and their bounds from `config`. If the fault is `OutOfMemory`, then a site with as many points as
+--   `config` has can begin with the changed opening, and memory ran out. Any other fault is the first one of the
+--   changed opening, so that no such site can begin with it.
 abbrev pub IsUnfit : ConfigValue → OpeningValue → Unfit → Type 0
 IsUnfit config o (unfit.Misfit m) = Misfits config o m
 IsUnfit config o (unfit.Fault fault) =

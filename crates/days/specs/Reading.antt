@@ -24,7 +24,7 @@ use Rattle.days.specs.Text.{line_spelling}
 -- What has been read of an opening. Each line has a place, and no place is less than that of the line before. The first
 -- three lines have the places 0 to 2, slots 0 to 15 have 3 to 18, products 1 to 8 have 19 to 26, counters 0 to 31 have
 -- 27 to 58, all lines of points have 59, and the last line has 60. `next` is the least place that the next line can
--- have, or 61 after the last line. What hasn't been read is 0 or nothing in `file`.
+-- have, or 61 after the last line. What hasn't been read is 0, None or an empty list in `file`.
 pub record ReadingValue : Type 0 where
   pub next : ℕ
   pub file : OpeningFile
@@ -105,25 +105,29 @@ abbrev pub IsRefusedIn : Option ProgramText → Refusal → Type 0
 IsRefusedIn None refusal = ⊥
 IsRefusedIn (Some p) refusal = refusal_of p ≡ Some refusal
 
--- Taking the line needs memory: it is a point's line that can come next, or a version's line that can come next if the
--- verifier accepts its program.
+-- Taking the line needs memory. Either it is a point's line that can come next. Or it is a version's line that meets
+-- all conditions to come next, except perhaps the condition that the verifier accepts its program.
 abbrev pub TakesMemory : ReadingValue → Line → Type 0
 TakesMemory r (lines.Version slot number mask layout bytes) =
     (3 ≤ r.next) × (r.next ≤ 3 + slot) × (slot < 16) × (1 ≤ number) × (number ≤ r.file.opening.versions) × IsNewNumber r.file.opening.rules number
 TakesMemory r (lines.Point n s) = IsAllowedNext r (lines.Point n s)
 TakesMemory r line = ⊥
 
--- The result of taking a line is right. Ok: the line could come next, and `new` is what has been read with it.
--- `Misplaced`: it couldn't come next. `Refused`: it could, but for its program, which the verifier refuses.
--- `OutOfMemory`: taking the line needs memory. After an error nothing is claimed of `new`.
+-- What the result of taking a line means. Ok: the line could come next, and `new` is what has been read once it is
+-- taken. `Misplaced`: it couldn't come next. `Refused`: it could come next if the verifier accepted its program, but
+-- the verifier refuses it. `OutOfMemory`: taking the line needs memory. After an error nothing is claimed of `new`.
 abbrev pub Steps : ReadingValue → Line → Result (Unit {0}) StepFault → ReadingValue → Type 0
 Steps old line (Ok u) new = IsAllowedNext old line × (new ≡ after_line old line)
 Steps old line (Err Misplaced) new = IsAllowedNext old line → ⊥
 Steps old line (Err (Refused refusal)) new = TakesMemory old line × IsRefusedIn (program_in line) refusal
 Steps old line (Err OutOfMemory) new = TakesMemory old line
 
--- The result is right: it is a version with this number and this program, which is good and which the verifier accepts.
--- Or it is the reason for which the verifier refuses the program. Or memory ran out, and nothing is claimed.
+-- What the result of verifying the program `p` means.
+-- - Ok: the result is the version with this number and `p`. The verifier accepts `p`. The runs of `p` end and are never
+--   stuck, as `IsGood` says.
+-- - `Refused`: the verifier refuses `p` for this reason.
+-- - `OutOfMemory`: nothing is claimed.
+-- The result is never `Misplaced`.
 abbrev pub Verified : ℕ → ProgramText → Result Version StepFault → Type 0
 Verified number p (Ok v) = (v ≡ record { number = number; program = p }) × IsGood p × (refusal_of p ≡ None)
 Verified number p (Err Misplaced) = ⊥
@@ -143,17 +147,17 @@ after_lines r (line ∷ rest) = after_lines (after_line r line) rest
 abbrev pub ReadsBack : Line → Type 0
 ReadsBack line = line_read (line_spelling line) ≡ Ok line
 
--- The result of reading these bytes as a line is right. It is a line whose spelling these bytes are, and which is read
--- back from it. Or it is `Misplaced`, and there is no such line. Or memory ran out, and nothing is claimed.
+-- What the result of reading these bytes as a line means. Ok: the line has these bytes as its spelling, and is read
+-- back from them. `Misplaced`: there is no such line. `OutOfMemory`: nothing is claimed. The result is never `Refused`.
 abbrev pub LineFound : List ℕ → Result Line StepFault → Type 0
 LineFound bytes (Ok line) = (line_spelling line ≡ bytes) × ReadsBack line
 LineFound bytes (Err Misplaced) = (line : Line) → ReadsBack line → line_spelling line ≡ bytes → ⊥
 LineFound bytes (Err (Refused refusal)) = ⊥
 LineFound bytes (Err OutOfMemory) = Unit {0}
 
--- The result of taking the line with this number and these bytes is right. Ok: the line was taken. `BadLine` with this
--- number: no line that can come next has these bytes. `BadProgram` with this number: the verifier refuses the line's
--- program. `OutOfMemory`: nothing is claimed.
+-- What the result of taking the line with this number and these bytes means. Ok: the line was taken, and `new` is what
+-- has been read then. `BadLine` with this number: no line that can come next has these bytes. `BadProgram` with this
+-- number: the verifier refuses the line's program. `OutOfMemory`: nothing is claimed. The result is never `CutLine`.
 abbrev pub Takes : ℕ → List ℕ → ReadingValue → Result (Unit {0}) OpeningFlaw → ReadingValue → Type 0
 Takes number bytes old (Ok u) new = (line : Line) × (line_spelling line ≡ bytes) × ReadsBack line × IsAllowedNext old line × (new ≡ after_line old line)
 Takes number bytes old (Err (flaws.BadLine n)) new =
@@ -163,8 +167,8 @@ Takes number bytes old (Err (flaws.BadProgram n refusal)) new =
     (n ≡ number) × ((line : Line) × (line_spelling line ≡ bytes) × ReadsBack line × IsRefusedIn (program_in line) refusal)
 Takes number bytes old (Err flaws.OutOfMemory) new = Unit {0}
 
--- The text was read line by line up to `rest`. Each line is read back from its spelling, and could come after those
--- before it. `r` is what has been read, and `number` is that of the next line, but at most 4,294,967,295.
+-- All lines of the text before `rest` were read. Each is read back from its spelling, and could come after those before
+-- it. `r` is what has been read, and `number` is the number of the next line, but at most 4,294,967,295.
 pub record HasRead (text rest : List ℕ) (number : ℕ) (r : ReadingValue) : Type 0 where
   pub taken : List Line
   pub split : slice_split (λ b. b == 10) text ≡ map line_spelling taken ++ slice_split (λ b. b == 10) rest

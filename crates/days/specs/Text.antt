@@ -14,7 +14,7 @@ use Rattle.days.specs.declared.file.OpeningFile.{OpeningFile}
 use Rattle.days.specs.declared.line.Line.{Line}
 use Rattle.days.specs.declared.line.Line.TheVariants as lines
 
--- The pending order as one word, as in `authorise:5000`.
+-- The pending order as one word, as in `authorise:5000` for an amount of 5,000 cents.
 abbrev pub order_word : Option Order → List ℕ
 order_word None = codes "none"
 order_word (Some order) = join_with_byte 58 (order_words order)
@@ -23,7 +23,8 @@ abbrev pub yes_or_no : Bool → List ℕ
 yes_or_no true = codes "yes"
 yes_or_no false = codes "no"
 
--- The words of a line. A program is spelled as in the line that loads it.
+-- The words of a line. A version's layout is spelled as the first word of a request that loads a program for it, `load`
+-- or `load2`. Bytes are spelled in lower-case hexadecimal digits.
 abbrev pub line_words : Line → List (List ℕ)
 line_words (lines.Day n) = codes "day" ∷ decimal n ∷ []
 line_words (lines.Cleared total count) = codes "cleared" ∷ decimal total ∷ decimal count ∷ []
@@ -52,8 +53,8 @@ abbrev pub numbered_lines : {T : Type 0} → (ℕ → T → List Line) → ℕ �
 numbered_lines lines_of n [] = []
 numbered_lines lines_of n (item ∷ items) = lines_of n item ++ numbered_lines lines_of (n + 1) items
 
--- The line of a slot, or no line if it has no version. Below: that of a product, or none if its price is 0, and that of
--- a counter, or none if both its value and its bound are 0.
+-- The line of a slot, or no line if the slot has no version. `price_lines` has the line of a product, or none if its
+-- price is 0. `counter_lines` has the line of a counter, or none if both its value and its bound are 0.
 abbrev pub version_lines : ℕ → Option Version → List Line
 version_lines slot None = []
 version_lines slot (Some v) = lines.Version slot v.number v.program.declared v.program.layout v.program.bytes ∷ []
@@ -64,7 +65,7 @@ price_lines product price = if price == 0 then [] else (lines.Price product pric
 abbrev pub counter_lines : ℕ → ℕ × ℕ → List Line
 counter_lines c p = if p.0 == 0 && p.1 == 0 then [] else (lines.Counter c p.0 p.1 ∷ [])
 
--- What a point's own line says: all but its unpaid transactions.
+-- The values in a point's own line: all values of the point, but without its unpaid transactions.
 abbrev pub own_values : PointState → Snapshot
 own_values p = record {
   state = p.state;

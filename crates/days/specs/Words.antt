@@ -15,7 +15,8 @@ abbrev pub uncarried_text : Uncarried → List ℕ
 uncarried_text LastDay = codes "no day comes after day 4294967295"
 uncarried_text (Fault fault) = opening_fault_text fault
 
--- The words for a transaction that a till holds, with how many tills the configuration has.
+-- The words for a transaction that is held by a till with a number over `tills`, the number of tills in the
+-- configuration.
 abbrev pub held_by_text : Transaction → ℕ → List ℕ
 held_by_text t tills =
     codes "transaction " ++ (decimal t.number ++ (codes " is held by till " ++ (decimal t.holder ++ (codes ", 'tills' is " ++ decimal tills))))
@@ -24,7 +25,8 @@ held_by_text t tills =
 abbrev pub over_bound_text : ℕ → ℕ → List ℕ
 over_bound_text value bound = codes "has the value " ++ (decimal value ++ (codes ", its bound in the configuration is " ++ decimal bound))
 
--- The words for why an opening doesn't fit a configuration. Points are counted from 1 here, up to 2^64 - 1.
+-- The words for why an opening doesn't fit a configuration. They count points from 1; a point's number above 2^64 - 1
+-- is written as 2^64 - 1.
 abbrev pub misfit_text : Misfit → List ℕ
 misfit_text (misfit.Points points there) =
     codes "points: " ++ (decimal points ++ (codes " in the opening, " ++ (decimal there ++ codes " in the configuration")))

@@ -50,8 +50,8 @@ pub enum Unclosed<J> {
     OutOfMemory(Option<J>),
 }
 
-/// Why days don't follow one another, or why that isn't known: a day couldn't be read (`Unread`), the device of its
-/// journal failed (`Unclosed`), or memory ran out (`NoNextOpening`, `Unbegun` or `Unclosed`).
+/// Why days don't follow one another, or why it isn't known whether they do: a day couldn't be read (`Unread`), the
+/// device of a day's journal failed (`Unclosed`), or memory ran out (`NoNextOpening`, `Unbegun` or `Unclosed`).
 #[derive(Drop)]
 pub enum Cause<J> {
     /// There is no day.
@@ -68,8 +68,8 @@ pub enum Cause<J> {
     Unclosed(Unclosed<J>),
 }
 
-/// The number of the first day that isn't as it should be, and why. If there are no days, the number is the one that
-/// the first day would have.
+/// Why an audit of days failed: the number of the day that the cause is about, and the cause. If there are no days, the
+/// number is the one that the first day would have. For an unread day after day 4,294,967,295, it is 4,294,967,295.
 #[derive(Drop)]
 pub struct DaysFault<J> {
     pub day: u32,

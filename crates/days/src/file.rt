@@ -1,4 +1,4 @@
-//! The values in the text of an opening, and why a text isn't that of an opening.
+//! The values in the text of an opening, why a text isn't that of an opening, and why a day leaves no opening.
 
 use reg_types::Refusal;
 use site_core::{Opening, OpeningFault};
@@ -7,7 +7,7 @@ use std::fmt;
 /// The values in the text of an opening: what a day leaves for the next day.
 #[derive(Drop)]
 pub struct OpeningFile {
-    /// The number of the day that begins with the opening: 2 or more.
+    /// The number of the day that begins with the opening: 2 or more if the opening was read from a text.
     pub day: u32,
     pub opening: Opening,
     /// How many entries the journal of the day before `day` has.
@@ -16,11 +16,12 @@ pub struct OpeningFile {
     pub digest: [u8; 32],
 }
 
-/// Why bytes couldn't be read as the text of an opening. If a case has a number, it is that of a line, counted from 1.
+/// Why bytes couldn't be read as the text of an opening. If a case has a number, it is that of a line, counted from 1;
+/// a number above 4,294,967,295 is given as 4,294,967,295.
 #[derive(Clone, Copy)]
 pub enum OpeningFlaw {
-    /// No opening has this line after the lines before it. If the text ends too early, the number is the one after that
-    /// of the last line.
+    /// Some opening begins with the lines before this one, but none begins with them and then this line. If the text
+    /// ends too early, the number is that of the last line plus 1.
     BadLine(u32),
     /// The last line has no LF.
     CutLine(u32),

@@ -1,5 +1,5 @@
-//! Proofs that the numbers of an opening are in the ranges of their types. These functions do nothing: they are called
-//! for what their contracts state.
+//! Proofs that numbers of an opening are in the ranges of their types. These functions do nothing: they are called for
+//! what their contracts state.
 ghost use Rattle.std.specs.Prelude.{◌<◌, ◌^◌, All, option_to_list};
 ghost use Rattle.hex.specs.Hex.{IsBytes};
 ghost use Rattle.days.specs.Ranges.{FileFits, OrderFits, PointFits, VersionFits};
@@ -44,7 +44,8 @@ fn holders_in_range(point: &Point)
     holder_in_range(second);
 }
 
-/// Proves that a point's numbers are in the ranges of their types.
+/// Proves that a point's preset and limit, the amount of its pending order, and the holders of its unpaid transactions
+/// are in the ranges of their types.
 fn point_in_range(point: &Point)
     ensures { PointFits point.now }
 {
@@ -54,7 +55,8 @@ fn point_in_range(point: &Point)
     holders_in_range(point);
 }
 
-/// Proves that the numbers of all points are in the ranges of their types.
+/// Proves that the preset and the limit of each point, the amount of its pending order, and the holders of its unpaid
+/// transactions are in the ranges of their types.
 fn points_in_range(points: &[Point])
     ensures { All PointFits points.now }
 {
@@ -85,7 +87,7 @@ fn versions_in_range(rules: &[Option<Version>])
     }
 }
 
-/// Proves that the numbers of an opening's file are in the ranges of their types.
+/// Proves that those numbers of an opening's file which `IsOpeningFile` doesn't bound are in the ranges of their types.
 pub(crate) fn file_in_range(file: &OpeningFile)
     ensures { FileFits file.now }
 {

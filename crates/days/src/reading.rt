@@ -48,8 +48,8 @@ fn read_line(alloc: Global, room: &mut String, bytes: &[u8]) -> Result<Line, Ste
 }
 
 /// Reads the line that `bytes` spell, without an LF, and adds it to `reading`. `room` is a buffer that is overwritten.
-/// The error is `BadLine` if they spell no line that can come next, or `BadProgram` if the verifier refuses the line's
-/// program, each with the line's `number`. It can also be that memory ran out.
+/// The error is `BadLine` if `bytes` spell no line that can come next, or `BadProgram` if the verifier refuses the
+/// line's program, each with the line's `number`. It can also be that memory ran out.
 fn take_line(
     alloc: Global,
     room: &mut String,
@@ -74,8 +74,8 @@ fn take_line(
 }
 
 /// Takes all lines of a text into `reading`, which must be empty. Returns the number of the line that would be next,
-/// counted from 1. The error is the first flaw in the text, or that memory ran out. A text that ends too early is no
-/// error here.
+/// counted from 1, but at most 4,294,967,295. The error is the first flaw in the text, or that memory ran out. It is no
+/// error if the text ends before an opening's last line.
 fn read_lines(alloc: Global, reading: &mut Reading, text: &[u8]) -> Result<u32, OpeningFlaw>
     requires { reading.old ≡ nothing_read }
     ensures read { IfOk result (λ number. HasRead text.now [] number reading.new) }
@@ -101,10 +101,10 @@ fn read_lines(alloc: Global, reading: &mut Reading, text: &[u8]) -> Result<u32, 
 
 /// Reads the text of an opening, and returns the opening. No other opening has the same text.
 ///
-/// The error is the first flaw in the text. `BadLine` has the number of the first line that no opening has after the
-/// lines before it. If the text ends too early, this is the number after that of the last line. The error is `CutLine`
-/// if the last line has no LF, and `BadProgram` if the verifier refuses the program of a line. It can also be that
-/// memory ran out.
+/// The error is the first flaw in the text. `BadLine` has the number of the first wrong line: some opening begins with
+/// the lines before it, but none begins with them and then this line. If the text ends too early, the number is that
+/// of the last line plus 1. The error is `CutLine` if the last line has no LF, and `BadProgram` if the verifier refuses
+/// the program of a line. It can also be that memory ran out.
 pub fn read_opening(alloc: Global, text: &[u8]) -> Result<OpeningFile, OpeningFlaw>
     ensures read { IfOk result (λ file. opening_text file ≡ text.now) }
     ensures good { IfOk result (λ file. IsOpeningFile file) }

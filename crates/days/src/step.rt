@@ -300,7 +300,7 @@ impl Reading {
         Ok(())
     }
 
-    /// Takes a line, if it can come next with these values. After an error the reading is unchanged.
+    /// Takes a line, if it can come next with its values. After an error the reading is unchanged.
     ///
     /// The error is `Misplaced` if the line can't come next, or if one of its values isn't allowed after the lines
     /// before it. Otherwise the error is `Refused` if the verifier refuses the line's program. It can also be that
@@ -335,8 +335,9 @@ fn has_none(unpaid: &[Option<Transaction>; 2]) -> bool
     matches!(unpaid, [None, None])
 }
 
-/// Verifies the program in `bytes`, and returns it as the version with this number. The error is that the verifier
-/// refuses the program, or that memory ran out.
+/// Verifies the program in `bytes`, and returns it as the version with this number. `mask` is the set of the counters
+/// that the program declares, and `layout` is the form of the record that it starts with. The error is that the
+/// verifier refuses the program, or that memory ran out.
 fn verified(
     alloc: Global,
     number: u32,

@@ -28,7 +28,7 @@ fn put_head(alloc: Global, text: &mut String, file: &OpeningFile) -> Result<(), 
     put_line(alloc, text, &Line::Versions(file.opening.versions))
 }
 
-/// Appends the line of a slot, if it has a version. The error is that memory ran out.
+/// Appends the line of a slot, if the slot has a version. The error is that memory ran out.
 fn put_rule(
     alloc: Global,
     text: &mut String,

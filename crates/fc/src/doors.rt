@@ -33,8 +33,8 @@ impl Display for Name {
     }
 }
 
-/// Writes the numbers of some points, in the form `points 1 3`. Point p + 1 is one of them if bit p of the argument
-/// `points` is set.
+/// Writes the numbers of the fuelling points for which a bit is set in `points`, in the form `points 1 3`. Bit p,
+/// counted from 0, stands for point p + 1.
 fn write_points<W: fmt::Write>(f: &mut fmt::Formatter<W>, points: u32) -> fmt::Result {
     f.write_str("points")?;
     for place in 0..32u32 {
@@ -54,8 +54,9 @@ fn are_ports(doors: &[Door]) -> bool {
     true
 }
 
-/// Writes the address of a door: a port or a socket's path. `are_ports` says whether all doors in the printed list are
-/// ports. If so, the list has `127.0.0.1:` once, at its start. Otherwise `127.0.0.1:` is written before each port.
+/// Writes an address in a `DoorListing`, of a door or of the page: a port or a socket's path. `are_ports` says whether
+/// all doors of the listing are ports. If so, writes a port alone: the listing has `127.0.0.1:` once, at its start.
+/// Otherwise writes `127.0.0.1:` before a port.
 fn write_address<W: fmt::Write>(
     f: &mut fmt::Formatter<W>,
     address: &Address,
@@ -186,7 +187,7 @@ impl<'a> BoundDoors<'a> {
         }
     }
 
-    /// Opens doors in their order, until one can't be opened. The error is that of `open` for this door.
+    /// Opens doors in their order, until one can't be opened. The error is the error of `open` for this door.
     fn open_all<H: Files + Net<Listener = TcpListener, Stream = TcpStream>>(
         &mut self,
         rt: &'a HostRuntime,

@@ -27,9 +27,11 @@ fn arguments(rt: &HostRuntime) -> io::Result<Vec<String>> {
     Ok(words)
 }
 
-/// Returns the job that the arguments of the command line ask for. If they aren't valid, prints why on standard error;
-/// the error `AlreadyReported` has the exit status. If memory ran out, the error is `AlreadyReported` if that is
-/// printed already, or else `Failed`.
+/// Returns the job that the arguments of the command line ask for. Errors:
+///
+/// - `AlreadyReported`, with the exit status: the arguments aren't valid, or memory ran out. The reason is printed on
+///   standard error.
+/// - `Failed`: memory ran out, which isn't printed yet
 fn job_of(rt: &HostRuntime) -> Result<Job, JobError> {
     let words = match arguments(rt) {
         Ok(words) => words,

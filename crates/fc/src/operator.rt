@@ -50,8 +50,9 @@ fn code_of(failure: SessionFailure) -> &'static str {
 }
 
 impl<'a, H: Wait + Clock> OperatorReports<'a, H> {
-    /// Makes a printer that has printed no report yet. It counts in `connections`, if given, the connections that open
-    /// or end, and the workers that have served their last one. `host` must be the same runtime as `rt`.
+    /// Makes a printer that has printed no report yet. If `connections` is given, the printer counts in it the
+    /// connections that open, the connections that end, and the workers that have served their last connection. `host`
+    /// must be the same runtime as `rt`.
     pub fn new(
         rt: &'a HostRuntime,
         host: &'a H,
@@ -66,7 +67,7 @@ impl<'a, H: Wait + Clock> OperatorReports<'a, H> {
     }
 
     /// Returns the current time in whole seconds since the start of 1970. If the clock can't be read, or is before
-    /// 1970, returns 0: then all reports count for one second.
+    /// 1970, returns 0: then all reports count as if they came in the same second.
     fn second(&self) -> u64 {
         match SystemTime::now(self.host) {
             Ok(time) => match time.duration_since(UNIX_EPOCH) {

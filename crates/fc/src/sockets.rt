@@ -188,7 +188,7 @@ fn move_to<'a, H: Net>(
     fs::set_permissions(rt, socket, Permissions::from_mode(mode))?;
     let there = find(rt, socket)?;
     link_to(rt, host, socket, path)?;
-    // If the name `socket` can't be removed, `file` is dropped, and so the name `path` is removed too.
+    // If the name `socket` can't be removed, `file` is dropped, which removes the name `path`.
     let file = SocketFile {
         rt,
         path,
@@ -210,7 +210,7 @@ fn bind_and_move<'a, H: Files + Net>(
     path: &'a str,
     mode: u32,
 ) -> io::Result<Option<Listening<'a>>> {
-    // If this fails, and a socket has this name, another process bound it, so it isn't removed.
+    // If this fails, any socket at `socket` was bound by another process, so it isn't removed.
     let listener = UnixListener::bind(host, socket)?;
     match move_to(rt, host, socket, path, mode) {
         Ok(file) => Ok(Some((listener, file))),
@@ -222,8 +222,8 @@ fn bind_and_move<'a, H: Files + Net>(
 }
 
 /// Makes `folder`, binds a socket in it, gives the socket's file this mode, moves the file to `path`, and removes the
-/// folder. Returns `None` if something that no killed process could have left is already at `folder`. The error is why
-/// no socket was bound, or why its file wasn't moved.
+/// folder. Replaces a folder that a killed process could have left at `folder`. Returns `None` if anything else is
+/// already there. The error is why no socket was bound, or why its file wasn't moved.
 fn bind_beside<'a, H: Files + Net>(
     rt: &'a HostRuntime,
     host: &H,

@@ -16,9 +16,10 @@ pub record AgreeFor (text left : List ℕ) (n : ℕ) : Type 0 where
   pub same : (k : ℕ) → k < n → slice_index text k ≡ slice_index left k
   pub ends : n < length text → n < length left → slice_index text n ≢ slice_index left n
 
--- Line `number`, counted from 1, is the first in which `text` differs from `left` (its LF counts too). `line` is this
--- line of `left` without its LF, or empty if `left` has no such line. The line begins at byte `start` of both texts,
--- which have their first `same` bytes in common.
+-- The texts `text` and `left` have their first `same` bytes in common. Line `number`, counted from 1, is the first line
+-- in which they differ (the LF at a line's end belongs to the line). It begins at byte `start` in both texts. `line` is
+-- line `number` of `left` without its LF, or empty if `left` has no such line. Nothing is said about `number` if the
+-- line's number isn't below 2^64.
 pub record IsOtherLine (text left : List ℕ) (number : ℕ) (line : List ℕ) : Type 0 where
   pub same : ℕ
   pub agree : AgreeFor text left same

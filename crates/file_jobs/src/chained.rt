@@ -255,7 +255,8 @@ fn refuse_unfollowed(rt: &HostRuntime, opening: &str, day: u32, why: Unfollowed)
     }
 }
 
-/// Returns the message that the day before `day` left `line`. Returns `None` if `line` is empty or isn't UTF-8.
+/// Returns the message `day N left 'LINE' here`, in which N is the number of the day before `day`, and LINE is `line`.
+/// Returns `None` if `line` is empty or isn't UTF-8.
 fn left_line(day: u32, line: &[u8]) -> Option<Left<'_>>
     ensures left { IfSome result (λ left. (left.0 ≡ day - 1) × (left.1.now ≡ line.now)) }
     ensures none { IfNone result (IsUtf8 line.now → line.now ≡ []) }
@@ -288,8 +289,8 @@ impl Display for Left<'_> {
     }
 }
 
-/// Returns the number of the first line, counted from 1, in which `text` differs from `left` (its LF counts too). Also
-/// returns this line of `left` without its LF, or an empty line if `left` has no such line.
+/// Returns the number of the first line, counted from 1, in which `text` differs from `left` (the LF at a line's end
+/// belongs to the line). Also returns this line of `left` without its LF, or an empty line if `left` has no such line.
 fn other_line<'a>(text: &[u8], left: &'a [u8]) -> (u64, &'a [u8])
     ensures { IsOtherLine text.now left.now result.0 result.1.now }
 {

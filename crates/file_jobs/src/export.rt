@@ -1,4 +1,5 @@
-//! The rows of an audited journal, for other programs.
+//! What `fc export` does: audits a journal, and prints its rows (sales, decisions or entries), as CSV or as lines of
+//! JSON.
 ghost use Rattle.std.specs.Prelude.{◌≡◌, Err, IfOk, IfErr, IsTrue, option_map};
 ghost use Rattle.site_files.specs.Asked.{reads_twice};
 ghost use Rattle.file_jobs.specs.Asked.{rows_of, format_of};

@@ -232,7 +232,7 @@ fn cut_words(fault: LineFault) -> Option<(&'static str, &'static str)>
     match fault {
         LineFault::TooLong => Some(("over 8,400 bytes", "L1")),
         LineFault::CutLine => Some(("the last line has no LF", "L4")),
-        // A play never returns these as the fault of its last line.
+        // A play never returns these as the fault of the line at which its script stops.
         LineFault::BadLine | LineFault::BadNumber | LineFault::OutOfMemory => None,
     }
 }

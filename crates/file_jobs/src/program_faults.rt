@@ -20,7 +20,7 @@ fn file_code(fault: ProgramFileFault) -> Option<&'static str>
     }
 }
 
-/// Prints on standard error why a program file is refused, or only that memory ran out, if the flaw is that.
+/// Prints on standard error why a program file is refused. If `flaw` is that memory ran out, prints only that.
 pub(crate) fn print_program_flaw(rt: &HostRuntime, word: &str, flaw: &ProgramFlaw) {
     let place = Place::of(word);
     match flaw {
@@ -64,8 +64,9 @@ fn asm_code(fault: AsmFault) -> Option<(Option<u64>, &'static str)>
     }
 }
 
-/// Prints on standard error what is wrong with an assembler text, with the fault's number, A1 to A4. If the fault is
-/// that memory ran out, prints nothing, and returns the error.
+/// Prints on standard error what is wrong with an assembler text: the words of `flaw`, and the number of `fault`, A1 to
+/// A4. `flaw` must be what `asm_flaw` returned with `fault`. If `fault` is that memory ran out, prints nothing, and
+/// returns the error.
 fn print_asm_fault(
     rt: &HostRuntime,
     file: Place<'_>,

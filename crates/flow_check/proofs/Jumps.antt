@@ -1,4 +1,4 @@
--- The first jump with a fault; and where jumps go if none has a fault.
+-- Lemmas on the first jump with a fault, and on where jumps go if none has a fault.
 use Rattle.std.proofs.Common.{◌≡◌, ℕ, zero, suc, ◌+◌, ◌<◌, ◌≤◌, ◌⊎◌, List, [], ◌∷◌, Option, Some, None, refl, sym, ap, ◌∙◌, subst, inl, inr, arith, add-one}
 use Rattle.std.proofs.Common.{length}
 use Rattle.std.specs.Prelude.{slice_get, ℤ, pos, negsuc, IfSome}
@@ -15,7 +15,7 @@ use Rattle.flow_check.specs.Faults.{IsFirstFlowFault, numbered}
 below_suc : (p m : ℕ) → p < suc m → (p ≡ m) ⊎ (p < m)
 below_suc p m h = elim (cases_lt p m) [ inl l ↦ inr l | inr g ↦ inl (omega arith) ]
 
--- the first unit whose jump has a fault, unit pc, is also the first one among n units, for each n above pc
+-- if unit pc is the first whose jump has a fault, it is also the first such unit among the first n, for each n above pc
 pub fault_stays : (us : List ProgramUnit) (pc n : ℕ) (f : JumpFault) → pc < n → flow_fault_below us pc ≡ None → jump_fault us pc ≡ Some f
     → flow_fault_below us n ≡ Some (pc, f)
 fault_stays us pc zero f lt a b = absurd (omega arith)
@@ -54,7 +54,7 @@ distance_inside : (us : List ProgramUnit) (pc : ℕ) (o : Option ProgramUnit) (z
 distance_inside us pc None z e d = absurd (cc)
 distance_inside us pc (Some u) z e d = get_inside us pc u e
 
--- if a jump to a unit has no fault there, the unit is the first one of an instruction
+-- if `landing_fault` finds nothing wrong with unit `to`, then an instruction begins at unit `to`
 lands : (us : List ProgramUnit) (to : ℕ) (o : Option ProgramUnit) → slice_get us to ≡ o → landing_fault o ≡ None → (i : _) × (slice_get us to ≡ Some (First i))
 lands us to None e h = absurd (cc)
 lands us to (Some (First i)) e h = (i, e)
@@ -71,7 +71,7 @@ goes us pc (pos n) small e =
     let inside : pc + 1 + n < length us = get_inside us (pc + 1 + n) (First at.0) at.1 in
     (pc + 1 + n, reaches (pc + 1) n (omega arith), record { ahead = omega arith; inside = inside; first = at })
 
--- if no jump has a fault, each one goes forward to the first unit of an instruction
+-- if there are at most 512 units, and no jump has a fault, each jump goes forward to the first unit of an instruction
 pub goes_forward : (us : List ProgramUnit) → length us ≤ 512 → flow_fault us ≡ None → GoesForward us
 goes_forward us small e =
     record {
@@ -90,7 +90,7 @@ target_by us pc to (Some z) h e t =
     let j = h.jumps pc z e in
     subst (IsAhead us pc) (some_same j.0 to (sym j.1 ∙ t)) j.2
 
--- the target of a jump is a later unit at which an instruction begins
+-- if all jumps go forward, then the target of the jump at unit pc is a later unit at which an instruction begins
 pub target_ahead : (us : List ProgramUnit) (pc : ℕ) (o : Option ℕ) → GoesForward us → o ≡ target us pc → IfSome o (λ to. IsAhead us pc to)
 target_ahead us pc None h e = tt
 target_ahead us pc (Some to) h e = target_by us pc to (distance_at us pc) h refl (sym e)

@@ -12,7 +12,7 @@ numbered Backward pc = BackwardJump pc
 numbered Out pc = JumpOut pc
 numbered IntoWide pc = JumpIntoWide pc
 
--- the fault names the first unit whose jump is wrong, and what is wrong with it; it is never that memory ran out
+-- the fault names the first unit whose jump is wrong, and what is wrong with the jump; it is never `OutOfMemory`
 abbrev pub IsFirstFlowFault : List ProgramUnit → FlowFault → Type 0
 IsFirstFlowFault us (BackwardJump pc) = flow_fault us ≡ Some (pc, Backward)
 IsFirstFlowFault us (JumpOut pc) = flow_fault us ≡ Some (pc, Out)

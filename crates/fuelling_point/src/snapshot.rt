@@ -30,10 +30,10 @@ pub struct Snapshot {
 }
 
 impl Snapshot {
-    /// Returns whether a point can have these values: `nozzle` is at most 8; `amount` and `volume`, also those of the
-    /// unpaid transactions, are at most 999,999,999; the unpaid transactions have numbers from 1 to `last`, the older
-    /// one the smaller number; there is no newer one without an older one; while a delivery is authorised or under way,
-    /// at most one is unpaid.
+    /// Returns whether a point can have the values of this snapshot: `nozzle` is at most 8; `amount` and `volume`, also
+    /// those of the unpaid transactions, are at most 999,999,999; the unpaid transactions have numbers from 1 to
+    /// `last`, the older one the smaller number; there is no newer one without an older one; while a delivery is
+    /// authorised or under way, at most one is unpaid.
     pub fn is_of_point(&self) -> bool
         ensures { IsTrue result ↔ IsSnapshot self.now }
     {
@@ -47,9 +47,9 @@ impl Snapshot {
     }
 }
 
-/// Returns whether these two places can hold the unpaid transactions of a point in this state. They can if the second
-/// place is free. They also can if the first place has a transaction with a smaller number than the second place's, and
-/// no delivery is authorised or under way in this state.
+/// Returns whether `first` can be the older and `second` the newer unpaid transaction of a point in this state. They
+/// can if `second` is `None`. They also can if both are transactions, `first` has the smaller number, and no delivery
+/// is authorised or under way in this state. The ranges of their values are checked by `is_free_or_unpaid`.
 fn are_places(first: Option<Transaction>, second: Option<Transaction>, state: State) -> bool
     ensures { IsTrue result ↔ (AreValidPlaces first second (is_busy state) × IsOlder first second) }
 {
@@ -60,8 +60,8 @@ fn are_places(first: Option<Transaction>, second: Option<Transaction>, state: St
     }
 }
 
-/// Returns whether the place is free, or its transaction has a number from 1 to `last` and an amount and a volume of at
-/// most 999,999,999. `last` is the number of the point's newest transaction.
+/// Returns whether `place` is `None`, or its transaction has a number from 1 to `last`, and an amount in cents and a
+/// volume in centilitres of at most 999,999,999 each. `last` is the number of the point's newest transaction.
 fn is_free_or_unpaid(place: Option<Transaction>, last: u32) -> bool
     ensures { IsTrue result ↔ IsFreeOrUnpaid last place }
 {

@@ -58,7 +58,7 @@ pub fn arguments(id: i32) -> Option<[Kind; 2]>
     Some(kinds_of(helper))
 }
 
-// Returns the point of this number, counted from 1, or `None` if there is no such point.
+// Returns the fuelling point with this number, counted from 1, or `None` if there is no such point.
 fn point_of(view: &View, number: u64) -> Option<PointView>
     ensures { result ≡ point view.now number }
 {

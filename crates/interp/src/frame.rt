@@ -2,8 +2,8 @@
 
 use helpers::View;
 
-/// The memory of a run: the stack's bytes, and the 11 registers as words. The stack is the first field, so that the
-/// processor finds its bytes without an addition.
+/// The memory of a run: the stack's bytes, and the 11 registers as 64-bit words. The stack is the first field, so that
+/// the processor adds no offset to find its bytes.
 #[derive(Drop)]
 pub struct Frame {
     pub stack: [u8; 512],

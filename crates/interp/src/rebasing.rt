@@ -13,10 +13,10 @@ use counters::Counters;
 use helpers::View;
 use reg_types::Program;
 
-/// Sets the counters of `now` that the program declares to those of `after`, and changes no others. If an earlier run
-/// of `program` with this context and view changed the counters from `before` to `after`, then a run on `now` would
-/// leave just these counters and give the same answer. The declared counters must be the same in `before` and `now`,
-/// and the context must have the program's layout.
+/// Sets the counters of `now` that the program declares to those of `after`, and changes no others. If a run of
+/// `program` with this context and view changes the counters from `before` to `after`, then a run on the old `now`
+/// gives the same answer and changes the counters to the new `now`. The declared counters must be the same in `before`
+/// and `now`, and the context must have the program's layout.
 pub fn rebase(
     program: &Program,
     context: &Context,

@@ -1,4 +1,4 @@
--- The flaw that is found in the entry named by an audit's fault is indeed a flaw of the audited entries.
+-- If an audit's fault names an entry, then the flaw that explains this fault is a flaw of the audited entries.
 use Rattle.std.proofs.Common.{◌≡◌, ℕ, ◌+◌, ◌-◌, ◌<◌, ◌≤◌, List, [], ◌∷◌, ◌++◌, length, take, Option, Some, Ok, refl, sym, ap, ◌∙◌, subst, arith}
 use Rattle.std.proofs.Common.{inl, inr, length-append}
 use Rattle.std.specs.Prelude.{slice_get, reverse}
@@ -14,7 +14,8 @@ use Rattle.site_core.proofs.Complete.{own_audit}
 use Rattle.job_texts.specs.declared.journal_reasons.JournalFlaw.{JournalFlaw}
 use Rattle.job_texts.specs.JournalFlaws.{IsRejected, IsPlaceOf, ExplainsFault, ShowsFlawAt}
 
--- the place that an audit's fault names is one more than the number of the entries before the refused one
+-- If the fault of an audit of these entries names a place, then this place is one more than the number of the entries
+-- before the refused one.
 module _ (config : ConfigValue) (entries : List Entry) where
   shown : (fault : AuditFault) (place : ℕ) → IsFaultOfEntries config entries fault → IsPlaceOf fault place
       → (s : RejectsNextEntry config entries fault) × (place ≡ length s.old.history + 1)
@@ -57,13 +58,13 @@ module _ (config : ConfigValue) (entries : List Entry) where
               (subst (λ (b : List Entry). ExplainsFault config b entry fault reported) (sym same_before) tells);
         }
 
--- two sites with the same configuration and the same history are the same site
+-- If two sites fulfil `Upholds` and have the same configuration and the same history, then they are equal.
 one_site : (a b : SiteValue) → Upholds a → Upholds b → b.config ≡ a.config → b.history ≡ a.history → b ≡ a
 one_site a b u v config history =
     elim (own_audit a (Ok b) u (config, history, v)) as (λ _. b ≡ a) [ inl e ↦ cc | inr e ↦ absurd (cc) ]
 
--- If an audit refuses an entry with F3, and the site has room for it, then the moment, the reply or the run differs
--- from that of the entry that the site makes.
+-- If an audit refuses an entry with F3 (the site makes a different entry, or none), and the site has room for it, then
+-- the moment, the reply or the run differs from that of the entry that the site makes.
 pub same_parts : (config : ConfigValue) (before : List Entry) (entry : Entry) (number : ℕ) → IsRejected config before entry (NotLegal number)
     → (site : SiteValue) → site.config ≡ config → site.history ≡ before → Upholds site → length before < 1048576
     → entry.moment ≡ (entered site entry.pass entry.moment entry.act).moment
@@ -85,7 +86,7 @@ same_parts config before entry number r site c h u room moment reply run =
       λ i. record { number = placed i; pass = entry.pass; moment = moments i; act = entry.act; reply = replies i; run = runs i },
     )
 
--- the last entry of a history to which one entry was added is this entry
+-- If a history is `before` with the entry `new` added, and `last` is the entry at its last index, then `last` is `new`.
 pub last_is : (before : List Entry) (new last : Entry) (history : List Entry) → history ≡ before ++ new ∷ []
     → ◌≡◌ {A = Option Entry} (Some last) (slice_get history (length history - 1)) → last ≡ new
 last_is before new last history grown got =

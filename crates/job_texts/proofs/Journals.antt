@@ -36,7 +36,8 @@ output-fault config entries fault (Ok output) complete shows printed differs =
     inr (record { none = λ h. differs (complete h); fault = fault; shows = shows; is_fault_of_input = differs; printed = printed })
 output-fault config entries fault (Err e) complete shows printed differs = tt
 
--- If a text was read as these entries up to its end, then what is printed of the entries is right for the text too.
+-- If a text was read as these entries up to its end, then an output that is right for the entries (`AuditPrints`) is
+-- right for the text too (`JournalPrints`).
 module _ (text : List ℕ) (entries : List Entry) where
   all-is : (new : Option (List ℕ)) → Consumes (Some text) new (journal_text entries ++ []) → IsAtEnd new → text ≡ journal_text entries
   all-is None taken at_end = absurd taken
@@ -58,8 +59,8 @@ module _ (text : List ℕ) (entries : List Entry) where
       → JournalPrints config text output
   all-output config new output r tells = judged config output (all-is new r.reads.taken r.at_end) r.reads.each tells
 
--- If a text was read up to its end, and each entry was audited as it was read, then what is printed is right for the
--- text.
+-- If a text was read up to its end, and its entries were audited one by one against a new site, then an output that is
+-- right for the result of the audit is right for the text (`JournalPrints`).
 pub all-taken : (text : List ℕ) (config : ConfigValue) (new : Option (List ℕ)) (before after : AuditorValue)
     (audited : Result SiteValue AuditFault) (output : JobOutput)
     → before.site ≡ new_site config → before.fault ≡ None → TakesAll (Some text) new (TookEntries before after)
@@ -79,7 +80,8 @@ all-taken text config new before after audited output site fault taken audits co
     no-fault (Ok s) h = tt
     no-fault (Err f) h = absurd h
 
--- a text in which reading found a fault, other than of a device or of memory, isn't the journal of any history
+-- If reading a text found a fault that isn't of a device or of memory, then the text isn't the journal of any history
+-- that a site can have.
 no-journal : (config : ConfigValue) (text : List ℕ) (new : Option (List ℕ)) (fault : JournalFault) → ReadsFault (Some text) new fault → (IsDeviceOrOutOfMemory fault → ⊥)
     → IsJournal config text → ⊥
 no-journal config text new fault r wants j = wants (fault_again j.entries new fault j.written (subst (λ t. ReadsFault (Some t) new fault) j.text_is r))
@@ -94,7 +96,7 @@ fault-output config text new fault (Ok output) reads wants printed =
     })
 fault-output config text new fault (Err e) reads wants printed = tt
 
--- `FailsOrRunsOut` holds for a result if it holds for another one, and both or neither are the error `Device`
+-- If `FailsOrRunsOut` holds for `r`, and both or neither of `r` and `s` are the error `Device`, then it holds for `s`.
 pub fails-so : {T U : Type 0} (r : Result T JournalFault) (s : Result U JournalFault) (a b c d : ℕ) → is_device s ≡ is_device r
     → FailsOrRunsOut r a b c d → FailsOrRunsOut s a b c d
 fails-so r s a b c d e = subst (λ (f : Bool). RoseBy (one_if f) a b ⊎ (RoseBy 0 a b × RoseBy journal_reads c d)) (sym e)

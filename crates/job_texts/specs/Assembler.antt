@@ -64,7 +64,8 @@ DisOf (Err fault) output = IsOutput output (file_fault fault) 1
 abbrev pub DisPrints : List ℕ → JobOutput → Type 0
 DisPrints file output = DisOf (program_in file) output
 
--- The program is printed as assembler text, and before each instruction the number of its first unit.
+-- The bytes can be decoded as units, and the program is printed as assembler text, with the number of each
+-- instruction's first unit before it.
 abbrev pub PrintsNumberedText : List ℕ → JobOutput → Type 0
 PrintsNumberedText bytes output = (code : List ProgramUnit) × (units bytes ≡ Some code) × IsOutput output (numbered_from 0 code) 0
 

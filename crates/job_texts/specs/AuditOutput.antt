@@ -17,8 +17,12 @@ use Rattle.site_core.specs.declared.auditing.AuditFault.TheVariants.{BadNumber, 
 use Rattle.job_texts.specs.declared.output.JobOutput.{JobOutput}
 use Rattle.job_texts.specs.JobOutput.{IsOutput}
 
--- the line for a load whose program is refused: F2, the number of its entry, and the numbers of the program's V fault;
--- empty if there are no such numbers
+-- The line for a load whose program is refused; empty if the refusal has no numbers. The line has, in this order:
+-- - F2
+-- - the number of the load's entry
+-- - the verifier's fault (V1 to V20)
+-- - the number of the unit, if the fault names a unit
+-- - the number of the register or argument, if the fault names one
 abbrev pub program_text : ℕ → Option (ℕ × (Option ℕ) × (Option ℕ)) → List ℕ
 program_text number None = []
 program_text number (Some p) = codes "F2 " ++ decimal number ++ codes " " ++ answer_line (Program p.0 p.1 p.2)
@@ -32,12 +36,12 @@ line_of_audit_fault OutOfMemory = []
 abbrev pub legal_text : List Entry → List ℕ
 legal_text entries = codes "legal " ++ decimal (length entries) ++ codes "\n"
 
--- A site of this configuration can have these entries, and it is printed how many they are.
+-- A site of this configuration can have these entries as its history, and the number of the entries is printed.
 abbrev pub PrintsLegal : ConfigValue → List Entry → JobOutput → Type 0
 PrintsLegal config entries output = IsHistory config entries × IsOutput output (legal_text entries) 0
 
--- No site of this configuration can have these entries, and the fault of an audit is printed. This fault isn't that
--- memory ran out.
+-- No site of this configuration can have these entries as its history, and the fault of an audit is printed. This fault
+-- isn't that memory ran out.
 pub record PrintsAuditFault (config : ConfigValue) (entries : List Entry) (output : JobOutput) : Type 0 where
   pub none : ¬ IsHistory config entries
   pub fault : AuditFault
@@ -48,15 +52,15 @@ pub record PrintsAuditFault (config : ConfigValue) (entries : List Entry) (outpu
 abbrev pub AuditPrints : ConfigValue → List Entry → JobOutput → Type 0
 AuditPrints config entries output = PrintsLegal config entries output ⊎ PrintsAuditFault config entries output
 
--- The line for a text that isn't a journal. A fault of a device or of memory has no line, only an exit status.
+-- The line for a text that isn't a journal. It is empty for a fault of a device or of memory, which has no line.
 abbrev pub line_of_journal_fault : JournalFault → List ℕ
 line_of_journal_fault (journal.BadEntry line) = codes "J1 " ++ decimal line ++ codes "\n"
 line_of_journal_fault journal.Cut = codes "J2\n"
 line_of_journal_fault journal.Device = []
 line_of_journal_fault journal.OutOfMemory = []
 
--- The text is the journal of a history that a site of this configuration can have, and it is printed how many entries
--- it has.
+-- The text is the journal of a history that a site of this configuration can have, and the number of its entries is
+-- printed.
 pub record PrintsLegalJournal (config : ConfigValue) (text : List ℕ) (output : JobOutput) : Type 0 where
   pub journal : IsJournal config text
   pub printed : IsOutput output (legal_text journal.entries) 0
@@ -69,8 +73,8 @@ pub record PrintsTextFault (text : List ℕ) (output : JobOutput) : Type 0 where
   pub is_fault_of_input : ¬ IsDeviceOrOutOfMemory fault
   pub printed : IsOutput output (line_of_journal_fault fault) 1
 
--- The text is the journal of some entries, and their fault is printed, or the text itself has a fault, which is
--- printed.
+-- The text is the journal of some entries, and the fault of their audit is printed. Or the text itself has a fault,
+-- which is printed.
 abbrev pub PrintsEntryOrTextFault : ConfigValue → List ℕ → JobOutput → Type 0
 PrintsEntryOrTextFault config text output =
     ((entries : List Entry) × (text ≡ journal_text entries) × PrintsAuditFault config entries output) ⊎ PrintsTextFault text output
@@ -81,7 +85,7 @@ pub record PrintsJournalRefusal (config : ConfigValue) (text : List ℕ) (output
   pub status_is : output.status ≡ 1
   pub of : PrintsEntryOrTextFault config text output
 
--- What `fc audit` prints of a text: how many entries it has, if it is the journal of a history that a site of this
--- configuration can have, or else its fault.
+-- The output is what `fc audit` prints of a text: the number of its entries if it is the journal of a history that a
+-- site of this configuration can have, or else its fault.
 abbrev pub JournalPrints : ConfigValue → List ℕ → JobOutput → Type 0
 JournalPrints config text output = PrintsLegalJournal config text output ⊎ PrintsJournalRefusal config text output

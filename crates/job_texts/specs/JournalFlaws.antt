@@ -17,7 +17,7 @@ use Rattle.job_texts.specs.declared.journal_reasons.JournalFlaw.TheVariants as f
 use Rattle.job_texts.specs.Differing.{Differs}
 use Rattle.job_texts.specs.Reasons.{IsReason}
 
--- A site of this configuration can have the history `before`, and refuses `entry` as its next entry, with this fault.
+-- A site of this configuration can have the history `before`, and an audit refuses `entry` after it, with this fault.
 -- If memory ran out, nothing is claimed about `entry`.
 pub record IsRejected (config : ConfigValue) (before : List Entry) (entry : Entry) (fault : AuditFault) : Type 0 where
   pub old : SiteValue
@@ -36,8 +36,8 @@ pub record AnsweredAfter (config : ConfigValue) (before : List Entry) (entry : E
   pub room : length before < 1048576
   pub after : new.history ≡ before ++ entered old entry.pass entry.moment entry.act ∷ []
 
--- The flaw is the first part in which `entry` differs from the entry that the site makes, or it is `NoEntry` if the
--- site's history is full.
+-- The flaw is the first part in which `entry` differs from the entry that the site makes of the same event after the
+-- history `before`. Or it is `NoEntry`, and `before` is a full history: it has 1,048,576 entries.
 abbrev pub IsEntryFlaw : ConfigValue → List Entry → Entry → JournalFlaw → Type 0
 IsEntryFlaw config before entry (flaw.Entry difference) =
     (length before < 1048576) × (old : SiteValue) × (old.config ≡ config) × (old.history ≡ before) × Upholds old
@@ -58,22 +58,22 @@ IsLoadFlaw (act.Load number mask layout bytes) (flaw.Program slot refused) = (sl
 IsLoadFlaw act reported = ⊥
 
 -- The flaw is what is wrong with an entry that an audit refuses. For a wrong number it is that number and the entry's
--- place. For a refused program it is why the program is refused. Otherwise it is the first part in which the entry
--- differs from the one that the site makes, or that the site's history is full.
+-- place. For a refused program it is the load's slot, and why the program is refused. Otherwise it is the first part in
+-- which the entry differs from the one that the site makes, or that the site's history is full.
 abbrev pub ExplainsFault : ConfigValue → List Entry → Entry → AuditFault → JournalFlaw → Type 0
 ExplainsFault config before entry (BadNumber place) (flaw.Number number at) = (number ≡ entry.number) × (at ≡ place)
 ExplainsFault config before entry (BadProgram place refusal) reported = IsLoadFlaw entry.act reported
 ExplainsFault config before entry (NotLegal place) reported = IsEntryFlaw config before entry reported
 ExplainsFault config before entry fault reported = ⊥
 
--- The audit's fault names the entry at the place `at`. The fault that memory ran out names none.
+-- The audit's fault names the entry at place `at`, counted from 1. The fault that memory ran out names none.
 abbrev pub IsPlaceOf : AuditFault → ℕ → Type 0
 IsPlaceOf (BadNumber place) at = at ≡ place
 IsPlaceOf (BadProgram place refusal) at = at ≡ place
 IsPlaceOf (NotLegal place) at = at ≡ place
 IsPlaceOf OutOfMemory at = ⊥
 
--- An audit refuses the entry at this place, and `reported` is what is wrong with it.
+-- An audit refuses the entry at place `at`, and `reported` is what is wrong with it.
 pub record ShowsFlawAt (config : ConfigValue) (entries : List Entry) (at : ℕ) (reported : JournalFlaw) : Type 0 where
   pub fault : AuditFault
   pub place : IsPlaceOf fault at
@@ -87,8 +87,9 @@ line_in journal.Cut = None
 line_in journal.Device = None
 line_in journal.OutOfMemory = None
 
--- The text that was read has this fault, at this line if the fault names one. The fault isn't that a device failed or
--- that memory ran out.
+-- A device had `old` left to read, and `new` after the reads. `reported` is a fault of the text that was read, and
+-- `line` is the number of the line that the fault names, if it names one. The fault isn't that a device failed or that
+-- memory ran out.
 pub record IsTextFlaw (old new : Option (List ℕ)) (line : Option ℕ) (reported : JournalFlaw) : Type 0 where
   pub fault : JournalFault
   pub reads : ReadsFault old new fault
@@ -96,8 +97,8 @@ pub record IsTextFlaw (old new : Option (List ℕ)) (line : Option ℕ) (reporte
   pub reported_is : reported ≡ flaw.Text fault
   pub line_is : line ≡ line_in fault
 
--- The text that was read is the journal of some entries. An audit refuses the entry on this line, and `reported` is
--- what is wrong with it.
+-- A device had `old` left to read, and `new` after the reads. The text that was read is the journal of some entries. An
+-- audit refuses the entry on line `line`, and `reported` is what is wrong with it.
 pub record IsEntriesFlaw (config : ConfigValue) (old new : Option (List ℕ)) (line : Option ℕ) (reported : JournalFlaw) : Type 0 where
   pub entries : List Entry
   pub reads : ReadsAll old new entries
@@ -105,6 +106,7 @@ pub record IsEntriesFlaw (config : ConfigValue) (old new : Option (List ℕ)) (l
   pub line_is : line ≡ Some place
   pub shows : ShowsFlawAt config entries place reported
 
--- `reported` is why the text that was read is refused, and `line` is the number of the line at fault, if there is one.
+-- A device had `old` left to read, and `new` after the reads. `reported` is why the text that was read is refused, and
+-- `line` is the number of the line at fault, if there is one.
 abbrev pub IsJournalFlaw : ConfigValue → Option (List ℕ) → Option (List ℕ) → Option ℕ → JournalFlaw → Type 0
 IsJournalFlaw config old new line reported = IsTextFlaw old new line reported ⊎ IsEntriesFlaw config old new line reported

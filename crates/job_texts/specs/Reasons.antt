@@ -17,7 +17,7 @@ use Rattle.reg_types.specs.RefusedPrograms.{IsRefused, refusal_of}
 use Rattle.bpf_asm.specs.ProgramFile.{unit_line}
 use Rattle.job_texts.specs.declared.reasons.RefusedProgram.{RefusedProgram}
 
--- the number of the V fault among the numbers of a refusal; 0 if it has none
+-- the number of the fault (1 for V1, to 20 for V20) among the numbers of a refusal; 0 if the refusal has no numbers
 abbrev pub number_in : Option (ℕ × (Option ℕ) × (Option ℕ)) → ℕ
 number_in None = 0
 number_in (Some p) = p.0
@@ -27,8 +27,8 @@ abbrev pub unit_in : Option (ℕ × (Option ℕ) × (Option ℕ)) → Option ℕ
 unit_in None = None
 unit_in (Some p) = p.1
 
--- the kind of value that a helper takes as argument 1 or 2, given the kinds of all its arguments; None for another
--- argument, and if there is no such helper
+-- The kind of value that a helper takes as argument 1 or 2, given the kinds of all its arguments. None if these kinds
+-- are None, as there is no such helper. None also for any other argument.
 abbrev pub kind_among : Option (List Kind) → ℕ → Option Kind
 kind_among None argument = None
 kind_among (Some kinds) argument =
@@ -41,13 +41,16 @@ abbrev pub wanted_by : Option ProgramUnit → ℕ → Option Kind
 wanted_by (Some (First i)) argument = wanted_at i.imm argument
 wanted_by unit argument = None
 
--- the kind of value that the called helper takes as the argument that a refusal names; None if it names no argument,
--- if no instruction begins at its unit, or if there is no such helper or argument
+-- The kind of value that a helper takes as the argument that a refusal names. The helper's number is the immediate of
+-- the instruction at the refusal's unit. The result is None in these cases:
+-- - The refusal names no argument.
+-- - No instruction begins at its unit.
+-- - There is no helper with this number, or the helper has no such argument.
 abbrev pub kind_wanted : List ProgramUnit → Refusal → Option Kind
 kind_wanted code (OfType (BadArgument unit argument)) = wanted_by (slice_get code unit) argument
 kind_wanted code refusal = None
 
--- the same as `kind_wanted`, for bytes that were decoded; None if they can't be decoded as units
+-- `kind_wanted` for the units that bytes were decoded as; None if the bytes can't be decoded as units
 abbrev pub wanted_in : Option (List ProgramUnit) → Refusal → Option Kind
 wanted_in None refusal = None
 wanted_in (Some code) refusal = kind_wanted code refusal
@@ -56,13 +59,16 @@ wanted_in (Some code) refusal = kind_wanted code refusal
 abbrev pub digits_line : List ℕ → ℕ → Option (List ℕ)
 digits_line bytes unit = if nat_le (8 * unit + 8) (length bytes) then Some (unit_line bytes unit) else None
 
--- the line of the instruction at a unit as text, or None if no instruction begins there; if the bytes can't be decoded
--- as units, the unit's digits
+-- The line of a unit:
+-- - If the bytes can be decoded as units, it is the line of the instruction that begins at the unit, or None if none
+--   begins there.
+-- - If they can't be decoded as units, it is the line of the unit's digits, or None if the bytes end before the unit
+--   does.
 abbrev pub line_by : Option (List ProgramUnit) → List ℕ → ℕ → Option (List ℕ)
 line_by None bytes unit = digits_line bytes unit
 line_by (Some code) bytes unit = line_of_unit code unit
 
--- the line of the unit that a refusal names; None if it names no unit
+-- the line of the unit that a refusal names; None if it names no unit, or if this unit has no line
 abbrev pub line_named : List ℕ → Option ℕ → Option (List ℕ)
 line_named bytes None = None
 line_named bytes (Some unit) = line_by (units bytes) bytes unit
@@ -81,7 +87,8 @@ pub record IsReason (p : ProgramText) (reported : RefusedProgram) : Type 0 where
   pub refused : refusal_of p ≡ Some reported.refusal
   pub names : Names p.bytes reported
 
--- `reported` is why the program is refused. What its refusal claims about the program is true, and it has a V number.
+-- `reported` is why the program is refused. What its refusal claims about the program is true, and the refusal has a
+-- fault number (V1 to V20).
 pub record IsExplained (p : ProgramText) (reported : RefusedProgram) : Type 0 where
   pub reason : IsReason p reported
   pub shows : IsRefused p reported.refusal

@@ -53,9 +53,13 @@ fn asm_text(alloc: Global, text: &[u8]) -> Result<JobOutput, AllocError>
 }
 
 /// Returns what `fc asm` prints for an assembler text: the units of its program, each as a line of 16 hexadecimal
-/// digits, with status 0. For a text that is refused returns a line with status 1: `L1` for a text of over 65,536
-/// bytes, or else the fault that `assemble` finds, as `A1 LINE`, `A2 LINE`, `A3 LINE` or `A4`. Lines count from 1. The
-/// error is that memory ran out.
+/// digits, with status 0. For a text that is refused returns one line, with status 1:
+///
+/// - `L1`, if the text has over 65,536 bytes
+/// - otherwise the fault that `assemble` finds: `A1 LINE` (the line can't be parsed), `A2 LINE` (a label that is
+///   defined twice or not at all), `A3 LINE` (a number out of range) or `A4` (not 1 to 512 units). Lines count from 1.
+///
+/// The error is that memory ran out.
 pub fn asm_file(alloc: Global, text: &[u8]) -> Result<JobOutput, AllocError>
     ensures { IfOk result (AsmPrints text.now) }
 {
@@ -81,9 +85,14 @@ fn dis_bytes(alloc: Global, bytes: &[u8]) -> Result<JobOutput, AllocError>
     }
 }
 
-/// Returns what `fc dis` prints for a program file: the program as assembler text, with status 0. With status 1 returns
-/// `L1` for a file of over 65,536 bytes, `H1` for wrong digits, or the line of the V fault for bytes that don't decode.
-/// Jumps and types aren't checked. The error is that memory ran out.
+/// Returns what `fc dis` prints for a program file: the program as assembler text, with status 0. Jumps and types
+/// aren't checked. For a file that is refused returns one line, with status 1:
+///
+/// - `L1`, if the file has over 65,536 bytes
+/// - `H1`, if a byte is neither a hexadecimal digit nor a blank, or if the number of digits is odd
+/// - the line of the fault (V1 to V5), if the bytes don't decode
+///
+/// The error is that memory ran out.
 pub fn dis_file(alloc: Global, file: &[u8]) -> Result<JobOutput, AllocError>
     ensures { IfOk result (DisPrints file.now) }
 {
@@ -111,8 +120,9 @@ fn dis_units(alloc: Global, bytes: &[u8]) -> Result<JobOutput, AllocError>
     }
 }
 
-/// Returns what `fc dis --units` prints for a program file. It is what `dis_file` returns, but each instruction has
-/// before it the number of its first unit, counted from 0, a colon and a blank. The error is that memory ran out.
+/// Returns what `fc dis --units` prints for a program file. It is what `dis_file` returns, but the line of each
+/// instruction begins with the number of its first unit, counted from 0, a colon and a space. The error is that memory
+/// ran out.
 pub fn dis_units_file(alloc: Global, file: &[u8]) -> Result<JobOutput, AllocError>
     ensures { IfOk result (DisUnitsPrints file.now) }
 {

@@ -25,11 +25,11 @@ use till_request::{Act, LineIn};
 pub enum JournalFlaw {
     /// J1 or J2: a line isn't an entry, or the last line has no LF.
     Text(JournalFault),
-    /// F1: the number of an entry isn't its place. The values are the number and the place.
+    /// F1: the number of an entry isn't its place. The values are the number and the place, counted from 1.
     Number(u32, u32),
     /// F2: the verifier refuses the program of a load. The number is that of the slot.
     Program(u32, RefusedProgram),
-    /// F3: the entry differs from the one that the site makes of its event.
+    /// F3: the entry differs from the one that the site makes of the same event.
     Entry(Difference),
     /// F3: the site's history is full, so the site makes no entry.
     NoEntry,
@@ -92,9 +92,9 @@ fn answered_after(
     }
 }
 
-/// Returns how an entry differs from the entry that the site makes after the entries `before`, or `NoEntry` if the
-/// site's history is full. An audit must refuse the given entry after the entries `before`, with the fault `NotLegal`
-/// and this number. The error is that memory ran out.
+/// Returns how `entry` differs from the entry that the site makes of the same event after the entries `before`, or
+/// `NoEntry` if the site's history is full. An audit must refuse `entry` after `before`, with the fault `NotLegal` and
+/// this number. The error is that memory ran out.
 fn entry_flaw(
     alloc: Global,
     config: Config,
@@ -178,7 +178,7 @@ fn place_of(fault: AuditFault) -> Option<u32>
 
 /// Returns the place of the entry that an audit refuses, counted from 1, and what is wrong with it. `fault` must be the
 /// fault that the audit of these entries found. The error is that memory ran out. The fault `OutOfMemory` gives this
-/// error too.
+/// error too. For `BadNumber` there is no error.
 fn shown_flaw(
     alloc: Global,
     config: Config,
@@ -214,8 +214,8 @@ pub fn entries_flaw(
     }
 }
 
-/// Returns a fault of a journal's text as a flaw, with the number of the line that it names, or `None` if it names
-/// none. A fault of the device or of memory is returned as the error.
+/// Returns a fault of a journal's text as a flaw, and the number of the line that the fault names. The number is `None`
+/// if the fault names no line. A fault of the device or of memory is returned as the error.
 fn text_flaw(fault: JournalFault) -> Result<(Option<u32>, JournalFlaw), JournalFault>
     ensures line { IfOk result (λ p. p.0 ≡ line_in fault) }
     ensures flaw { IfOk result (λ p. p.1 ≡ JournalFlaw.Text fault) }

@@ -26,7 +26,8 @@ pub fn refusal_output(alloc: Global, line: &str) -> Result<JobOutput, AllocError
     })
 }
 
-/// Returns a line that is a word, a blank, a number and an LF, with this status. The error is that memory ran out.
+/// Returns a line that is `word`, a space, `number` in decimal digits and an LF, with this status. The error is that
+/// memory ran out.
 pub fn numbered_output(
     alloc: Global,
     word: &str,

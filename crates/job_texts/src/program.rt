@@ -16,8 +16,8 @@ use reg_types::{Layout, Program, Refusal};
 use std::alloc::{AllocError, Global};
 use till_request::Answer;
 
-/// Returns what `fc verify` prints for an accepted program: the line `accepted UNITS`, and 0 as the exit status. The
-/// error is that memory ran out.
+/// Returns what `fc verify` prints for an accepted program: the line `accepted N` for N units, with status 0. The error
+/// is that memory ran out.
 fn accepted_output(alloc: Global, program: &Program) -> Result<JobOutput, AllocError>
     ensures { IfOk result
         (λ output. IsOutput output (codes "accepted " ++ decimal (length program.now.bytes / 8) ++ codes "\n") 0) }
@@ -25,9 +25,9 @@ fn accepted_output(alloc: Global, program: &Program) -> Result<JobOutput, AllocE
     numbered_output(alloc, "accepted", program.units() as u64, 0)
 }
 
-/// Returns the line for a refused program, with status 1: the number of its V fault (the verifier's), the fault's unit,
-/// and its register or argument, where it has them. The error is that memory ran out. The refusal `OutOfMemory` has no
-/// line and gives this error too.
+/// Returns the line for a refused program, with status 1: the verifier's fault (V1 to V20), its unit, and its register
+/// or argument, if it has these. The error is that memory ran out. A refusal because memory ran out has no line and
+/// gives this error too.
 pub(crate) fn program_refusal_output(
     alloc: Global,
     refusal: Refusal,
@@ -69,9 +69,14 @@ fn verify_bytes(
 }
 
 /// Returns what `fc verify` prints for a program file, for contexts of this layout. Bit c of `counters` declares
-/// counter c. An accepted program gives `accepted UNITS` with status 0. With status 1 the result is `L1` for a file of
-/// over 65,536 bytes, `H1` for wrong digits, or the line of the program's first V fault. The error is that memory ran
-/// out.
+/// counter c. An accepted program of N units gives `accepted N` with status 0. Otherwise the result is one line, with
+/// status 1:
+///
+/// - `L1`, if the file has over 65,536 bytes
+/// - `H1`, if a byte is neither a hexadecimal digit nor a blank, or if the number of digits is odd
+/// - the line of the verifier's first fault (V1 to V20), if the program is refused
+///
+/// The error is that memory ran out.
 pub fn verify_file(
     alloc: Global,
     file: &[u8],

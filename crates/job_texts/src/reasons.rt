@@ -36,9 +36,8 @@ impl fmt::Display for RefusedProgram {
 
     ghost output = { λ reported. Some (refused_text reported) };
 
-    /// Writes the number of the unit at fault, its instruction, and what is wrong with it. Writes only what is wrong if
-    /// the refusal names no unit. If the bytes don't decode, the unit's hexadecimal digits are written in place of the
-    /// instruction. The error is that the formatter failed.
+    /// Writes the number of the unit at fault, then `line` (its instruction or its hexadecimal digits), and then what
+    /// is wrong. Leaves out the number or the line if there is none. The error is that the formatter failed.
     fn fmt<W: fmt::Write>(&self, f: &mut fmt::Formatter<W>) -> fmt::Result {
         let unit = UnitAtFault(unit_of(self.refusal));
         let line = LineAtFault(&self.line);
@@ -83,8 +82,8 @@ impl fmt::Display for LineAtFault<'_> {
     }
 }
 
-/// A refusal, of which `Display` writes in words what is wrong. If an argument of a helper (a function that programs
-/// can call) is at fault, the kind is the one that this argument must have.
+/// A refusal. If an argument of a helper (a function that programs can call) is at fault, also the kind that this
+/// argument must have. `Display` writes in words what is wrong.
 #[derive(Clone, Copy)]
 struct Wrong(Refusal, Option<Kind>);
 
@@ -116,7 +115,7 @@ fn words_of(kind: Kind) -> &'static str
 }
 
 impl RefusedProgram {
-    /// Returns the number of the V fault, or 0 for `OutOfMemory`, which has no number.
+    /// Returns the number of the fault (1 for V1, to 20 for V20), or 0 if the refusal is that memory ran out.
     pub fn number(&self) -> u32
         ensures { result ≡ number_in (refusal_numbers self.now.refusal) }
     {
@@ -135,8 +134,8 @@ fn unit_of(refusal: Refusal) -> Option<u32>
     unit
 }
 
-/// Returns the hexadecimal digits of a unit, with an LF, or `None` if there is no such unit. The error is that memory
-/// ran out.
+/// Returns the 16 hexadecimal digits of a unit, with an LF, or `None` if `bytes` end before the unit does. Units count
+/// from 0. The error is that memory ran out.
 fn digits_of(alloc: Global, bytes: &[u8], unit: u32) -> Result<Option<String>, AllocError>
     ensures { IfOk result (λ line. option_map string_bytes line ≡ digits_line bytes.now unit) }
 {
@@ -147,9 +146,9 @@ fn digits_of(alloc: Global, bytes: &[u8], unit: u32) -> Result<Option<String>, A
     }
 }
 
-/// Returns the kind that the helper called at the refusal's unit takes as the argument that the refusal names. Returns
-/// `None` if the refusal names no argument, if no instruction begins at its unit, or if there is no such helper or
-/// argument.
+/// Returns the kind that a helper takes as the argument that `refusal` names. The helper's number is the immediate of
+/// the instruction at the refusal's unit. Returns `None` if the refusal names no argument, if no instruction begins at
+/// its unit, or if there is no such helper or argument.
 fn wanted_by(code: &Code, refusal: Refusal) -> Option<Kind>
     ensures { result ≡ kind_wanted code.now refusal }
 {
@@ -199,10 +198,10 @@ fn units_of(alloc: Global, bytes: &[u8]) -> Result<Option<Code>, AllocError>
     }
 }
 
-/// Returns this refusal of the bytes with the line of the unit that it names. The line is the unit's instruction, or
-/// the unit's digits if the bytes don't decode; `None` if they have no such instruction or unit. If the argument of a
-/// helper is at fault, also returns the kind that the helper takes as this argument. The error is that memory ran out.
-/// If the refusal names no unit, the line is `None`, and there is no error.
+/// Returns `refusal` and the line of the unit that it names. The line is the unit's instruction, or the unit's
+/// hexadecimal digits if `bytes` don't decode. It is `None` if they have no such instruction or unit. If an argument of
+/// a helper is at fault, also returns the kind that the helper takes as this argument. The error is that memory ran
+/// out. If the refusal names no unit, the line is `None`, and there is no error.
 pub fn explain_refusal(
     alloc: Global,
     bytes: &[u8],
@@ -271,7 +270,7 @@ pub fn refused_program(
 }
 
 /// Returns why an assembler text is refused: its fault, and the flaw with the line or the label that the fault's
-/// message shows. Returns `None` if the text assembles. The error is that memory ran out.
+/// message shows, if it shows one. Returns `None` if the text assembles. The error is that memory ran out.
 pub fn asm_flaw(alloc: Global, text: &[u8]) -> Result<Option<(AsmFault, AsmFlaw<'_>)>, AllocError>
     ensures { IfOk result
         (λ found. MatchOption found (IsSpelling text.now)

@@ -1,4 +1,5 @@
--- Answers that wait in a buffer until they are written together.
+-- Answers wait in a buffer until they are written together. These lemmas say what holds of a session's lines and
+-- answers while answers wait, after a write, and when the session ends or fails.
 use Rattle.std.proofs.Common.{◌≡◌, ◌≢◌, ◌⊎◌, ℕ, ◌+◌, List, [], ◌∷◌, ◌++◌, Option, Some, None, Result, Ok, Err, IfOk, IfErr, OnErr, refl, sym, ◌∙◌, ap, subst, append_assoc, append-nil}
 use Rattle.std.proofs.Common.{inl, inr}
 use Rattle.std.specs.List.{flat_map}
@@ -27,8 +28,8 @@ is_answered (Some fault) now rest h = h
 read_is_no_write : session.Read ≡ session.Write → ⊥
 read_is_no_write e = absurd (cc)
 
--- if a beginning of the buffered bytes is written, then what held with all of them in the buffer holds with only the
--- rest in it
+-- if `HoldsWithBuffered` holds with `pending` in the buffer, and a beginning of these bytes is written, then
+-- `HoldsWithBuffered` holds with only their rest, `after`, in the buffer
 pub still_holds_after_write : (X : Option (List ℕ) → Option (List ℕ) → Type 0) (o p q : Option (List ℕ)) (pending after : List ℕ) → HoldsWithBuffered X o p pending
     → Sends pending after p q → HoldsWithBuffered X o q after
 still_holds_after_write X o p q pending after w s =
@@ -63,8 +64,9 @@ module _ {C D : Type 0} (answers_with : C × D → List ℕ → List ℕ → C �
   waits_more s m s' i j k o p q pending after count l w whole taken a =
       still_holds_after_write (Answers s s' i k (count + 1)) o p q (pending ++ a.text) after (holds_after_answer s m s' i j k o p pending count l a.text w whole taken a.is_answer) a.goes_on
 
-  -- If the input has ended, or the next line is too long or has no LF, then the session ends. The answer to such a line
-  -- is in the buffer.
+  -- If the lines so far were answered, then `Ends` holds for what was written and what is buffered in two cases:
+  -- - The input has ended right after these lines.
+  -- - The next line is too long, or is a last line without LF, and the answer to this fault is buffered too.
   ends_so : (s m : C × D) (i j k o p : Option (List ℕ)) (pending : List ℕ) (count : ℕ) (cut : Option LineFault) (more : List ℕ)
       → HoldsWithBuffered (Answers s m i j count) o p pending → Consumes j k more → IsCut cut k more
       → HoldsWithBuffered (λ a b. Ends answers_with s m i k a b (count + cut_count cut) cut) o p (pending ++ cut_line cut)
@@ -101,7 +103,8 @@ module _ {C D : Type 0} (answers_with : C × D → List ℕ → List ℕ → C �
       (ends_so s m i j k o p pending count cut more w taken is) h.1))
 
   module _ (drops : HandlerError → C × D → List ℕ → C × D → Type 0) where
-    -- if `Breaks` holds where a text was written, then it also holds where only a beginning of the text was
+    -- if `Breaks` holds for an empty output to which `text` was written, then it also holds for an output to which only
+    -- `sent`, a beginning of `text`, was written
     part_out : (s m : C × D) (i k o q : Option (List ℕ)) (text sent lost : List ℕ) → Breaks answers_with drops s m i k (Some []) (Some text) → sent ++ lost ≡ text
         → Appends o q sent → Breaks answers_with drops s m i k o q
     part_out s m i k o q text sent lost b in_order out = record {
@@ -131,7 +134,8 @@ module _ {C D : Type 0} (answers_with : C × D → List ℕ → List ℕ → C �
     breaks_so s m i j k o p pending count more w taken is =
         record { sent = w.sent; as_if_out = breaks_here answers_with drops s m i j (Some []) (Some (w.sent ++ pending)) count k more w.as_if_out taken is; out = w.out }
 
-    -- if a write of the buffered answers fails after a beginning of them, then `Breaks` holds for the session
+    -- if the lines so far were answered, and a write of the buffered answers fails after it has written a beginning of
+    -- them, then `Breaks` holds for the session
     pub breaks_gone : (s m : C × D) (i j o p q : Option (List ℕ)) (pending : List ℕ) (count : ℕ) → HoldsWithBuffered (Answers s m i j count) o p pending
         → (lost : List ℕ) × Sends pending lost p q → Breaks answers_with drops s m i j o q
     breaks_gone s m i j o p q pending count w e =
@@ -186,7 +190,8 @@ module _ {C D : Type 0} (answers_with : C × D → List ℕ → List ℕ → C �
         (ends_so s m i j k o p pending count (Some h.0) more w taken (subst P h.1 is)) (h.2, h.3)
 
     module _ (needs_memory : List ℕ → Type 0) where
-      -- if the session failed, but not in a write, then `Stops` holds for what was written and what is buffered
+      -- if the lines so far were answered, and reading the next line failed with this fault after at most a beginning
+      -- of it, then `Stops` holds for what was written and what is buffered
       pub stops_read : (fault : InputFault) (s m : C × D) (i j k o p : Option (List ℕ)) (pending : List ℕ) (count : ℕ) (more : List ℕ)
           → HoldsWithBuffered (Answers s m i j count) o p pending → Consumes j k more → IsLine more
           → HoldsWithBuffered (Stops answers_with drops needs_memory (fault_of_input fault) s m i k) o p pending
@@ -223,7 +228,8 @@ module _ {C D : Type 0} (answers_with : C × D → List ℕ → List ℕ → C �
         out = w.out;
       }
 
-      -- if the session failed and all buffered bytes are then written, then `StopsAtDoor` holds
+      -- if `Stops` holds for what was written and what is buffered, then `StopsAtDoor` holds once all buffered bytes
+      -- are written
       pub stops_out : (fault : SessionFault) (s m : C × D) (i k o p q : Option (List ℕ)) (pending : List ℕ) → HoldsWithBuffered (Stops answers_with drops needs_memory fault s m i k) o p pending
           → Sends pending [] p q → StopsAtDoor answers_with drops needs_memory fault s m i k o q
       unfolding part_out
@@ -231,14 +237,16 @@ module _ {C D : Type 0} (answers_with : C × D → List ℕ → List ℕ → C �
           let x = still_holds_after_write (Stops answers_with drops needs_memory fault s m i k) o p q pending [] w sends in
           (part_out s m i k o q (x.sent ++ []) x.sent [] x.as_if_out.0 refl x.out, x.as_if_out.1, λ _. x.as_if_out.2, x.as_if_out.3)
 
-      -- after a failed read `StopsAtDoor` holds, although the answers in the buffer are not written
+      -- if `Stops` holds for what was written and what is buffered, and the fault is a failed read, then `StopsAtDoor`
+      -- holds although the buffered answers are not written
       stops_waiting : (fault : SessionFault) (s m : C × D) (i k o p : Option (List ℕ)) (pending : List ℕ) → HoldsWithBuffered (Stops answers_with drops needs_memory fault s m i k) o p pending
           → fault ≡ session.Read → StopsAtDoor answers_with drops needs_memory fault s m i k o p
       unfolding part_out
       stops_waiting fault s m i k o p pending w is =
           (part_out s m i k o p (w.sent ++ pending) w.sent pending w.as_if_out.0 refl w.out, w.as_if_out.1, λ e. absurd (e is), w.as_if_out.3)
 
-      -- if a device failed, but not in a write, then `StopsAtDoor` holds without a further write
+      -- Let `fault` be a failed read or write. If it isn't a write, and `Stops` holds for what was written and what is
+      -- buffered, then `StopsAtDoor` holds without a further write.
       pub stops_off : (fault : SessionFault) (s m : C × D) (i k o p : Option (List ℕ)) (pending : List ℕ) → (fault ≡ session.Read) ⊎ (fault ≡ session.Write)
           → (fault ≢ session.Write → HoldsWithBuffered (Stops answers_with drops needs_memory fault s m i k) o p pending) → fault ≢ session.Write
           → StopsAtDoor answers_with drops needs_memory fault s m i k o p

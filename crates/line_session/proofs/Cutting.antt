@@ -1,4 +1,5 @@
--- Two sessions that read the same bytes read the same lines, and end with the same fault.
+-- If two sessions have the same bytes in their inputs, and neither fails, then both read the same lines, and end with
+-- the same fault of a line, if any.
 use Rattle.std.proofs.Common.{◌≡◌, ℕ, ◌+◌, ◌<◌, ◌≤◌, List, [], ◌∷◌, ◌++◌, length, Option, Some, None, Result, Ok, Err, refl, sym, ◌∙◌, ap, ap₂, subst, arith}
 use Rattle.std.proofs.Common.{append_assoc, length-append}
 use Rattle.std.specs.List.{AllByRecursion}
@@ -31,7 +32,8 @@ first_lf (b ∷ k) (c ∷ l) x y h g e =
     let head : b ≡ c = cc in
     (ap₂ (λ p q. p ∷ q) head t.0, t.1)
 
--- the bytes of lines that begin with the line `l` are `l`, its LF, and the bytes of the other lines
+-- Let `l` be the first of some lines, and `a` the bytes of the other lines. If `r` and `rest` come after the lines,
+-- then all bytes together are `l`, an LF, and then `a`, `r` and `rest`.
 line_first : (l a r rest : List ℕ) → ((with_lf l ++ a) ++ r) ++ rest ≡ l ++ 10 ∷ ((a ++ r) ++ rest)
 line_first l a r rest =
     ap (λ t. (t ++ r) ++ rest) (append_assoc l (10 ∷ []) a) ∙ ap (λ t. t ++ rest) (append_assoc l (10 ∷ a) r) ∙ append_assoc l (10 ∷ (a ++ r)) rest
@@ -95,7 +97,8 @@ one_cut (Some line.BadLine) d n h k = absurd h
 one_cut (Some line.BadNumber) d n h k = absurd h
 one_cut (Some line.OutOfMemory) d n h k = absurd h
 
--- bytes can be split into lines and a fault in only one way
+-- Let two sessions have the same bytes in their inputs, and let neither fail. Then the whole lines that they read, `ls`
+-- and `ks`, are the same, and so are the faults of a line with which they end, `c` and `d` (None if there is no fault).
 lines_alike : (ls ks : List (List ℕ)) (c d : Option LineFault) (r q rest more : List ℕ) → AllByRecursion IsLine ls → AllByRecursion IsLine ks
     → IsCut c (Some rest) r → IsCut d (Some more) q → (all_lines ls ++ r) ++ rest ≡ (all_lines ks ++ q) ++ more → (ls ≡ ks) × (c ≡ d)
 lines_alike [] [] c d r q rest more h k cr dq e =

@@ -1,4 +1,5 @@
--- What is found after the last whole line ends the session.
+-- A session ends where no whole line is found, as `IsCut` says: at a line that is too long, at a last line without LF,
+-- or at the end of the input.
 use Rattle.std.proofs.Common.{◌≡◌, ◌≢◌, ℕ, List, [], Option, false, Result, Ok, Err, IfErr, refl}
 use Rattle.std.specs.Io.KnownBytes.{Consumes}
 use Rattle.till_request.specs.declared.line.Found.{Found}

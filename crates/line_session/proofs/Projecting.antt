@@ -1,4 +1,6 @@
--- What a session did with its states is also true of what a caller sees of these states.
+-- A mapping gives, for each state of a session, what a caller sees of this state. An answer to a line, or a line left
+-- without an answer, leads from one state to another. If it also leads from what the caller sees of the one state to
+-- what the caller sees of the other, then the promises about a session or a worker hold for what the caller sees too.
 use Rattle.std.proofs.Common.{◌≡◌, ◌⊎◌, ℕ, List, [], ◌∷◌, Option, Some, None, Result, Ok, Err, ap, inl, inr}
 use Rattle.till_request.specs.declared.act.Act.{Act}
 use Rattle.till_request.specs.declared.act.Role.{Role}

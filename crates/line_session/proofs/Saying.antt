@@ -1,4 +1,5 @@
--- What a session has read, answered and written, after each line and at its end.
+-- These lemmas say what a session has read, answered and written, after each line and when it ends (`Ends`), breaks off
+-- (`Breaks`) or stops (`Stops`).
 use Rattle.std.proofs.Common.{◌≡◌, ℕ, ◌+◌, List, [], ◌∷◌, ◌++◌, take, drop, Option, Some, None, Result, Ok, Err, IfOk, OnErr, refl, sym, ◌∙◌, ap, subst, arith, append_assoc, append-nil}
 use Rattle.std.proofs.Common.{length-append, inl, inr}
 use Rattle.std.specs.List.{flat_map, AllByRecursion}
@@ -206,7 +207,8 @@ module _ {C D : Type 0} (answers_with : C × D → List ℕ → List ℕ → C �
     stops_reading needs_memory input.ReadsSpent s more line = (refl, line)
     stops_reading needs_memory input.OutOfMemory s more line = inl (refl, line)
 
-    -- if the session failed, but not in a write, then `Stops` holds
+    -- if the lines so far were answered, and reading the next line failed with this fault after at most a beginning of
+    -- it, then `Stops` holds
     pub stops_here : (needs_memory : List ℕ → Type 0) (fault : InputFault) (s m : C × D) (i j o p : Option (List ℕ)) (count : ℕ) (k : Option (List ℕ))
         (more : List ℕ) → AnswersLines answers_with s m i j o p count [] [] → Consumes j k more → IsLine more
         → Stops answers_with drops needs_memory (fault_of_input fault) s m i k o p

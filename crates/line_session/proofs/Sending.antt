@@ -1,4 +1,5 @@
--- What was written and what was lost, if bytes were to be written and a text after them.
+-- Bytes are to be written, and then a text. If only a beginning of them is written, then the rest is lost: the rest of
+-- the text, or the rest of the bytes and the whole text.
 use Rattle.std.proofs.Common.{◌≡◌, ℕ, List, [], ◌++◌, take, drop, Option, sym, ◌∙◌, ap, append_assoc, append-nil}
 use Rattle.std.specs.Io.KnownBytes.{Appends}
 use Rattle.std.proofs.lemmas.List.{take-append-drop}
@@ -17,13 +18,13 @@ lost_behind o p bytes text h =
 all_sent : (o p : Option (List ℕ)) (bytes : List ℕ) (s : Sends bytes [] o p) → s.sent ≡ bytes
 all_sent o p bytes s = sym (append-nil s.sent) ∙ s.in_order
 
--- if all of the bytes were written, and then a text, then the bytes and the text were written
+-- if all of the bytes were written, followed by a text, then the bytes and the text were written
 pub text_behind : (o p q : Option (List ℕ)) (bytes text : List ℕ) → Sends bytes [] o p → Appends p q text → Sends (bytes ++ text) [] o q
 text_behind o p q bytes text s w =
     let e = all_sent o p bytes s in
     record { sent = s.sent ++ text; out = appends_more o p q s.sent text s.out w; in_order = append-nil (s.sent ++ text) ∙ ap (λ (t : List ℕ). t ++ text) e }
 
--- if all of the bytes were written, and then only a beginning of the text, then the rest of the text is lost
+-- if all of the bytes were written, followed by only a beginning of the text, then the rest of the text is lost
 pub front_behind : (o p q : Option (List ℕ)) (bytes text : List ℕ) → Sends bytes [] o p → (k : ℕ) × Appends p q (take k text)
     → (lost : List ℕ) × Sends (bytes ++ text) lost o q
 front_behind o p q bytes text s h =

@@ -1,6 +1,9 @@
 -- Promises: the answers to lines, one after another. The input is split at LF. Each line in order is answered with one
 -- text, in the state to which the lines before it led. A line that is too long, or a last one without LF, is answered
--- with its fault, and ends the session.
+-- with its fault, and ends the session. `answers_with`, `drops` and `needs_memory` are those of the session's
+-- `LineHandler`. s and s' are the states of its clock and desk before and after. `in_old` and `in_new` are the bytes
+-- that are still to be read, before and after, and `out_old` and `out_new` all bytes that were written by then; None if
+-- proofs don't know them.
 use Rattle.std.specs.Prelude.{◌≡◌, ◌≢◌, ◌⊎◌, ℕ, ◌<◌, ◌≤◌, List, [], ◌∷◌, ◌++◌, ◌+◌, length, take, Option, Some, None, Result, Ok, Err, Bool, true, false}
 use Rattle.std.specs.Io.KnownBytes.{Appends, Consumes, IsAtEnd}
 use Rattle.std.specs.List.{flat_map, AllByRecursion}
@@ -15,37 +18,39 @@ use Rattle.line_session.specs.declared.line_handler.HandlerError.TheVariants as 
 use Rattle.line_session.specs.declared.answering.SessionFault.{SessionFault}
 use Rattle.line_session.specs.declared.answering.SessionFault.TheVariants as session
 
--- the line was answered, and the whole answer was written
+-- `line` was answered, which led from state s to s', and the whole answer was written
 pub record WritesAnswer {S : Type 0} (answers_with : S → List ℕ → List ℕ → S → Type 0) (line : List ℕ) (s s' : S) (out_old out_new : Option (List ℕ)) : Type 0 where
   pub text : List ℕ
   pub is_answer : answers_with s line text s'
   pub written : Appends out_old out_new text
 
--- the line was answered, and a beginning of the answer was written
+-- `line` was answered, which led from state s to s', and a beginning of the answer was written: its first `kept` bytes
 pub record WritesAnswerFront {S : Type 0} (answers_with : S → List ℕ → List ℕ → S → Type 0) (line : List ℕ) (s s' : S) (out_old out_new : Option (List ℕ)) : Type 0 where
   pub text : List ℕ
   pub is_answer : answers_with s line text s'
   pub kept : ℕ
   pub written : Appends out_old out_new (take kept text)
 
--- the line has no answer, and nothing was written
+-- `line` was left without an answer, which led from state s to s', and nothing was written
 pub record Dropped {S O : Type 0} (drops : S → List ℕ → S → Type 0) (line : List ℕ) (s s' : S) (o o' : O) : Type 0 where
   pub drops_it : drops s line s'
   pub output : o' ≡ o
 
--- the `drops` of a handler that drops no line: a line that it leaves without an answer has changed nothing
+-- The `drops` of a handler for which `Dropped` never holds. Such a handler leaves a line without an answer only as
+-- `RunsOutOfMemory` says: the line needs memory, which ran out, and nothing changed.
 abbrev pub drops_none : {S : Type 0} → HandlerError → S → List ℕ → S → Type 0
 drops_none why s line s' = ⊥
 
--- the line needs memory, which ran out, and nothing changed
+-- the handler needs memory for `line`, memory ran out, and neither the state nor the output changed
 pub record RunsOutOfMemory {S O : Type 0} (needs_memory : List ℕ → Type 0) (line : List ℕ) (s s' : S) (o o' : O) : Type 0 where
   pub needs_it : needs_memory line
   pub state : s' ≡ s
   pub output : o' ≡ o
 
--- Why the whole answer to a line wasn't written. `Write`: the device failed after a beginning of the answer.
+-- Why the whole answer to `line` wasn't written. `Write`: the write failed after a beginning of the answer.
 -- `OutOfMemory`: the line needed memory and changed nothing, or was dropped (left without an answer) because memory ran
--- out. `Journal`: the line was dropped because the journal failed.
+-- out. `Journal`: the line was dropped because the journal failed. s and s' are the states before and after the line, o
+-- and o' the outputs, and `out` gives all bytes that were written to an output.
 abbrev pub HandlerFails : {S O : Type 0} → (S → List ℕ → List ℕ → S → Type 0) → (HandlerError → S → List ℕ → S → Type 0) → (List ℕ → Type 0)
     → (O → Option (List ℕ)) → HandlerError → List ℕ → S → S → O → O → Type 0
 HandlerFails answers_with drops needs_memory out error.Write line s s' o o' = WritesAnswerFront answers_with line s s' (out o) (out o')
@@ -71,7 +76,8 @@ AnswersAll {S} answers_with (line ∷ lines) s (text ∷ texts) s' = (m : S) × 
 AnswersAll answers_with [] s (text ∷ texts) s' = ⊥
 AnswersAll answers_with (line ∷ lines) s [] s' = ⊥
 
--- `count` lines were read and answered, and after them the bytes `rest` were read, and the bytes `more` were written
+-- `count` lines were read and answered; after these lines the bytes `rest` were read, and after their answers the bytes
+-- `more` were written
 pub record AnswersLines {S : Type 0} (answers_with : S → List ℕ → List ℕ → S → Type 0) (s s' : S) (in_old in_new out_old out_new : Option (List ℕ)) (count : ℕ)
     (rest more : List ℕ) : Type 0 where
   pub lines : List (List ℕ)
@@ -82,9 +88,9 @@ pub record AnswersLines {S : Type 0} (answers_with : S → List ℕ → List ℕ
   pub written : Appends out_old out_new (all_texts texts ++ more)
   pub counted : count ≡ length texts
 
--- `rest` is what was read after the last whole line. Without a fault of a line it is empty, and the input has ended.
--- With a fault it is the first 8,401 bytes of a line that is too long, or a last line without LF, at the end of the
--- input.
+-- How a session's input ended: `rest` is what was read after the last whole line. Without a fault (None) `rest` is
+-- empty, and the input has ended. `TooLong`: `rest` is the first 8,401 bytes of a line that is too long. `CutLine`:
+-- `rest` is a last line without LF, and the input has ended. No other fault ends an input.
 abbrev pub IsCut : Option LineFault → Option (List ℕ) → List ℕ → Type 0
 IsCut None in_new rest = (rest ≡ []) × IsAtEnd in_new
 IsCut (Some line.TooLong) in_new rest = HasNoLf rest × (length rest ≡ 8401)
@@ -103,7 +109,8 @@ abbrev pub cut_count : Option LineFault → ℕ
 cut_count None = 0
 cut_count (Some fault) = 1
 
--- the session ended without a failure: all lines were answered, and all answers were written
+-- The session ended without a failure: all lines were answered, and all `count` answers were written. `cut` is the
+-- fault of the last line, if it is too long or has no LF; the answer to this fault is counted too.
 pub record Ends {S : Type 0} (answers_with : S → List ℕ → List ℕ → S → Type 0) (s s' : S) (in_old in_new out_old out_new : Option (List ℕ)) (count : ℕ)
     (cut : Option LineFault) : Type 0 where
   pub answered : ℕ
@@ -116,21 +123,24 @@ pub record Ends {S : Type 0} (answers_with : S → List ℕ → List ℕ → S �
 abbrev pub IsUpToLine : List ℕ → Type 0
 IsUpToLine rest = IsLine rest ⊎ ((line : List ℕ) × IsLine line × (rest ≡ with_lf line))
 
--- `rest` is what was read after the last line that was answered. Without a fault of a line it is at most the next line.
--- With a fault it is what was read of the line that has the fault.
+-- `rest` is what was read after the last line that was answered. Without a fault (None) it is a beginning of the next
+-- line, or all of it with its LF. With a fault it is what was read of the line that has the fault, as `IsCut` says.
 abbrev pub AnswersCut : Option LineFault → Option (List ℕ) → List ℕ → Type 0
 AnswersCut None in_new rest = IsUpToLine rest
 AnswersCut (Some fault) in_new rest = IsCut (Some fault) in_new rest
 
--- the next line was read whole, and dropped (left without an answer) for this reason
+-- the next line was read whole, as `rest`, and dropped (left without an answer) for the reason `why`, which led from
+-- state s to s'
 abbrev pub DropsFor : {S : Type 0} → (HandlerError → S → List ℕ → S → Type 0) → HandlerError → S → S → List ℕ → Type 0
 DropsFor drops why s s' rest = (line : List ℕ) × IsLine line × (rest ≡ with_lf line) × drops why s line s'
 
--- no further line was handled, or the next one was dropped (left without an answer)
+-- after state s no line was handled, or the next line, `rest`, was dropped (left without an answer), which led to state
+-- s'
 abbrev pub DropsNext : {S : Type 0} → (HandlerError → S → List ℕ → S → Type 0) → S → S → List ℕ → Type 0
 DropsNext drops s s' rest = (s' ≡ s) ⊎ ((why : HandlerError) × DropsFor drops why s s' rest)
 
--- the session failed, and a beginning of the answers was written
+-- the session failed, and of all its answers (to the lines, and to the fault of the last line if it has one) a
+-- beginning was written
 pub record Breaks {S : Type 0} (answers_with : S → List ℕ → List ℕ → S → Type 0) (drops : HandlerError → S → List ℕ → S → Type 0) (s s' : S)
     (in_old in_new out_old out_new : Option (List ℕ)) : Type 0 where
   pub lines : List (List ℕ)
@@ -148,19 +158,21 @@ pub record Breaks {S : Type 0} (answers_with : S → List ℕ → List ℕ → S
   pub written : Appends out_old out_new front
   pub begins : all_texts texts ++ cut_line cut ≡ front ++ after
 
--- nothing was handled after the last answered line, and of the next line at most a beginning was read
+-- after state s no line was handled, and at most a beginning of the next line was read, which is `rest`
 abbrev pub ReadsOn : {S : Type 0} → S → S → List ℕ → Type 0
 ReadsOn s s' rest = (s' ≡ s) × IsLine rest
 
--- Memory ran out while the next line was read. Or that line was read whole, needs memory, and changed nothing. Or it
--- was read whole, and dropped (left without an answer) because memory ran out.
+-- Memory ran out at the next line, of which `rest` was read, in one of three ways. The line wasn't read whole, and
+-- nothing changed. Or it was read whole, needs memory, and changed nothing. Or it was read whole, and dropped (left
+-- without an answer), which led from state s to s'.
 abbrev pub RunsOutAtNextLine : {S : Type 0} → (HandlerError → S → List ℕ → S → Type 0) → (List ℕ → Type 0) → S → S → List ℕ → Type 0
 RunsOutAtNextLine drops needs_memory s s' rest =
     ReadsOn s s' rest ⊎ ((line : List ℕ) × IsLine line × (rest ≡ with_lf line) × (((s' ≡ s) × needs_memory line) ⊎ drops error.OutOfMemory s line s'))
 
--- Why a session failed although no write did. `Read`, `ReadsSpent`: while the next line was read. `OutOfMemory`: memory
--- ran out at the next line, as `RunsOutAtNextLine` says. `Journal`: the next line was dropped because the journal
--- failed.
+-- Why a session failed, if no write failed. `Read`: a read of the next line failed. `ReadsSpent`: the next line needs
+-- more reads than the session is allowed to make. `OutOfMemory`: memory ran out at the next line, as
+-- `RunsOutAtNextLine` says. `Journal`: the next line was dropped (left without an answer) because the journal failed. s
+-- is the state after the last answered line, s' the state at the end, and `rest` is what was read between them.
 abbrev pub StopsFor : {S : Type 0} → (HandlerError → S → List ℕ → S → Type 0) → (List ℕ → Type 0) → SessionFault → S → S → List ℕ → Type 0
 StopsFor drops needs_memory session.Write s s' rest = ⊥
 StopsFor drops needs_memory session.Read s s' rest = ReadsOn s s' rest
@@ -168,15 +180,15 @@ StopsFor drops needs_memory session.ReadsSpent s s' rest = ReadsOn s s' rest
 StopsFor drops needs_memory session.OutOfMemory s s' rest = RunsOutAtNextLine drops needs_memory s s' rest
 StopsFor drops needs_memory session.Journal s s' rest = DropsFor drops error.Journal s s' rest
 
--- The session failed although no write did. The whole answers to all answered lines were written, and no answer to a
--- fault of a line. The failure has its cause at the next line, as `StopsFor` says.
+-- The session failed with `fault`, which isn't a failed write. The answers to all answered lines were written whole,
+-- and no fault of a line was answered. The session failed at the line after the last answered one, as `StopsFor` says.
 abbrev pub Stops : {S : Type 0} → (S → List ℕ → List ℕ → S → Type 0) → (HandlerError → S → List ℕ → S → Type 0) → (List ℕ → Type 0) → SessionFault → S
     → S → Option (List ℕ) → Option (List ℕ) → Option (List ℕ) → Option (List ℕ) → Type 0
 Stops answers_with drops needs_memory fault s s' in_old in_new out_old out_new =
     (b : Breaks answers_with drops s s' in_old in_new out_old out_new) × (b.cut ≡ None) × (b.after ≡ []) × StopsFor drops needs_memory fault b.answered s' b.rest
 
--- A session that buffers answers failed although no write did. Then `Stops` holds, except that after a failed read the
--- buffered answers are not written.
+-- A session that buffers answers failed with `fault`, which isn't a failed write. `Stops` holds, except that after a
+-- failed read perhaps only a beginning of the answers was written.
 abbrev pub StopsAtDoor : {S : Type 0} → (S → List ℕ → List ℕ → S → Type 0) → (HandlerError → S → List ℕ → S → Type 0) → (List ℕ → Type 0)
     → SessionFault → S → S → Option (List ℕ) → Option (List ℕ) → Option (List ℕ) → Option (List ℕ) → Type 0
 StopsAtDoor answers_with drops needs_memory fault s s' in_old in_new out_old out_new =
@@ -211,8 +223,8 @@ is_write_fault (Err error.Journal) = false
 abbrev pub session_reads : ℕ
 session_reads = 67108864
 
--- At most `most` reads were made, each of one byte; exactly `most` if the fault is that no read is left. The last four
--- arguments are the number of reads before and after, and the number of bytes asked for before and after.
+-- At most `most` reads were made, each of one byte; exactly `most` if the session needed more (`ReadsSpent`). The last
+-- four arguments are the number of reads before and after, and the number of bytes asked for before and after.
 abbrev pub SpendsReads : {T : Type 0} → ℕ → Result T SessionFault → ℕ → ℕ → ℕ → ℕ → Type 0
 SpendsReads most result reads_old reads_new asked_old asked_new =
     (k : ℕ) × (k ≤ most) × RoseBy k reads_old reads_new × (result ≡ Err session.ReadsSpent → k ≡ most) × RoseBy k asked_old asked_new

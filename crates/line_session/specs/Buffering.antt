@@ -6,7 +6,7 @@ use Rattle.line_session.specs.declared.line_handler.HandlerError.TheVariants as 
 use Rattle.line_session.specs.declared.answering.SessionFault.{SessionFault}
 use Rattle.line_session.specs.declared.answering.SessionFault.TheVariants as session
 
--- a beginning of these bytes was written, and `rest` was not
+-- a beginning of `bytes` was written, and `rest`, which is all bytes after it, was not
 pub record Sends (bytes rest : List ℕ) (out_old out_new : Option (List ℕ)) : Type 0 where
   pub sent : List ℕ
   pub out : Appends out_old out_new sent
@@ -42,8 +42,8 @@ pub record Keeps (pending after : List ℕ) (out_old out_new : Option (List ℕ)
   pub out : out_new ≡ out_old
 
 -- Why the answer to a line is neither written whole nor buffered. `Write`: a write failed, and the rest of the buffered
--- bytes and the answer is lost. `OutOfMemory`: the line needed memory and changed nothing, or was dropped because
--- memory ran out. `Journal`: the line was dropped because the journal failed.
+-- bytes and the answer is lost. `OutOfMemory`: the line needed memory and changed nothing, or was dropped (left without
+-- an answer) because memory ran out. `Journal`: the line was dropped because the journal failed.
 abbrev pub FailsToBuffer : {S : Type 0} → (S → List ℕ → List ℕ → S → Type 0) → (HandlerError → S → List ℕ → S → Type 0) → (List ℕ → Type 0) → SessionFault
     → List ℕ → S → S → List ℕ → List ℕ → Option (List ℕ) → Option (List ℕ) → Type 0
 FailsToBuffer answers_with drops needs_memory session.Write line s s' pending after out_old out_new = LosesSome answers_with line s s' pending out_old out_new

@@ -1,5 +1,5 @@
 -- Promises: the answer to a line, before it is written. The desk answers the line's act at the moment that the clock
--- gives. A fault of the line is its own answer.
+-- gives. If the line has a fault, this fault is the answer.
 use Rattle.std.specs.Prelude.{◌≡◌, ◌⊎◌, ℕ, List, Ok}
 use Rattle.till_request.specs.declared.act.Act.{Act}
 use Rattle.till_request.specs.declared.act.Role.{Role}
@@ -16,8 +16,8 @@ abbrev pub DecidesAct : {C D : Type 0} → (D → Act → ℕ → Answer → D �
 DecidesAct step tick role line c d answer c' d' =
     (act : Act) × (moment : ℕ) × (line_read role line ≡ Ok act) × tick c moment c' × step d act moment answer d'
 
--- The line has a fault, and neither the clock nor the desk was asked. The fault is `OutOfMemory` only if the line is a
--- load.
+-- The answer is a fault of the line, and neither the clock nor the desk was asked. The fault is `OutOfMemory` only if
+-- the line is a load.
 abbrev pub DecidesFault : {C D : Type 0} → Role → List ℕ → C → D → Answer → C → D → Type 0
 DecidesFault role line c d answer c' d' =
     (fault : LineFault) × (answer ≡ Line fault) × Fails fault (line_read role line) × (fault ≡ OutOfMemory → desk_needs_memory role line) × (c' ≡ c) × (d' ≡ d)

@@ -1,4 +1,4 @@
--- Promises: which fault of a session a fault of reading or of answering becomes.
+-- Promises: the fault with which a session ends after a fault of its input, or after an error of its handler.
 use Rattle.till_request.specs.declared.line.InputFault.{InputFault}
 use Rattle.till_request.specs.declared.line.InputFault.TheVariants as input
 use Rattle.line_session.specs.declared.line_handler.HandlerError.{HandlerError}

@@ -1,6 +1,9 @@
--- Promises: answers don't depend on the sizes of the input's reads. `Ends` describes what a session read and wrote by
--- the bytes of its input alone; so two sessions with the same bytes, from the same state, end alike, unless memory runs
--- out.
+-- Promises: answers don't depend on the sizes of the input's reads. To describe what a session read and wrote, `Ends`
+-- uses the bytes of its input, but not the sizes of its reads. So two sessions with the same bytes, from the same state
+-- and after the same output, end alike if three things hold:
+-- - Neither session fails.
+-- - No answer is that memory ran out.
+-- - In each state a line has only one answer, and only one state follows, unless memory runs out.
 use Rattle.std.specs.Prelude.{◌≡◌, ℕ, List, Option, Some}
 use Rattle.std.specs.List.{AllByRecursion}
 use Rattle.till_request.specs.declared.act.Act.{Act}
@@ -23,8 +26,8 @@ abbrev pub IsDetermined : {S : Type 0} → (S → List ℕ → List ℕ → S �
 IsDetermined {S} answers_with =
     (s : S) (line text other : List ℕ) (m n : S) → answers_with s line text m → answers_with s line other n → ¬ IsOutOfMemoryText text → ¬ IsOutOfMemoryText other → (text ≡ other) × (m ≡ n)
 
--- two sessions wrote the same, ended in the same state, answered as many lines, and ended with the same fault of a
--- line, if any
+-- two sessions wrote the same, ended in the same state, answered the same number of lines, and ended with the same
+-- fault of a line, if any
 pub record EndAlike {S : Type 0} (s t : S) (out_s out_t : List ℕ) (count_s count_t : ℕ) (cut_s cut_t : Option LineFault) : Type 0 where
   pub state : s ≡ t
   pub written : out_s ≡ out_t

@@ -1,5 +1,6 @@
--- Promises: what a worker did. It opened one connection after another, and ran a session at each. The first session
--- began in the state that the worker was given, and each other one in the state to which the connections before it led.
+-- Promises: what a worker did. It tried to open one connection after another, and ran a session at each that it opened.
+-- The first session began in the state that the worker was given, and each later one in the state in which the one
+-- before it ended.
 use Rattle.std.specs.Prelude.{◌≡◌, ◌≢◌, ℕ, ◌+◌, ◌≤◌, List, [], ◌∷◌, length, Option, Some, None, Result, Ok, Err, IfOk, IfErr, OnErr}
 use Rattle.till_request.specs.declared.act.Act.{Act}
 use Rattle.till_request.specs.declared.act.Role.{Role}
@@ -29,7 +30,7 @@ good (outcome ∷ outcomes) = one_good outcome + good outcomes
 
 -- A session over this input and output had this result. Either all lines were answered, or the session failed and a
 -- beginning of the answers was written. Each fault has its cause: a device failed, all reads were made, the journal
--- failed at a line, or memory ran out at one.
+-- failed at a line, or memory ran out at a line.
 pub record RunsSession {S I O : Type 0} (answers_with : S → List ℕ → List ℕ → S → Type 0) (drops : HandlerError → S → List ℕ → S → Type 0) (needs_memory : List ℕ → Type 0)
     (remaining : I → Option (List ℕ)) (reads read_failures : I → ℕ) (written : O → Option (List ℕ)) (write_failures : O → ℕ)
     (result : Result Ended SessionFault) (i : I) (o : O) (s s' : S) : Type 0 where

@@ -1,7 +1,7 @@
 -- Definitions: the answers of a desk to lines (this profile). The act of a line is answered at the moment that the
 -- clock gives for it. A line that can't be read as an act is answered with its fault, and then neither the clock nor
--- the desk is asked. If the desk's answer is that memory ran out at a line, or that the journal failed, the line has no
--- answer: the session ends.
+-- the desk is asked. If the desk says that memory ran out at a line, or that the journal failed, no answer to this line
+-- is written, and the session ends.
 use Rattle.std.specs.Prelude.{◌≡◌, ℕ, List, take, Option, Result, Ok, Err, Bool, true, false}
 use Rattle.std.specs.Io.KnownBytes.{Appends}
 use Rattle.till_request.specs.declared.act.Act.{Act}
@@ -51,7 +51,8 @@ StaysUnwritten took error.Write answer o o' = WritesFront took answer o o'
 StaysUnwritten took error.OutOfMemory answer o o' = IsUnwritten error.OutOfMemory answer × (o' ≡ o)
 StaysUnwritten took error.Journal answer o o' = IsUnwritten error.Journal answer × (o' ≡ o)
 
--- the text is the line of an answer that this clock and this desk can give to the line `line` from this role
+-- With the clock in the state `c` and the desk in the state `d`, the line `line` from this role can get the answer
+-- `text`, its LF included. The clock and the desk are then in the states `c'` and `d'`.
 pub record IsAnswerLine {C D : Type 0} (step : D → Act → ℕ → Answer → D → Type 0) (tick : C → ℕ → C → Type 0) (role : Role) (line text : List ℕ) (c : C) (d : D)
     (c' : C) (d' : D) : Type 0 where
   pub answer : Answer

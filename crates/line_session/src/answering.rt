@@ -18,8 +18,9 @@ use till_request::{Answer, Found, InputFault, LineFault, LineIn, LineOut, WriteF
 /// The most reads that one session makes. Each read asks for one byte.
 pub const READS: u32 = 67_108_864;
 
-/// How a session ended without a `SessionFault`: the number of its answers, and the fault of its last line if that was
-/// too long (L1) or had no LF (L4), else `None`. The answer to such a line is counted too.
+/// How a session ended without a `SessionFault`. `lines` is the number of its answers. `cut` is the fault of its last
+/// line, if this line was too long (L1) or had no LF (L4), else `None`. The answer with this fault is counted in
+/// `lines` too.
 #[derive(Clone, Copy, PartialEq)]
 pub struct Ended {
     pub lines: u64,
@@ -36,8 +37,8 @@ pub enum SessionFault {
     /// N3: the session would need more reads than it is allowed to make.
     ReadsSpent,
     OutOfMemory,
-    /// The journal failed: at least the last line that was read has no whole answer, and the site takes no further
-    /// event.
+    /// The journal failed, and the site takes no further event. The last line that was read has no answer, or only a
+    /// beginning of its answer was written. This can be so for lines before it too.
     Journal,
 }
 

@@ -12,9 +12,9 @@ use till_request::grammar::parse_line;
 use till_request::write::write_answer;
 use till_request::{Answer, LineFault, LineOut, Role, WriteFault};
 
-/// Returns the answer to a line from a role. The line is given without its LF. The answer is the desk's answer to the
-/// line's act at the clock's moment. If the line can't be read as an act of the role, or memory runs out for a load,
-/// the answer is that fault, and the clock and the desk stay as they are.
+/// Returns the answer to a line from a sender of this role. `line` doesn't include its LF. The answer is the desk's
+/// answer to the line's act at the clock's moment. If the line can't be read as an act of the role, or memory runs out
+/// for a load, the answer is `Line` with the line's fault, and the clock and the desk stay as they are.
 pub fn answer_to<C: Clock, D: Desk>(
     alloc: Global,
     role: Role,
@@ -54,8 +54,8 @@ pub fn unwritten_error(answer: &Answer) -> Option<HandlerError>
     }
 }
 
-// Writes the line of an answer. The error is that the write failed. An answer that ends the session has no line: then
-// nothing is written, and the error is the one that `unwritten_error` returns.
+// Writes the line of an answer. If `unwritten_error` returns an error for the answer, writes nothing and returns this
+// error. The only other error is that the write failed.
 fn write_line_of<O: LineOut>(
     alloc: Global,
     output: &mut O,
@@ -77,7 +77,7 @@ fn write_line_of<O: LineOut>(
 
 /// A line handler for the lines of a role. It parses a line to an act, and answers with the desk's answer to this act,
 /// at the moment that the clock gives. If the line can't be read as an act of the role, it answers with the line's
-/// fault.
+/// fault. The answers `Line(OutOfMemory)` and `JournalFailed` aren't written: they end the session with an error.
 #[derive(Clone, Copy)]
 pub struct DeskHandler {
     pub role: Role,

@@ -28,11 +28,12 @@ pub trait LineHandler<C, D> {
     /// failed). The clock and the desk are in the first state before the line, and in the second state after it.
     ghost drops: { Self → HandlerError → (C × D) → List ℕ → (C × D) → Type 0 };
 
-    /// For proofs: at this line, the handler can run out of memory before anything has changed.
+    /// For proofs: at this line, the handler can run out of memory, and leave the clock, the desk and the output as
+    /// they were.
     ghost needs_memory: { Self → List ℕ → Type 0 };
 
     /// Writes the answer to a line. `line` doesn't include its LF. The error is that a write failed, that memory ran
-    /// out, or that the journal failed. It ends the session.
+    /// out, or that the journal failed. Any error ends the session.
     fn handle_line<O: LineOut>(
         &self,
         alloc: Global,

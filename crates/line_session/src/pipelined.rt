@@ -44,8 +44,9 @@ impl Progress {
         }
     }
 
-    /// Writes the buffered answers, unless they have fewer than 16,384 bytes and the input has the whole next line in
-    /// its buffer. The error is that a write failed.
+    /// Writes the buffered answers if they have at least 16,384 bytes, or if the input doesn't have the whole next line
+    /// in its buffer (`doors.has_buffered_line` returns false). Otherwise writes nothing. The error is that a write
+    /// failed.
     fn flush_unless_more<S: Doors>(
         &mut self,
         doors: &S,
@@ -194,8 +195,9 @@ fn device_failed(fault: SessionFault) -> bool
 }
 
 /// Answers the lines of a connection in order, as acts of a role, like `session`, with the same errors. But answers are
-/// buffered while the input has the whole next line in its buffer, as `doors.has_buffered_line` reports, and then
-/// written together.
+/// buffered, to be written together. Before a line is read, the buffered answers are written if they have at least
+/// 16,384 bytes, or if the input doesn't have this whole line in its buffer (`doors.has_buffered_line` returns false).
+/// Otherwise they stay buffered.
 ///
 /// After a failed read or write, answers that are still buffered are not written. After any other error they are.
 pub fn pipelined_session<S: Doors, C: Clock, D: Desk>(

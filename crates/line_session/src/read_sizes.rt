@@ -6,15 +6,16 @@ ghost use Rattle.line_session.specs.Session.{desk_answers};
 use crate::desk::{Clock, Desk};
 use crate::line_handler::LineHandler;
 
-/// Does nothing. Its contract is a law: the sizes of an input's reads change no answer. The law is for a handler that
-/// in each state of the clock and the desk can give only one answer to a line, after which only one state follows,
-/// unless memory runs out. Such a handler gives the same answers to the same bytes from the same state, unless memory
-/// runs out or a session fails.
+/// Does nothing. Its contract is a law: the sizes of an input's reads change no answer. The law is for a handler with
+/// this property: in each state of the clock and the desk it can give only one answer to a line, and only one state
+/// follows, unless memory runs out. Such a handler gives the same answers to the same bytes from the same state, unless
+/// memory runs out or a session fails.
 ///
 /// The contract of `answer_lines` describes what is read and written in terms of the input's bytes alone, whatever the
-/// device is. So two calls with such a handler, the same bytes, the same state and the same output before end alike if
-/// both return `Ok` and no answer is that memory ran out. A loop that lost bytes after a line's LF, or took the bytes
-/// of one read for a line, could not have this contract.
+/// device is. Let two calls with such a handler begin in the same state, with the same bytes to read and the same bytes
+/// written before. If both return `Ok`, and no answer says that memory ran out, then they write the same bytes, end in
+/// the same state, and return the same result. A loop that lost bytes after a line's LF, or took the bytes of one read
+/// for a line, could not have this contract.
 pub fn law_of_read_sizes<C, D, S: LineHandler<C, D>>()
     ensures { (handler : S) → IsDetermined (S.answers_with handler)
         → IsIndependentOfReadSizes (S.answers_with handler) }

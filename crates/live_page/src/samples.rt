@@ -4,7 +4,7 @@ use crate::station::{DurationSummary, JournalFileStats, RoleCounts, StationSnaps
 use crate::words::role_name;
 use day_page::names::state_name;
 use day_page::texts::{number, numbered};
-use day_page::{HtmlBuilder, STATES, Text};
+use day_page::{STATES, Text, TextBuilder};
 use decision_journal::{FIRST_REFUSAL, NO_DECISIONS, REFUSALS, Tally, VersionTally};
 use fuelling_point::{Point, State};
 use program_slots::Version;
@@ -41,28 +41,28 @@ macro_rules! summary {
 /// memory ran out.
 pub fn metrics(alloc: Global, station: &StationSnapshot<'_>) -> Result<String, AllocError> {
     let left = station.left;
-    let mut html = HtmlBuilder::new(alloc);
-    add_journal(&mut html, station);
-    add_refusals(&mut html, station.tally);
-    add_decisions(&mut html, station.tally, &left.rules);
-    add_points(&mut html, &left.points);
-    add_money(&mut html, left);
-    add_counters(&mut html, left);
-    add_peers(&mut html, station.role_counts);
-    add_times(&mut html, LOCK_WAITS, station.waits);
+    let mut text = TextBuilder::new(alloc);
+    add_journal(&mut text, station);
+    add_refusals(&mut text, station.tally);
+    add_decisions(&mut text, station.tally, &left.rules);
+    add_points(&mut text, &left.points);
+    add_money(&mut text, left);
+    add_counters(&mut text, left);
+    add_peers(&mut text, station.role_counts);
+    add_times(&mut text, LOCK_WAITS, station.waits);
     if let Some(journal) = station.journal {
-        add_file(&mut html, journal);
+        add_file(&mut text, journal);
     }
     if let Some(bytes) = station.memory {
-        html.fill(MEMORY, &[Text::Number(bytes)]);
+        text.fill(MEMORY, &[Text::Number(bytes)]);
     }
-    html.finish()
+    text.finish()
 }
 
 /// Adds `form`, a line that shows a metric's value and ends with LF. `label` replaces the first `{}` in `form`, and
 /// `value` the second.
-fn add_sample(html: &mut HtmlBuilder, form: &str, label: Text, value: u64) {
-    html.fill(form, &[label, Text::Number(value)]);
+fn add_sample(text: &mut TextBuilder, form: &str, label: Text, value: u64) {
+    text.fill(form, &[label, Text::Number(value)]);
 }
 
 const JOURNAL: &str = singles!(
@@ -94,23 +94,23 @@ fn loads(tally: &Tally) -> usize {
         .count()
 }
 
-fn add_journal(html: &mut HtmlBuilder, station: &StationSnapshot<'_>) {
+fn add_journal(text: &mut TextBuilder, station: &StationSnapshot<'_>) {
     let values = [
         digits(station.entries),
         Text::Number(ENTRIES),
         Text::Number(u64::from(station.has_failed)),
         number(loads(station.tally)),
     ];
-    html.fill(JOURNAL, &values);
+    text.fill(JOURNAL, &values);
 }
 
-fn add_refusals(html: &mut HtmlBuilder, tally: &Tally) {
-    html.add(
+fn add_refusals(text: &mut TextBuilder, tally: &Tally) {
+    text.add(
         head!("fc_refusals_total" is a "counter": "Refusals in this journal, by their number."),
     );
     for number in FIRST_REFUSAL..FIRST_REFUSAL + REFUSALS {
         add_sample(
-            html,
+            text,
             "fc_refusals_total{number=\"S{}\"} {}\n",
             digits(number),
             tally.refusals(number),
@@ -123,41 +123,41 @@ fn add_refusals(html: &mut HtmlBuilder, tally: &Tally) {
 const DECISIONS: &str = "fc_decisions_total{slot=\"{}\",version=\"{}\",answer=\"granted\"} {}\n\
     fc_decisions_total{slot=\"{}\",version=\"{}\",answer=\"denied\"} {}\n";
 
-fn add_version(html: &mut HtmlBuilder, slot: Text, version: u32, decided: &VersionTally) {
+fn add_version(text: &mut TextBuilder, slot: Text, version: u32, decided: &VersionTally) {
     let version = digits(version);
     let (granted, denied) = (Text::Number(decided.granted), Text::Number(decided.denied));
-    html.fill(DECISIONS, &[slot, version, granted, slot, version, denied]);
+    text.fill(DECISIONS, &[slot, version, granted, slot, version, denied]);
 }
 
 /// Adds how many requests each version of a rule granted and denied. These versions are shown:
 ///
 /// - those in `tally`: an entry loaded them, or they decided the request of an entry;
 /// - those in force: they are in `rules`, the version in slot 0 first.
-fn add_decisions(html: &mut HtmlBuilder, tally: &Tally, rules: &[Option<Version>]) {
-    html.add(
+fn add_decisions(text: &mut TextBuilder, tally: &Tally, rules: &[Option<Version>]) {
+    text.add(
         head!("fc_decisions_total" is a "counter": "Decisions of rules in this journal, by version."),
     );
     for (version, decided) in tally.versions().iter() {
-        add_version(html, digits(decided.slot), *version, decided);
+        add_version(text, digits(decided.slot), *version, decided);
     }
     for (slot, rule) in rules.iter().enumerate() {
         if let Some(version) = rule {
-            add_idle(html, number(slot), version.number, tally);
+            add_idle(text, number(slot), version.number, tally);
         }
     }
 }
 
 /// Adds the lines of a version that is in force, with 0 grants and 0 denials. If `tally` has counts of the version,
 /// nothing is added.
-fn add_idle(html: &mut HtmlBuilder, slot: Text, version: u32, tally: &Tally) {
+fn add_idle(text: &mut TextBuilder, slot: Text, version: u32, tally: &Tally) {
     if tally.versions().get(&version).is_none() {
-        add_version(html, slot, version, &NO_DECISIONS);
+        add_version(text, slot, version, &NO_DECISIONS);
     }
 }
 
 /// Adds a line for each state that a point can have. The line of the state `now`, which the point has, shows 1, and the
 /// other lines show 0. `place` is the point's position in the list of points, counted from 0.
-fn add_states(html: &mut HtmlBuilder, place: usize, now: State) {
+fn add_states(text: &mut TextBuilder, place: usize, now: State) {
     for state in &STATES {
         let is_now = u64::from(*state == now);
         let texts = [
@@ -165,7 +165,7 @@ fn add_states(html: &mut HtmlBuilder, place: usize, now: State) {
             Text::Words(state_name(*state)),
             Text::Number(is_now),
         ];
-        html.fill("fc_point_state{point=\"{}\",state=\"{}\"} {}\n", &texts);
+        text.fill("fc_point_state{point=\"{}\",state=\"{}\"} {}\n", &texts);
     }
 }
 
@@ -177,26 +177,26 @@ fn unpaid_cents(point: &Point) -> u64 {
     first.saturating_add(second)
 }
 
-fn add_points(html: &mut HtmlBuilder, points: &[Point]) {
-    html.add(head!("fc_point_state" is a "gauge": "1 for the state that a point is in, else 0."));
+fn add_points(text: &mut TextBuilder, points: &[Point]) {
+    text.add(head!("fc_point_state" is a "gauge": "1 for the state that a point is in, else 0."));
     for (place, point) in points.iter().enumerate() {
-        add_states(html, place, point.state());
+        add_states(text, place, point.state());
     }
-    html.add(head!("fc_unpaid" is a "gauge": "Unpaid transactions of a point."));
+    text.add(head!("fc_unpaid" is a "gauge": "Unpaid transactions of a point."));
     for (place, point) in points.iter().enumerate() {
         let unpaid = u64::from(point.unpaid());
         add_sample(
-            html,
+            text,
             "fc_unpaid{point=\"{}\"} {}\n",
             numbered(place, 1),
             unpaid,
         );
     }
-    html.add(head!("fc_unpaid_cents" is a "gauge": "Unpaid money of a point, in cents."));
+    text.add(head!("fc_unpaid_cents" is a "gauge": "Unpaid money of a point, in cents."));
     for (place, point) in points.iter().enumerate() {
         let cents = unpaid_cents(point);
         add_sample(
-            html,
+            text,
             "fc_unpaid_cents{point=\"{}\"} {}\n",
             numbered(place, 1),
             cents,
@@ -210,17 +210,17 @@ const CLEARED: &str = singles!(
 );
 
 /// Adds how much money and how many transactions were ever cleared, and the price of each product that has a price.
-fn add_money(html: &mut HtmlBuilder, left: &Opening) {
-    html.fill(
+fn add_money(text: &mut TextBuilder, left: &Opening) {
+    text.fill(
         CLEARED,
         &[Text::Number(left.cleared), Text::Number(left.clears)],
     );
-    html.add(head!("fc_price_thousandths" is a "gauge": "Price of a litre, in thousandths."));
+    text.add(head!("fc_price_thousandths" is a "gauge": "Price of a litre, in thousandths."));
     for (place, price) in left.prices.iter().enumerate() {
         if *price > 0 {
             let (product, price) = (numbered(place, 1), u64::from(*price));
             add_sample(
-                html,
+                text,
                 "fc_price_thousandths{product=\"{}\"} {}\n",
                 product,
                 price,
@@ -229,25 +229,25 @@ fn add_money(html: &mut HtmlBuilder, left: &Opening) {
     }
 }
 
-fn add_counters(html: &mut HtmlBuilder, left: &Opening) {
-    html.add(head!("fc_counters" is a "gauge": "Value of a counter whose bound is over 0."));
+fn add_counters(text: &mut TextBuilder, left: &Opening) {
+    text.add(head!("fc_counters" is a "gauge": "Value of a counter whose bound is over 0."));
     for counter in 0..32u32 {
         if left.counters.bound(counter) > 0 {
             let value = left.counters.get(counter);
             add_sample(
-                html,
+                text,
                 "fc_counters{counter=\"{}\"} {}\n",
                 digits(counter),
                 value,
             );
         }
     }
-    html.add(head!("fc_counters_bound" is a "gauge": "Bound of a counter."));
+    text.add(head!("fc_counters_bound" is a "gauge": "Bound of a counter."));
     for counter in 0..32u32 {
         let bound = left.counters.bound(counter);
         if bound > 0 {
             add_sample(
-                html,
+                text,
                 "fc_counters_bound{counter=\"{}\"} {}\n",
                 digits(counter),
                 bound,
@@ -256,38 +256,38 @@ fn add_counters(html: &mut HtmlBuilder, left: &Opening) {
     }
 }
 
-fn add_peers(html: &mut HtmlBuilder, role_counts: &[RoleCounts]) {
-    html.add(head!("fc_connections_open" is a "gauge": "Connections that are open, by role."));
+fn add_peers(text: &mut TextBuilder, role_counts: &[RoleCounts]) {
+    text.add(head!("fc_connections_open" is a "gauge": "Connections that are open, by role."));
     for role in role_counts {
         let name = Text::Words(role_name(role.role));
         add_sample(
-            html,
+            text,
             "fc_connections_open{role=\"{}\"} {}\n",
             name,
             role.open,
         );
     }
-    html.add(head!("fc_connections_total" is a "counter": "Connections so far, by role."));
+    text.add(head!("fc_connections_total" is a "counter": "Connections so far, by role."));
     for role in role_counts {
         let name = Text::Words(role_name(role.role));
         add_sample(
-            html,
+            text,
             "fc_connections_total{role=\"{}\"} {}\n",
             name,
             role.total,
         );
     }
-    html.add(head!("fc_workers" is a "gauge": "Workers that still serve a role."));
+    text.add(head!("fc_workers" is a "gauge": "Workers that still serve a role."));
     for role in role_counts {
         let (name, workers) = (Text::Words(role_name(role.role)), u64::from(role.workers));
-        add_sample(html, "fc_workers{role=\"{}\"} {}\n", name, workers);
+        add_sample(text, "fc_workers{role=\"{}\"} {}\n", name, workers);
     }
 }
 
 /// Adds a metric that shows how often something was done, and how long it took in all. `form` must be made by
 /// `summary!`.
-fn add_times(html: &mut HtmlBuilder, form: &str, times: DurationSummary) {
-    html.fill(
+fn add_times(text: &mut TextBuilder, form: &str, times: DurationSummary) {
+    text.fill(
         form,
         &[Text::Seconds(times.nanoseconds), Text::Number(times.count)],
     );
@@ -295,9 +295,9 @@ fn add_times(html: &mut HtmlBuilder, form: &str, times: DurationSummary) {
 
 /// Adds the length of the journal's file. If answers wait for syncs of the file, also adds how many syncs there were,
 /// and how long they took in all.
-fn add_file(html: &mut HtmlBuilder, journal: JournalFileStats) {
-    html.fill(BYTES, &[Text::Number(journal.bytes)]);
+fn add_file(text: &mut TextBuilder, journal: JournalFileStats) {
+    text.fill(BYTES, &[Text::Number(journal.bytes)]);
     if let Some(syncs) = journal.syncs {
-        add_times(html, SYNCS, syncs);
+        add_times(text, SYNCS, syncs);
     }
 }

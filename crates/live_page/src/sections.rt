@@ -7,7 +7,7 @@ use day_page::names::state_name;
 use day_page::page::add_figure;
 use day_page::tables::add_row;
 use day_page::texts::{number, numbered};
-use day_page::{HEAD, HtmlBuilder, STYLE, Text};
+use day_page::{HEAD, STYLE, Text, TextBuilder};
 use decision_journal::{Entry, FIRST_REFUSAL, REFUSALS, Tally};
 use fuelling_point::{Point, Transaction};
 use program_slots::Version;
@@ -35,7 +35,7 @@ const TITLE: &str = "<meta http-equiv=\"refresh\" content=\"5\">\n<title>The sta
 /// browser loads it again after 5 seconds. The error is that memory ran out.
 pub fn page(alloc: Global, station: &StationSnapshot<'_>) -> Result<String, AllocError> {
     let left = station.left;
-    let mut html = HtmlBuilder::new(alloc);
+    let mut html = TextBuilder::new(alloc);
     html.add(HEAD);
     html.add(TITLE);
     html.add(STYLE);
@@ -53,7 +53,7 @@ pub fn page(alloc: Global, station: &StationSnapshot<'_>) -> Result<String, Allo
 }
 
 /// Adds the moment at which the station is shown, the title, whether all is well, and the main figures.
-fn add_headline(html: &mut HtmlBuilder, station: &StationSnapshot<'_>) {
+fn add_headline(html: &mut TextBuilder, station: &StationSnapshot<'_>) {
     html.fill(
         "<p class=\"audited\">{} UTC, renewed every 5 seconds</p>\n<h1>The station now</h1>\n",
         &[Text::Moment(station.moment)],
@@ -85,8 +85,8 @@ fn money_or_none(cents: u64) -> Text {
     if cents == 0 { NONE } else { hundredths(cents) }
 }
 
-/// Returns two texts: the number `nozzle`, 1 to 8, and the price of this nozzle's product, which has the same number.
-/// For any other `nozzle`, such as 0, which means that no nozzle is up, both texts are empty.
+/// Returns two texts: the number `nozzle` of a nozzle, and the price of the product with the same number. If `nozzle`
+/// isn't 1 to 8, both texts are empty. A `nozzle` of 0 means that no nozzle is up.
 fn nozzle_texts(nozzle: u32, prices: &[u32; 8]) -> (Text, Text) {
     match prices.get((nozzle as usize).wrapping_sub(1)) {
         None => (NONE, NONE),
@@ -96,7 +96,7 @@ fn nozzle_texts(nozzle: u32, prices: &[u32; 8]) -> (Text, Text) {
 
 /// Adds the table row of `point`. `place` is its position in the list of points, counted from 0. `prices` are the
 /// prices of products 1 to 8.
-fn add_point(html: &mut HtmlBuilder, place: usize, point: &Point, prices: &[u32; 8]) {
+fn add_point(html: &mut TextBuilder, place: usize, point: &Point, prices: &[u32; 8]) {
     let (nozzle, price) = nozzle_texts(point.nozzle(), prices);
     let cells = [
         Text::Words(state_name(point.state())),
@@ -111,7 +111,7 @@ fn add_point(html: &mut HtmlBuilder, place: usize, point: &Point, prices: &[u32;
     add_row(html, numbered(place, 1), &cells);
 }
 
-fn add_points(html: &mut HtmlBuilder, left: &Opening) {
+fn add_points(html: &mut TextBuilder, left: &Opening) {
     html.add(section!("points" with title "Points" and columns
         "Point", "State", "Nozzle", "Price", "Pending order", "Preset", "Granted", "Money", "Litres"));
     for (place, point) in left.points.iter().enumerate() {
@@ -122,7 +122,7 @@ fn add_points(html: &mut HtmlBuilder, left: &Opening) {
 
 /// Adds the table row of an unpaid transaction, or nothing if `transaction` is `None`. `place` is the position of the
 /// transaction's point in the list of points, counted from 0.
-fn add_transaction(html: &mut HtmlBuilder, place: usize, transaction: Option<Transaction>) {
+fn add_transaction(html: &mut TextBuilder, place: usize, transaction: Option<Transaction>) {
     let Some(unpaid) = transaction else {
         return;
     };
@@ -139,7 +139,7 @@ fn add_transaction(html: &mut HtmlBuilder, place: usize, transaction: Option<Tra
     add_row(html, numbered(place, 1), &cells);
 }
 
-fn add_unpaid(html: &mut HtmlBuilder, points: &[Point]) {
+fn add_unpaid(html: &mut TextBuilder, points: &[Point]) {
     html.add(section!("unpaid" with title "Unpaid" and columns
         "Point", "Transaction", "Money", "Litres", "Held by till"));
     for (place, point) in points.iter().enumerate() {
@@ -150,7 +150,7 @@ fn add_unpaid(html: &mut HtmlBuilder, points: &[Point]) {
     html.add(END);
 }
 
-fn add_prices(html: &mut HtmlBuilder, prices: &[u32; 8]) {
+fn add_prices(html: &mut TextBuilder, prices: &[u32; 8]) {
     html.add(section!("prices" with title "Prices" and columns "Product", "Price of a litre"));
     for (place, price) in prices.iter().enumerate() {
         if *price > 0 {
@@ -166,7 +166,7 @@ fn add_prices(html: &mut HtmlBuilder, prices: &[u32; 8]) {
 
 /// Adds the table row of the version that is in force in `slot`: its number, the entry that loaded it (or `from the day
 /// before`), and how many requests it granted and denied in this journal.
-fn add_rule(html: &mut HtmlBuilder, slot: usize, version: u32, tally: &Tally) {
+fn add_rule(html: &mut TextBuilder, slot: usize, version: u32, tally: &Tally) {
     let decided = tally.decided_by(version);
     let since = match decided.since {
         0 => Text::Words("from the day before"),
@@ -181,7 +181,7 @@ fn add_rule(html: &mut HtmlBuilder, slot: usize, version: u32, tally: &Tally) {
     add_row(html, number(slot), &cells);
 }
 
-fn add_rules(html: &mut HtmlBuilder, rules: &[Option<Version>], tally: &Tally) {
+fn add_rules(html: &mut TextBuilder, rules: &[Option<Version>], tally: &Tally) {
     html.add(section!("rules" with title "Rules in force" and columns
         "Slot", "Version", "Since", "Granted", "Denied"));
     for (slot, rule) in rules.iter().enumerate() {
@@ -192,7 +192,7 @@ fn add_rules(html: &mut HtmlBuilder, rules: &[Option<Version>], tally: &Tally) {
     html.add(END);
 }
 
-fn add_counters(html: &mut HtmlBuilder, left: &Opening) {
+fn add_counters(html: &mut TextBuilder, left: &Opening) {
     html.add(section!("counters" with title "Counters" and columns "Counter", "Value", "Bound"));
     for counter in 0..32u32 {
         let bound = left.counters.bound(counter);
@@ -204,7 +204,7 @@ fn add_counters(html: &mut HtmlBuilder, left: &Opening) {
     html.add(END);
 }
 
-fn add_refusals(html: &mut HtmlBuilder, tally: &Tally) {
+fn add_refusals(html: &mut TextBuilder, tally: &Tally) {
     html.add(section!("refusals" with title "Refusals" and columns "Refusal", "Times"));
     for number in FIRST_REFUSAL..FIRST_REFUSAL + REFUSALS {
         let count = tally.refusals(number);
@@ -215,7 +215,7 @@ fn add_refusals(html: &mut HtmlBuilder, tally: &Tally) {
     html.add(END);
 }
 
-fn add_peers(html: &mut HtmlBuilder, role_counts: &[RoleCounts]) {
+fn add_peers(html: &mut TextBuilder, role_counts: &[RoleCounts]) {
     html.add(section!("connections" with title "Connections" and columns
         "Role", "Workers", "Open", "So far"));
     for role in role_counts {
@@ -236,7 +236,7 @@ const LAST: &str =
 <th scope=\"col\" class=\"words\">What</th><th scope=\"col\" class=\"words\">Reply</th></tr></thead><tbody>\n";
 
 /// Adds the section that lists the last entries, the newest first. `entries` has the oldest first.
-fn add_entries(html: &mut HtmlBuilder, entries: &[Entry]) {
+fn add_entries(html: &mut TextBuilder, entries: &[Entry]) {
     html.add(LAST);
     for entry in entries.iter().rev() {
         add_entry(html, entry);

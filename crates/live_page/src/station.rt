@@ -19,7 +19,7 @@ pub struct StationSnapshot<'a> {
     /// The length of the journal's file, and how often and how long it was synced. `None` if the journal isn't kept in
     /// a file.
     pub journal: Option<JournalFileStats>,
-    /// How often the site was read for display, and how long in all these reads waited for the site's lock.
+    /// How often the site was read for display, and the sum of the times that these reads waited for the site's lock.
     pub waits: DurationSummary,
     /// How often each refusal was the reply, and what each version of a rule decided, in all entries of the history.
     pub tally: &'a Tally,
@@ -68,7 +68,7 @@ pub struct RoleCounts {
 #[derive(Clone, Copy)]
 pub enum Health {
     Healthy,
-    /// The journal failed, so the site takes no further event.
+    /// The journal failed, so the site takes no further act: no till's request, dispenser's report or load of a rule.
     JournalFailed,
     /// The journal has 1,000,000 entries or more, of the 1,048,576 that it can have.
     NearlyFull,

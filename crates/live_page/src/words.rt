@@ -1,7 +1,7 @@
 //! Describes the entries of a journal in words, for the page.
 use crate::parts::{NONE, digits, hundredths};
 use day_page::names::state_name;
-use day_page::{HtmlBuilder, STATES, Text};
+use day_page::{STATES, Text, TextBuilder};
 use decision_journal::Entry;
 use fuelling_point::{DispenserEvent, Order};
 use till_request::{Act, Reply, Request, Role};
@@ -32,7 +32,7 @@ fn plain(form: &'static str) -> Phrase {
 }
 
 /// Adds the words of a phrase, with its texts in place of the marks `{}`.
-fn add_phrase(html: &mut HtmlBuilder, phrase: Phrase) {
+fn add_phrase(html: &mut TextBuilder, phrase: Phrase) {
     let Phrase(form, first, second) = phrase;
     html.fill(form, &[first, second]);
 }
@@ -162,8 +162,9 @@ fn grant_words(is_price: bool, value: u64, version: u32) -> Phrase {
     Phrase("granted {} by version {}", granted, digits(version))
 }
 
-/// Returns the words for a refusal with the number `number`. `value` is what the refusal names: a state for S22, a slot
-/// for S23, a version for S24. It is `None` if the refusal names nothing.
+/// Returns the words for a refusal with the number `number`. `value` is what the refusal names: the number of a state
+/// for S22 (wrong state), of a slot for S23 (no program there), or of a version for S24 (a denial by its program). It
+/// is `None` if the refusal names nothing.
 fn refusal_words(number: u32, value: Option<u32>) -> Phrase {
     let refusal = Text::Refusal(number);
     let Some(value) = value else {
@@ -194,7 +195,7 @@ fn reply_words(entry: &Entry) -> Phrase {
 }
 
 /// Adds the table row of an entry: its number, its moment, who sent its act, what the act is, and the reply.
-pub(crate) fn add_entry(html: &mut HtmlBuilder, entry: &Entry) {
+pub(crate) fn add_entry(html: &mut TextBuilder, entry: &Entry) {
     let (who, what) = act_words(&entry.act);
     html.fill(
         "<tr><th scope=\"row\">{}</th><td>{}</td><td class=\"words\">",

@@ -1,5 +1,5 @@
-//! A test that a program runs while nobody holds the site's lock, and that a forecourt can still be closed after a
-//! close was refused.
+//! A test of two things: a program is run while nobody holds the site's lock, and a forecourt can still be closed after
+//! a close was refused.
 ghost use Rattle.std.specs.Prelude.{◌≡◌, [], None};
 
 use crate::programs::ASKED;
@@ -17,7 +17,8 @@ use std::test::Fail;
 use std::thread::{Threads, join, yield_now};
 use till_request::{Reply, Request};
 
-/// Makes a configuration with two tills and two points. Slot 0 decides releases, slot 1 presets, and slot 2 prices.
+/// Makes a configuration with two tills and two fuelling points. Releases are decided by slot 0, presets by slot 1, and
+/// prices by slot 2.
 fn config(alloc: Global) -> Option<Config> {
     let points = vec![in alloc; (0, 1), (0, 1)].ok()?;
     Config::new(2, 2, [1799, 1849, 0, 0, 0, 0, 0, 0], points, [(0, 0); 32])
@@ -59,8 +60,9 @@ fn is_granted(answered: Result<Answered, CallFault>, number: u32) -> bool {
     }
 }
 
-/// A gate that waits before it runs a draft. At its first call it sets `held` to 1 and waits until `let_go` is 1, at
-/// its second call both are 2, and so on. `in_time` becomes false if a wait takes too long.
+/// A gate that waits before it runs a draft. At its first call it sets `held` to 1 and waits until `let_go` is 1. At
+/// its second call it sets `held` to 2 and waits until `let_go` is 2, and so on. `in_time` becomes false if a wait
+/// takes too long.
 #[derive(Drop)]
 struct Holding<'a> {
     held: &'a AtomicU64,
@@ -155,8 +157,8 @@ fn beside<L: SiteLedger + Send + Sync, R: Threads + Wait + Sync>(
     one && two
 }
 
-/// Loads the program and opens the points of a forecourt, and then returns what `beside` returns for its two passes.
-/// Returns `None` if something before `beside` failed.
+/// Calls `load`, which loads a program into slot 0, and `open`, which opens points 1 and 2. Then returns what `beside`
+/// returns for the first two passes. Returns `None` if there are fewer than two, or if `load` or `open` fails.
 fn are_granted<L: SiteLedger + Send + Sync, R: Threads + Wait + Sync>(
     rt: &R,
     alloc: Global,

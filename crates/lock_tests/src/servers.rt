@@ -45,7 +45,8 @@ fn port<R: Net<Listener = TcpListener, Stream = TcpStream>>(rt: &R) -> Result<Li
     }
 }
 
-/// Makes a new site with one till and one point. Slot 0 decides releases, slot 1 presets, and slot 2 prices.
+/// Makes a new site with one till and one fuelling point. Releases are decided by slot 0, presets by slot 1, and prices
+/// by slot 2.
 fn site(alloc: Global) -> Result<Site, Fail> {
     let points = vec![in alloc; (0, 1)]?;
     let prices = [1799, 1849, 0, 0, 0, 0, 0, 0];
@@ -127,8 +128,8 @@ fn ask<R: Net<Listener = TcpListener, Stream = TcpStream>>(
     Ok(())
 }
 
-/// Sends lines as three peers in turn. The owner loads a program, a till opens a point and asks for a release, and the
-/// dispenser asks for its order. Returns the answers that they get.
+/// Sends lines as three peers in turn. The owner loads a program, a till opens a fuelling point and asks for a release,
+/// and the dispenser asks what it must do. Returns the answers that they get.
 fn in_turn<R: Net<Listener = TcpListener, Stream = TcpStream>>(
     rt: &R,
     alloc: Global,
@@ -157,8 +158,8 @@ fn serving(alloc: Global, ports: Ports) -> Result<Serving, Fail> {
     })
 }
 
-/// Serves a site while the peers send their lines. Returns how many connections ended without fault, how many entries
-/// the closed site has, and the answers that the peers got.
+/// Serves a site while `in_turn` sends lines as three peers. Returns how many connections ended without fault, how many
+/// entries the closed site has, and the answers that the peers got.
 fn one_of_each<R: Net<Listener = TcpListener, Stream = TcpStream> + Threads + Wait + Clock + Sync>(
     rt: &R,
     alloc: Global,

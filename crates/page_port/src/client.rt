@@ -7,8 +7,8 @@ use std::io::{self, ErrorKind, Read};
 use std::net::{Shutdown, TcpStream};
 use std::time::{Clock, Instant};
 
-/// A time limit in seconds: a connection ends when it has been open for so long without an answer, or when so long has
-/// passed since its answer was made.
+/// A time limit in seconds: a connection ends when it has been open for this many seconds without an answer, or when
+/// this many seconds have passed since its answer was made.
 const MOST_SECONDS: u64 = 5;
 
 /// The limits of a connection: a request's head must have at most 8,192 bytes, and a request must have no body.
@@ -133,8 +133,9 @@ impl Client {
         }
     }
 
-    /// Has `service` answer the request once it has come, and writes or reads what it can at once. Returns `Over` after
-    /// a failure too: nobody needs to know of a peer that goes away.
+    /// Has `service` answer the request once it has come, and writes or reads what it can at once. Returns `Over` if
+    /// the time limit is reached, if nothing more is to be sent and the peer has closed its side, or if there is a
+    /// failure. A failure isn't reported: nobody needs to know of a peer that goes away.
     pub fn turn<S: Service, R: Clock>(&mut self, rt: &R, service: &mut S) -> TurnOutcome {
         match self.try_turn(rt, service) {
             Ok(turn) => turn,

@@ -24,8 +24,8 @@ impl RoleCounters {
         }
     }
 
-    /// Returns these counts, which are those of `role`: the workers that still serve, the open connections, and all
-    /// connections so far. A connection that ends during this call can still count as open.
+    /// Returns these counts: the workers that still serve, the open connections, and all connections so far. `role` is
+    /// only copied to the result. A connection that ends during this call can still count as open.
     fn role_counts(&self, role: Role) -> RoleCounts {
         let closed = self.closed.load(Ordering::SeqCst);
         let total = self.opened.load(Ordering::SeqCst);

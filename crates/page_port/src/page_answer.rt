@@ -56,8 +56,8 @@ impl PageAnswer {
     }
 
     /// Fills `response`, which must be blank, with this answer, and with the header fields for its kind of text. One of
-    /// them ends the connection after the answer, so that it keeps nobody else waiting. The error is that memory ran
-    /// out.
+    /// these fields ends the connection after the answer, so that a waiting client can be served. The error is that
+    /// memory ran out.
     pub fn fill_response(self, response: &mut Response) -> Result<(), AllocError>
         requires { IsBlank response.old }
         ensures { OnOk result (HasAnswer self response.new) }

@@ -66,9 +66,9 @@ fn listen<H: Net<Listener = TcpListener, Stream = TcpStream>>(
     }
 }
 
-/// Calls `turn` of each client. A client that returns `Over` is removed, which closes its connection. Then the last
-/// client, unless it is the removed one, takes the free position in `clients`, and has no turn in this call. Returns
-/// whether at least one client returned `Moved` or `Over`.
+/// Calls `turn` of one client after another. A client that returns `Over` is removed, which closes its connection. The
+/// last client, unless it is the removed one, is then moved to the free position in `clients`. A moved client has no
+/// turn in this call; all others have one. Returns whether at least one client returned `Moved` or `Over`.
 fn take_turns<S: Service, R: Clock>(rt: &R, clients: &mut Vec<Client>, service: &mut S) -> bool {
     let mut has_progressed = false;
     for place in 0..clients.len() {
@@ -165,9 +165,9 @@ impl<'a> PagePort<'a> {
         Ok(clients.push(client)?)
     }
 
-    /// Prints on standard error that a connection couldn't be accepted because of `error`, and waits for 100
-    /// milliseconds. Prints nothing if `has_failed`, which says that no connection was accepted since the last such
-    /// failure.
+    /// If `has_failed` is false, prints on standard error that a connection couldn't be accepted because of `error`.
+    /// Then, in any case, waits for 100 milliseconds. `has_failed` says whether accepting had failed before, since the
+    /// last connection was accepted.
     fn pause(&self, has_failed: bool, error: &io::Error) {
         if !has_failed {
             let _ = eprintln!(self.rt; "fc: no connection for the page: {error}");
@@ -175,10 +175,9 @@ impl<'a> PagePort<'a> {
         thread::sleep(self.rt, Duration::from_millis(PAUSE_MILLISECONDS));
     }
 
-    /// Accepts the next connection, and returns whether it did.
+    /// Accepts the next connection if there are fewer than 32 clients. Returns whether a connection was accepted.
     ///
-    /// - If there is no client, waits for a connection.
-    /// - If there are 32 clients, accepts none.
+    /// - If there is no client, waits for a connection. Otherwise doesn't wait.
     /// - After an error other than `WouldBlock`, calls `pause`, unless `leave` was called.
     ///
     /// `has_failed` says whether accepting failed since the last connection was accepted, and is updated.
@@ -216,8 +215,8 @@ impl<'a> PagePort<'a> {
         rt: &R,
         forecourt: &Forecourt<L, J>,
     ) {
-        // The first look counts all entries, so that later looks needn't. If memory runs out for that, the next look
-        // does it.
+        // The first call of `look` counts all entries, so that later calls needn't. If memory runs out while it does
+        // so, the next call counts them.
         let _ = forecourt.look(rt, 0);
         let mut answers = PageService {
             rt,

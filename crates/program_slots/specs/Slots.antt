@@ -6,8 +6,8 @@ use Rattle.bpf_model.specs.Program.{ProgramText, IsGood}
 use Rattle.reg_types.specs.RefusedPrograms.{refusal_of}
 use Rattle.program_slots.specs.Value.{SlotsValue, Version}
 
--- The slot has no version. Or the number of its version is from 1 to `versions`, and its program is good and accepted
--- by the verifier.
+-- Either there is no version, or the version's number is from 1 to `versions`, the verifier accepts its program, and
+-- the program is good: it can be decoded, and each run of it ends and changes only declared counters.
 abbrev pub IsRule : ℕ → Option Version → Type 0
 IsRule versions None = Unit {0}
 IsRule versions (Some v) = (1 ≤ v.number) × (v.number ≤ versions) × IsGood v.program × (refusal_of v.program ≡ None)
@@ -37,7 +37,7 @@ version_in v slot =
 abbrev pub number_in : SlotsValue → ℕ → Option ℕ
 number_in v slot = option_map (λ (w : Version). w.number) (version_in v slot)
 
--- The program of the first of these versions that has this number.
+-- The program of the first of these versions that has this number; None if none has it.
 abbrev pub program_among : List (Option Version) → ℕ → Option ProgramText
 program_among [] number = None
 program_among (None ∷ rest) number = program_among rest number

@@ -14,14 +14,15 @@ slots_view s = record {
 }
 
 -- Nothing was installed in the slot, or the number of the version installed there is over `before` and at most
--- before + count.
+-- `before + count`.
 abbrev pub IsVersion : ℕ → ℕ → Option ℕ → Type 0
 IsVersion before count None = Unit {0}
 IsVersion before count (Some n) = (before < n) × (n ≤ before + count)
 
 -- There are 16 slots. Each stores None, or the number of a version that was installed in these slots. At most 4,096
--- versions were installed, and at most 4,290,000,000 were made before. Each slot began with no version, or with one of
--- those made before.
+-- versions were installed, and there were at most 4,290,000,000 before. Each slot began with no version, or with one
+-- whose number is from 1 to `before` and whose program the verifier accepts. That program is also good: it can be
+-- decoded, and each run of it ends and changes only declared counters.
 pub record AreSlots (s : Inside) : Type 0 where
   pub slots : length s.installed ≡ 16
   pub count : length s.programs.items ≤ 4096

@@ -1,6 +1,6 @@
 //! The slots that programs are installed in. Each installed program becomes a new version, with a number that is never
-//! used again. The version in a slot is the newest that was installed there, and older ones are kept. Slots can begin
-//! with versions that were made earlier.
+//! used again. Slots can begin with versions that were made earlier. The version in a slot is the one that was
+//! installed there last, else the one that the slot began with. The programs of replaced versions are kept.
 #![tactic(auto)]
 
 ghost use Rattle.std.specs.Prelude.{◌≡◌, ℕ, ◌+◌, ◌≤◌, length, map, All, slice_index_or, Some, None};
@@ -22,7 +22,7 @@ pub use version::Version;
 /// How many versions can be installed at most, in all slots together. Versions that the slots begin with don't count.
 pub const VERSIONS: usize = 4096;
 
-/// The number of slots.
+/// The number of slots. They are numbered from 0.
 pub const SLOTS: u32 = 16;
 
 /// Why a program wasn't installed in a slot.
@@ -39,10 +39,10 @@ pub enum SlotFault {
 /// The 16 slots, the versions that they began with, and the programs of all versions that were installed since.
 #[derive(Drop)]
 pub struct Slots {
-    /// How many versions were made before these slots began.
+    /// How many versions there were before these slots were made.
     before: u32,
     opened: Vec<Option<Version>>,
-    /// For each slot, the number of the version that was installed there last.
+    /// For each slot, the number of the version that was installed there last; `None` if none was.
     installed: [Option<u32>; 16],
     programs: Vec<Arc<Program>>,
 }
@@ -68,9 +68,9 @@ impl Slots {
     }
 
     /// Makes 16 slots. Slot k begins with the version `opened[k]`, or empty if `opened` has no version there. `before`
-    /// is how many versions were made before these slots began, and must be at most 4,290,000,000. `opened` must have
-    /// at most 16 places, and its versions must have numbers from 1 to `before` and programs that the verifier accepts.
-    /// Allocates no memory.
+    /// is how many versions there were before these slots were made, and must be at most 4,290,000,000. `opened` must
+    /// have at most 16 places, and its versions must have numbers from 1 to `before` and programs that the verifier
+    /// accepts. Allocates no memory.
     pub fn opened(alloc: Global, before: u32, opened: Vec<Option<Version>>) -> Self
         requires few { before ≤ 4290000000 }
         requires rules { All (IsRule before) opened.items }
@@ -86,8 +86,8 @@ impl Slots {
     }
 
     /// Installs a program in a slot as a new version, and returns the version's number. The n-th version that is
-    /// installed in these slots has the number `before` + n, where `before` is how many versions were made before these
-    /// slots began. No other slot changes.
+    /// installed in these slots has the number `before` + n, where `before` is how many versions there were before
+    /// these slots were made. No other slot changes.
     ///
     /// The error is `NoSuchSlot` for a slot over 15, else `VersionsFull` if 4,096 versions were installed, else
     /// `OutOfMemory` if memory ran out. After an error nothing has changed, and the program is dropped.
@@ -131,8 +131,8 @@ impl Slots {
         Some(number)
     }
 
-    /// Returns the program of the version of this number: one that was installed, or one that a slot began with.
-    /// Returns `None` if there is no such version.
+    /// Returns the program of version `number`, if that version was installed in these slots or a slot began with it;
+    /// else `None`.
     pub fn version(&self, number: u32) -> Option<&Arc<Program>>
         ensures { MatchOption result (program_of self.now number ≡ None)
             (λ program. program_of self.now number ≡ Some (arc_value program.now)) }
@@ -144,7 +144,7 @@ impl Slots {
         }
     }
 
-    /// Returns how many versions were ever made: before these slots began and since.
+    /// Returns how many versions there have been: those before these slots were made, and those installed since.
     pub fn versions(&self) -> u32
         ensures { result ≡ self.now.before + length self.now.programs }
     {
@@ -152,8 +152,8 @@ impl Slots {
     }
 
     /// Returns a list of the versions in slots 0 to 15, with `None` for an empty slot. `Slots::opened` can make new
-    /// slots from this list. The programs are shared, not copied. The error is that memory ran out, or that a program
-    /// has too many owners.
+    /// slots from this list. The programs are shared, not copied. The error is that memory ran out, or that a program's
+    /// `Arc` has too many owners.
     pub fn rules(&self, alloc: Global) -> Result<Vec<Option<Version>>, AllocError>
         ensures each { IfOk result
             (λ rules. rules.items ≡ map (λ slot. version_in self.now slot) (range_with_len 0 16)) }
@@ -167,26 +167,26 @@ impl Slots {
     }
 
     // Returns a copy of the version in a slot; `None` for an empty slot and for a slot over 15. The copy shares the
-    // program. The error is that the program has too many owners; for an empty slot there is no error.
+    // program. The error is that the program's `Arc` has too many owners; for an empty slot there is no error.
     fn rule(&self, slot: u32) -> Result<Option<Version>, AllocError>
         ensures empty { version_in self.now slot ≡ None → IsOk result }
         ensures same { IfOk result (λ rule. rule ≡ version_in self.now slot) }
         ensures good { IfOk result (λ rule. IsRule (self.now.before + length self.now.programs) rule) }
     {
-        // Reading a field gives the prover the invariant.
+        // Reading a field gives the prover the invariant of `Slots`.
         let _before = &self.before;
         let Some((number, program)) = self.in_slot(slot) else {
             return Ok(None);
         };
-        // This call gives the prover that the program is good.
+        // The contract of this call tells the prover that the verifier accepts the program, and that the program is
+        // good: it can be decoded, and each run of it ends and changes only declared counters.
         let _bytes = program.bytes();
         let program = Arc::try_clone(program)?;
         Ok(Some(Version { number, program }))
     }
 }
 
-// Returns the number and the program of the version that a slot began with. `None` if it began empty, and for a slot
-// over 15.
+// Returns the number and the program of the version that `opened` has at index `slot`; `None` if it has none there.
 fn opened_in(opened: &[Option<Version>], slot: u32) -> Option<(u32, &Arc<Program>)>
     ensures { MatchOption result (slice_index_or opened.now slot None ≡ None)
         (λ v. slice_index_or opened.now slot None ≡ Some (record { number = v.0; program = arc_value v.1.now })) }

@@ -7,7 +7,7 @@ use std::alloc::AllocError;
 use std::marker::Model;
 use std::sync::Arc;
 
-/// A version: its number, from 1, and its program.
+/// A version: its number, counted from 1, and its program.
 #[derive(Drop)]
 pub struct Version {
     pub number: u32,
@@ -24,7 +24,8 @@ impl Model for Version {
 }
 
 impl Version {
-    /// Returns a copy of this version. The two share the program. The error is that the program has too many owners.
+    /// Returns a copy of this version. The two share the program. The error is that the program's `Arc` has too many
+    /// owners.
     pub fn copied(&self) -> Result<Version, AllocError>
         ensures { IfOk result (λ v. v ≡ self.now) }
     {

@@ -1,13 +1,13 @@
 //! Allocates all memory of the process, except one block that stays free.
 use std::alloc::Global;
 
-/// `take_all_but` allocates a block of `size + HELD` bytes, and then all other memory. Then it frees the block and
-/// allocates `HELD` bytes of it again, so `size` bytes stay free. Without the `HELD` bytes, a freed block of up to
-/// 1,032 bytes would be reused only for blocks of its own size.
+/// How many bytes `take_all_but` takes back of the block that it frees. To leave `size` bytes free, it allocates a
+/// block of `size + HELD` bytes, and then all other memory. Then it frees the block, and allocates `HELD` bytes of it
+/// again. Without these, a freed block of up to 1,032 bytes would be reused only for blocks of its own size.
 const HELD: usize = 1080;
 
-/// The most plays of a script in which the same line has little memory. In play number n, counted from 0, `room_of(n)`
-/// bytes are free during that line.
+/// How many times a script is played at most. All plays have little memory during the same line of the script, but each
+/// play has more than the one before: in play number n, counted from 0, `room_of(n)` bytes are free during that line.
 pub const TURNS: usize = 120;
 
 /// Allocates blocks of `size` bytes until that fails, but at most 100,000, and adds them to `blocks`.
@@ -59,7 +59,7 @@ pub fn take_but_64_mib(alloc: Global) -> Option<Taken> {
     take_all_but(alloc, 1 << 26)
 }
 
-/// Returns how many bytes stay free in try number `turn`, counted from 0: none in the first, over 80,000 in the last.
+/// Returns how many bytes stay free in play number `turn`, counted from 0: none in the first, over 80,000 in the last.
 pub fn room_of(turn: usize) -> usize {
     turn.wrapping_mul(turn).wrapping_mul(6)
 }

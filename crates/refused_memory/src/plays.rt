@@ -1,6 +1,6 @@
-//! Tests of plays with too little memory for one line. The line must be answered `S31` and change nothing, or the play
-//! must end with `OutOfMemory` after the answers to the lines before it. The commands of `fc` are tested in the same
-//! way by tools/faults.py, one allocation at a time.
+//! Tests of plays with too little memory for one line. The line must be answered `S31` (memory ran out) and change
+//! nothing, or the play must end with `OutOfMemory` after the answers to the lines before it. The commands of `fc` are
+//! tested in the same way by tools/faults.py, one allocation at a time.
 use crate::hoarding::{TURNS, room_of, take_but_64_mib};
 use crate::low_memory_input::LowMemoryInput;
 use console::playing::play;
@@ -90,7 +90,7 @@ fn played(alloc: Global, site: &str, script: &[u8], line: usize, size: usize) ->
 }
 
 /// What a play must write if it ends without a fault: `whole` if all lines have enough memory, and `text_if_refused` if
-/// the line for which there is little memory is answered `S31` and changes nothing.
+/// the line for which there is little memory is answered `S31` (memory ran out) and changes nothing.
 #[derive(Drop)]
 struct ExpectedTexts {
     whole: Vec<u8>,
@@ -98,7 +98,7 @@ struct ExpectedTexts {
 }
 
 /// What happened to the line for which there was little memory: it was answered as with enough memory (`Answered`), it
-/// was answered `S31` and changed nothing (`Refused`), or it wasn't answered (`Ended`).
+/// was answered `S31` (memory ran out) and changed nothing (`Refused`), or it wasn't answered (`Ended`).
 #[derive(Clone, Copy)]
 enum LineOutcome {
     Answered,
@@ -137,8 +137,8 @@ fn first_lines(text: &[u8], lines: usize) -> &[u8] {
     text
 }
 
-/// Returns `text` with `less` of its lines, from line number `line` on, replaced by the lines in `put`. Lines are
-/// counted from 0. Each line in `put` must end with an LF. Returns `None` if memory ran out.
+/// Replaces `less` lines of `text`, from line number `line` on, by the lines in `put`, and returns the result. Lines
+/// are counted from 0. Each line in `put` must end with an LF. Returns `None` if memory ran out.
 fn changed(alloc: Global, text: &[u8], line: usize, put: &[u8], less: usize) -> Option<Vec<u8>> {
     let behind = first_lines(text, line.wrapping_add(less));
     let mut all = Vec::from_slice(alloc, first_lines(text, line)).ok()?;
@@ -147,8 +147,9 @@ fn changed(alloc: Global, text: &[u8], line: usize, put: &[u8], less: usize) -> 
     Some(all)
 }
 
-/// Returns what a play writes if line number `line`, counted from 0, is answered `S31` and changes nothing, and each
-/// other line has enough memory. Returns `None` if the configuration can't be read, or if memory ran out.
+/// Returns what a play writes if line number `line`, counted from 0, is answered `S31` (memory ran out) and changes
+/// nothing, and each other line has enough memory. Returns `None` if the configuration can't be read, or if memory ran
+/// out here.
 fn refused_play_text(alloc: Global, site: &str, script: &str, line: usize) -> Option<Vec<u8>> {
     let less = changed(alloc, script.as_bytes(), line, b"", 1)?;
     let found = played(alloc, site, &less, script.len(), 0)?;
@@ -165,9 +166,9 @@ fn wanted_of(alloc: Global, site: &str, script: &str, line: usize) -> Option<Exp
 }
 
 /// Plays a script again and again, each time with more memory free during line number `line`, counted from 0, until
-/// that line has enough. Returns how often the line was answered `S31`, and how often the play ended with
-/// `OutOfMemory`. Returns `None` if a play can't begin, writes something wrong or ends with another fault, or if the
-/// line never has enough memory.
+/// that line has enough. Returns how often the line was answered `S31` (memory ran out), and how often the play ended
+/// with `OutOfMemory`. Returns `None` if a play can't begin, writes something wrong or ends with another fault, or if
+/// the line never has enough memory.
 fn count_refusals(
     alloc: Global,
     site: &str,
@@ -194,8 +195,8 @@ fn refused_at(alloc: Global, site: &str, script: &str, line: usize) -> Option<(u
 }
 
 /// Plays a script with little memory for one line, for each of its first `lines` lines in turn. Returns for how many
-/// lines the answer was `S31` at least once, and for how many the play ended with `OutOfMemory` at least once. Returns
-/// `None` if `refused_at` returns `None` for a line.
+/// lines the answer was `S31` (memory ran out) at least once, and for how many the play ended with `OutOfMemory` at
+/// least once. `refused_at` plays the script for one of these lines. If it returns `None`, so does this function.
 fn refused_in(alloc: Global, site: &str, script: &str, lines: usize) -> Option<(u32, u32)> {
     let (mut wanted, mut ended) = (0u32, 0u32);
     for line in 0..lines {

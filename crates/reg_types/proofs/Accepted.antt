@@ -1,4 +1,6 @@
--- If no reached instruction of a program has a flaw, then the facts that are inferred for its units cover the program.
+-- If all jumps of a program go forward to instructions, and no reached instruction has a flaw, then the facts that are
+-- inferred for its units cover the program (`Covers`): the fact of unit 0 holds when a run begins, and each instruction
+-- whose unit has a fact is well typed.
 use Rattle.std.proofs.Common.{◌≡◌, ◌≢◌, ℕ, zero, suc, ◌<◌, ◌≤◌, List, [], ◌∷◌, Option, Some, None, refl, sym, ap, ◌∙◌, subst, inl, inr, arith, length}
 use Rattle.std.specs.Prelude.{Result, Ok, Err, IsSome, ◌==◌, slice_get, ⊤}
 use Rattle.std.specs.List.{AllByRecursion}
@@ -25,7 +27,7 @@ use Rattle.reg_types.proofs.Ahead.{leads_ahead, there, first_there}
 use Rattle.reg_types.proofs.Tables.{below_left, below_right, IsBelow-refl, IsBelow-trans}
 use Rattle.reg_types.proofs.Inference.{common_has, type_at-joined, after_is, entry_is}
 
--- ---- instructions
+-- ---- `instruction_of` gives an instruction and its form only for its first unit, and only if its opcode has a form
 
 form_is : (i : Inst) (o : Option Form) (x : Inst × Form) → form_with i o ≡ Some x → (i ≡ x.0) × (o ≡ Some x.1)
 form_is i None x e = absurd (cc)
@@ -117,7 +119,7 @@ behind us pc q fact l (to ∷ tos) all o =
     let other : q ≢ to = omega (arith, further, l) in
     ap (arrived_all q fact tos) (cond-false (q == to) (Some (taken_in o fact)) o (ne_eqb q to other)) ∙ behind us pc q fact l tos all.1 o
 
--- ---- flaws
+-- ---- if `first_flaw_below` finds no flaw below unit n, no reached unit below n has one; a flaw that it finds stays
 
 flawless_is : (pc : ℕ) (r : Result Effect Flaw) → flaw_in pc r ≡ None → (e : Effect) × (r ≡ Ok e)
 flawless_is pc (Ok e) h = (e, refl)
@@ -148,7 +150,7 @@ module _ (us : List ProgramUnit) (options : LoadOptions) where
         | inr other ↦ ap (λ o. or_else o (flaw_under us options n (inferred us options n))) (flaw_stays (suc m) n fault e (omega arith))
       ]
 
-  -- ---- the recursion
+  -- ---- what is known of a unit only gets weaker as the verifier's pass over the units goes on
 
   from_wider : (pc : ℕ) (fact : Fact) (o : Option (Inst × Form)) (q : ℕ) (old : Option Fact) → IsWider old (passed_from us options pc fact o q old)
   from_wider pc fact None q old = IsWider-refl old
@@ -178,8 +180,8 @@ module _ (us : List ProgramUnit) (options : LoadOptions) where
 
     -- ---- each reached unit is well typed
 
-    -- if the instruction of unit pc is accepted, the fact after it is joined into what is known of each unit that it
-    -- leads to
+    -- if `fact` is inferred for unit pc, and the instruction there is accepted and leads to the units `tos`, then the
+    -- fact after the instruction is joined into what is known of each of these units
     past_is : (pc q : ℕ) (fact : Fact) (x : Inst × Form) (e : Effect) (tos : List ℕ) → inferred us options pc ≡ Some fact → instruction_at us pc ≡ Some x
         → ruled us options pc fact x ≡ Ok e → successor_units pc x.0 x.1 ≡ Some tos
         → known us options (suc pc) q ≡ arrived_all q (fact_after fact e) tos (known us options pc q)

@@ -99,7 +99,8 @@ numbers_ok layout op w i a n h = gives (two_numbers i.dst i.src a (Const n)) (tw
 abbrev Accepted : Result Effect Flaw → Type 0
 Accepted r = (e : Effect) × (r ≡ ok_of e) × ArePlain e.types
 
--- an instruction that writes a number to R0 is accepted if R1 points to the context, and R1 still does afterwards
+-- if R1 points to the context, then an instruction that writes a number to R0 is accepted; after it R1 still points to
+-- the context, and R0 holds a number
 set_first : (types : List RegType) (o : Typed) → 2 ≤ length types → type_at types 1 ≡ Ctx 0 → GivesNumber o → Accepted (set_type types 0 o)
 set_first types (Err e) l b g = absurd g
 set_first types (Ok t) l b g = (
@@ -119,8 +120,8 @@ load_ok : (o : Option ℕ) → IsSome o → GivesNumber (number_at o)
 load_ok None h = absurd (cc)
 load_ok (Some at) h = refl
 
--- A load from the context through R1 into R0 is accepted. It gives a number, since no pointer is spilled in the
--- context.
+-- If R1 points to the context, then a load through R1 into R0 whose bytes are inside the context is accepted. It gives
+-- a number, since no pointer is spilled in the context.
 loaded_first : (layout : Layout) (fact : Fact) (i : Inst) (size : Size) → LoadsArgument layout i size → 2 ≤ length fact.types → type_at fact.types 1 ≡ Ctx 0
     → Accepted (set_type fact.types i.dst (loaded_type layout fact.stack fact.spills (type_at fact.types i.src) i (bytes_in size)))
 loaded_first layout fact i size f l b =
@@ -171,7 +172,8 @@ plain_effect options fact i upper (StoreImmediate size) p f = absurd f
 plain_effect options fact i upper (StoreRegister size) p f = absurd f
 plain_effect options fact i upper Call p f = absurd f
 
--- the first instruction of a plain program is accepted: R1 points to the context, and the instruction sets R0
+-- If R1 points to the context, then an instruction of a plain form that sets R0 without reading R0 is accepted: a load,
+-- a wide load or a move of an immediate. The first instruction of a plain program is one of these.
 first_effect : (options : LoadOptions) (fact : Fact) (i : Inst) (upper : ℤ) (form : Form) → 2 ≤ length fact.types → type_at fact.types 1 ≡ Ctx 0
     → IsPlainForm options.layout i form → SetsFirst form → Accepted (effect options fact i upper form)
 first_effect options fact i upper Wide l b f s =
@@ -313,8 +315,8 @@ above_of : (pc q : ℕ) (types : List RegType) → pc < q → PlainTypesAt q typ
 above_of pc q types l (inl z) = absurd (omega (arith, z.0))
 above_of pc q types l (inr p) = p
 
--- What a fact of unit q of a plain program can be. It has the types on entry, and q is 0; or R1 points to the context
--- and R0 holds a number.
+-- If unit q has a fact, one of two things is true: by this fact R1 points to the context and R0 holds a number; or q is
+-- 0, and the fact has the register types with which a run begins.
 abbrev PlainKnown : ℕ → Option Fact → Type 0
 PlainKnown q None = ⊤
 PlainKnown q (Some fact) = PlainTypesAt q fact.types

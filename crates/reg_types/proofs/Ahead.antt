@@ -26,7 +26,8 @@ get_inside [] pc l = absurd (omega arith)
 get_inside (u ∷ us) zero l = (u, refl)
 get_inside (u ∷ us) (suc pc) l = get_inside us pc (omega arith)
 
--- a unit at which an instruction begins is decoded as the first unit of an instruction
+-- if by the bytes an instruction begins at unit pc (`begins`), then in `us`, the list of units that the bytes are
+-- decoded as, unit pc is the first unit of an instruction
 begins_first : (bytes : List ℕ) (us : List ProgramUnit) (pc : ℕ) → units bytes ≡ Some us → begins bytes pc ≡ true → pc < length us
     → (i : Inst) × (slice_get us pc ≡ Some (First i))
 begins_first bytes us pc reads b l =
@@ -65,7 +66,8 @@ module _ (bytes : List ℕ) (us : List ProgramUnit) (reads : units bytes ≡ Som
   distance_is : (form : Form) (z : ℤ) → form_of i.opcode ≡ Some form → distance_by (Some form) i ≡ Some z → distance_at us pc ≡ Some z
   distance_is form z is h = ap (λ o. and_then o distance_of) at ∙ ap (λ o. distance_by o i) is ∙ h
 
-  -- an instruction that can't run past the last unit leads only to later units at which instructions begin
+  -- if all jumps go forward to instructions, and a run doesn't fall off the end of the program right after the
+  -- instruction (`falls_off`), then the instruction leads only to later units at which instructions begin
   pub leads_ahead : GoesForward us → (form : Form) → form_of i.opcode ≡ Some form → falls_off (length us) pc form ≡ false
       → (tos : List ℕ) × (successor_units pc i form ≡ Some tos) × AllByRecursion (IsAhead us pc) tos
   leads_ahead f Exit is more = ([], refl, tt)

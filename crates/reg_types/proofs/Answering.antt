@@ -209,7 +209,7 @@ never_wrong P bytes right wrong = let never : true ≡ false = sym right.right_l
 pub fault_of_err : {T : Type 0} (a : DecodeFault) → (let told : Result T DecodeFault = Err a in told ≡ Err Length) → a ≡ Length
 fault_of_err a e = cc
 
--- ---- one answer
+-- ---- results of `verify` for the same bytes, mask and layout are equal, unless memory ran out for one of them
 
 told : (o : Option Refusal) (refusal : Refusal) → refusal ≢ OutOfMemory → IsRefusal o refusal → o ≡ Some refusal
 told o (Decode fault) other h = h

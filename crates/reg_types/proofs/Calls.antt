@@ -174,13 +174,15 @@ module _ (declared : ℕ) (types : List RegType) (view : View) (va vb : Value) (
   abbrev second_of_two : Helper → Kind
   second_of_two h = kind_at (kinds h) 1
 
-  -- a call is answered as its effect states if the call leaves the stack as it was
+  -- if a call has a result, changes only declared counters and leaves the stack as it was, and its effect e says that
+  -- nothing is written to the stack, then the call is answered, as `Answered` defines
   plainly : (given : Option HelperResult) (e : Effect) (reply : HelperResult) → given ≡ Some reply → Changes declared counters reply.counters → reply.stack ≡ stack
       → unmarked (after_call types) ≡ e → Answered declared types view counters stack given e
   plainly given e reply there changes same marks =
       record { reply = reply; there = there; changes = changes; at = 0; bytes = []; marks = marks; stack_is = same; inside = omega arith }
 
-  -- adding to a declared counter changes that counter alone if the sum is within its bound, and else changes nothing
+  -- If counter c is declared, then only declared counters change: n is added to c if the sum is within the bound of c,
+  -- and else all counters stay as they are.
   added_if : (t : Bool) (n c : ℕ) → nat_le ((counter counters c).0 + n) (counter counters c).1 ≡ t → declared / 2 ^ c % 2 ≡ 1
       → Changes declared counters (cond {A = HelperResult} t (record {
         value = 1;

@@ -20,7 +20,7 @@ truth : (b : Bool) → (b ≡ true) ⊎ (b ≡ false)
 truth true = inl refl
 truth false = inr refl
 
--- ---- counts
+-- ---- `count_below` counts the numbers below n that a test accepts
 
 counted : (n : ℕ) (p : ℕ → Bool) → p n ≡ true → count_below (suc n) p ≡ suc (count_below n p)
 unfolding count_below
@@ -54,7 +54,8 @@ nothing_counted : (n : ℕ) → count_below n (λ q. false) ≡ 0
 nothing_counted zero = none_counted (λ q. false)
 nothing_counted (suc n) = passed_by n (λ q. false) refl ∙ nothing_counted n
 
--- if r accepts a number a below n that p rejects, and both agree on all others, then r accepts one number more than p
+-- if r accepts a number a below n that p rejects, and both agree on all others, then of the numbers below n, r accepts
+-- one more than p does
 one_more : (n a : ℕ) (p r : ℕ → Bool) → a < n → p a ≡ false → r a ≡ true → ((q : ℕ) → q ≢ a → r q ≡ p q) → count_below n r ≡ suc (count_below n p)
 one_more zero a p r l not now others = absurd (omega (arith, l))
 one_more (suc n) a p r l not now others =
@@ -72,7 +73,8 @@ one_more (suc n) a p r l not now others =
           ]
     ]
 
--- if each number that p accepts is 0 or is accepted by r, then below n p accepts at most one number more than r
+-- if each number that p accepts is 0 or is accepted by r, then of the numbers below n, p accepts at most one more than
+-- r does
 one_less : (n : ℕ) (p r : ℕ → Bool) → ((q : ℕ) → p q ≡ true → (q ≡ 0) ⊎ (r q ≡ true)) → count_below n p ≤ 1 + count_below n r
 one_less zero p r h = let e = none_counted p in omega (arith, e)
 one_less (suc n) p r h =
@@ -90,12 +92,12 @@ one_less (suc n) p r h =
           ]
     ]
 
--- ---- the table
+-- ---- the number of stored facts
 
 stored_if : (t : Bool) (f : Fact) (o : Option Fact) → t ≡ false → is_some (cond t (Some f) o) ≡ is_some o
 stored_if t f o e = ap is_some (cond-false t (Some f) o e)
 
--- there are as many stored facts as units that have one
+-- if no unit has two facts, and only units below n have one, then there are as many stored facts as units that have one
 pub count_of_stored : (n : ℕ) (facts : List StoredFact) → AreDistinct facts → ((q : ℕ) → is_some (stored facts q) ≡ true → q < n)
     → length facts ≡ count_below n (λ q. is_some (stored facts q))
 unfolding AreDistinct

@@ -1,4 +1,5 @@
--- Two facts that are the same, as `IsSame` defines, have the same flaws, effects and joins.
+-- If two facts are the same, as `IsSame` defines, then an instruction has the same effect or the same flaw whichever of
+-- the two is known before it, and the joins of the two with another fact are the same.
 use Rattle.std.proofs.Common.{◌≡◌, ℕ, zero, suc, ◌-◌, ◌⊎◌, ◌↔◌, List, [], ◌∷◌, Option, Some, None, Bool, true, false, refl, sym, ap, ◌∙◌, subst, inl, inr}
 use Rattle.std.proofs.Common.{arith, length}
 use Rattle.std.specs.Prelude.{Result, Ok, Err, ℤ, ◌==◌, ◌&&◌, cond, drop, slice_index_or}
@@ -27,7 +28,7 @@ use Rattle.reg_types.specs.Inference.{instruction_at, ruled, flaw_in, flaw_of, f
 use Rattle.operations.specs.Operations.{upper_of}
 use Rattle.reg_types.specs.Passing.{IsSame, AreSame}
 
--- ---- sets
+-- ---- these lemmas say which places are in the sets that `common`, `marked`, `cleared` and `set_after` give
 
 pub common_has : (a b : List Bool) (p : ℕ) → Has (common a b) p ↔ (Has a p × Has b p)
 common_has [] b p = (λ h. absurd (cc), λ h. h.0)
@@ -35,7 +36,7 @@ common_has (x ∷ a) [] p = (λ h. absurd (cc), λ h. h.1)
 common_has (x ∷ a) (y ∷ b) zero = (λ h. and_parts x y h, λ h. and_from x y h.0 h.1)
 common_has (x ∷ a) (y ∷ b) (suc p) = common_has a b p
 
--- byte p of the set without its lowest byte is byte p + 1 of the set
+-- `drop 1 set` is the list `set` without its first value: its value at p is the value of `set` at p + 1
 dropped : (set : List Bool) (p : ℕ) → slice_index_or (drop 1 set) p false ≡ slice_index_or set (suc p) false
 dropped [] zero = refl
 dropped [] (suc p) = refl
@@ -86,7 +87,8 @@ cleared_has zero (suc len) set (suc p) = apart_none (cleared zero len (drop 1 se
 cleared_has (suc at) len set zero = (λ has. (has, λ w. omega (arith, w.0)), λ e. e.0)
 cleared_has (suc at) len set (suc p) = apart_one (slice_index_or set 0 false) (cleared at len (drop 1 set)) set at len p (cleared_has at len (drop 1 set) p)
 
--- which places are in the set after `len` bytes from `at` on were added to it (true) or removed from it (false)
+-- `HasAfter` for the Bool b holds if and only if place p is in the set after `len` bytes from `at` on were added to it
+-- (if b is true) or removed from it (if b is false)
 after_if : (b : Bool) (at len : ℕ) (set : List Bool) (p : ℕ) → Has (cond b (marked at len set) (cleared at len set)) p ↔ HasAfter b set at len p
 after_if true at len set p = marked_has at len set p
 after_if false at len set p = cleared_has at len set p
@@ -98,7 +100,7 @@ has_after_same : (b : Bool) (at len p : ℕ) (x y : List Bool) → (Has x p ↔ 
 has_after_same true at len p x y f h = elim h [ inl old ↦ inl (f.0 old) | inr w ↦ inr w ]
 has_after_same false at len p x y f h = (f.0 h.0, h.1)
 
--- ---- types
+-- ---- the type of a register in the join of two lists of types is the join of its types in both
 
 nothing_joined : (t : RegType) → join_type t Unset ≡ Unset
 nothing_joined Unset = refl
@@ -124,7 +126,7 @@ pub joined_types : (a b j : List RegType) → length a ≡ length b → length j
 joined_types a b j la lj e =
     ext_get_or Unset j (join_types a b) (lj ∙ sym (length-joined a b la)) (λ r l. e r ∙ sym (type_at-joined a b r))
 
--- ---- facts that are the same
+-- ---- if two facts are the same (`IsSame`), so are their joins with the same fact, and the facts after the same effect
 
 pub IsSame-refl : (a : Fact) → IsSame a a
 IsSame-refl a = record { types = refl; places = λ p. (λ h. h, λ h. h); spills = refl }
@@ -192,7 +194,8 @@ after_same a b e f =
       spills = ap (respilled (spill_of e.spilled) e.at e.len 0) f.spills;
     }
 
--- a fact that fulfils `IsAfter`, such as the one that the code computes, is the same as `fact_after`
+-- if `after` is the fact after an instruction with effect e, before which `fact` is known (`IsAfter`), then it is the
+-- same as the fact that `fact_after` gives
 pub same_after : (fact : Fact) (e : Effect) (after : Fact) → IsAfter fact e after → IsSame after (fact_after fact e)
 same_after fact e after is =
     record {
@@ -267,7 +270,7 @@ pub judged_same : (count pc : ℕ) (options : LoadOptions) (a b : Fact) → IsSa
     → checked_effect count pc options a i upper form ≡ checked_effect count pc options b i upper form
 judged_same count pc options a b f i upper form = ap (λ r. cond (falls_off count pc form) (Err FallsOff) r) (effect_same options a b f i upper form)
 
--- ---- passing one unit
+-- ---- what the verifier's pass over the units does at one unit
 
 passed_by_same : (q : ℕ) (a b : Fact) (r : Result Effect Flaw) (tos : Option (List ℕ)) (x y : Option Fact) → IsSame a b → AreSame x y
     → AreSame (passed_by q a r tos x) (passed_by q b r tos y)

@@ -94,7 +94,7 @@ kept_there stack at v p l =
     let all = pieces_written stack at v 0 8 in
     ap (λ c. pointer_from c all at) (first_piece stack at v 0 7 (omega (arith, l))) ∙ ap (λ t. value_if t v) (pieces_there stack at v 0 8 p l)
 
--- if cells hold a pointer, then a load of them gives no number
+-- if c is the first of eight cells that hold a pointer, then a load from c on gives no number
 pub no_number : (c : Cell) (stack : List Cell) (at : ℕ) (v : Value) (o : Option ℕ) → pointer_from c stack at ≡ Some v → low_byte c o ≡ None
 no_number (Piece w i) stack at v o e = refl
 no_number Empty stack at v o e = refl
@@ -123,7 +123,7 @@ pointer_set (Const c) e = absurd (cc)
 pub aligned : (size at : ℕ) → is_aligned size at ≡ true → (size ≡ 8) × (at % 8 ≡ 0)
 aligned size at e = let h = and_parts (size == 8) (at % 8 == 0) e in (eqb-true size 8 h.0, eqb-true (at % 8) 0 h.1)
 
--- ---- spills
+-- ---- a spill stands for a pointer that the stack holds; this stays true after a store of bytes or of a pointer
 
 le_from : (m n : ℕ) → nat_le m n ≡ true → m ≤ n
 le_from m n e = grind (arith, nat_tests)
@@ -164,7 +164,8 @@ stack_spill : (b : Bool) (m n : ℕ) → n ≡ m → is_unset (spilled_type (con
 stack_spill true m n e u = subst (λ t. FitsType t (Stack n)) (sym (spilled_stack m)) (ap pos e ∙ back_again m)
 stack_spill false m n e u = absurd (cc)
 
--- a value that fits a pointer's type fits the type that is read back from its spill
+-- A spill is a pointer's type as a number. If a value fits type t, and the type that is read back from the spill of t
+-- isn't Unset, then the value also fits the type that is read back.
 pub spill_fits : (t : RegType) (v : Value) → FitsType t v → is_unset (spilled_type (spill_of t)) ≡ false → FitsType (spilled_type (spill_of t)) v
 spill_fits (Ctx k) (Context n) h u = context_spill (nat_le k 80) k n (λ e. le_from k 80 e) h u
 spill_fits (Stk k) (Stack n) h u = stack_spill (nat_le (lowest k) 512) (lowest k) n (sym (ap natural (sym h))) u
@@ -178,7 +179,7 @@ spill_fits (Stk k) Unset h u = absurd h
 spill_fits (Stk k) (Number n) h u = absurd h
 spill_fits (Stk k) (Context n) h u = absurd h
 
--- a spill of 0 stands for no pointer, so it fits every stack
+-- a spill of 0 means that no pointer is known, so it fits every stack
 pub no_spill_fits : (spill : ℕ) (stack : List Cell) (at : ℕ) → spill ≡ 0 → FitsSpill (spilled_type spill) stack at
 no_spill_fits spill stack at z = subst (λ n. FitsSpill (spilled_type n) stack at) (sym z) (λ u. absurd (cc))
 
@@ -192,7 +193,7 @@ none_spilled k =
       | inr l ↦ get_or_past no_spills k 0 (let n = length-replicate {A = ℕ} 64 0 in omega (arith, n, l))
     ]
 
--- a joined spill is the spill of both facts, or 0 if they differ
+-- the join of two spills is equal to both of them, or it is 0
 join_if : (a b : ℕ) (t : Bool) → (t ≡ true → a ≡ b) → ((cond t a 0 ≡ a) × (cond t a 0 ≡ b)) ⊎ (cond t a 0 ≡ 0)
 join_if a b true e = inl (refl, e refl)
 join_if a b false e = inr refl
@@ -204,7 +205,8 @@ joined_spill (x ∷ a) [] k = inr refl
 joined_spill (x ∷ a) (y ∷ b) zero = join_if x y (x == y) (eqb-true x y)
 joined_spill (x ∷ a) (y ∷ b) (suc k) = joined_spill a b k
 
--- a spill after a store: 0, or the old one if the store didn't touch its place, or n if it did
+-- The spill of an aligned place after a store is `new`. It is 0; or it is `old`, the spill before, and
+-- the store didn't touch the place; or it is n, the spill of what the store writes, and the store touched the place.
 abbrev IsRespilled : Bool → ℕ → ℕ → ℕ → Type 0
 IsRespilled touched n old new = (new ≡ 0) ⊎ (((touched ≡ false) × (new ≡ old)) ⊎ ((touched ≡ true) × (new ≡ n)))
 
@@ -224,7 +226,7 @@ untouched_by : (a b : Bool) → (a && b) ≡ false → (a ≡ false) ⊎ (b ≡ 
 untouched_by true b e = inr e
 untouched_by false b e = inl refl
 
--- the bytes of a place that isn't touched lie outside the written ones
+-- if a store doesn't touch aligned place k, then each byte p of the place lies before or after the written bytes
 untouched : (at len k p : ℕ) → touches at len k ≡ false → 8 * k ≤ p → p < 8 * k + 8 → (p < at) ⊎ (at + len ≤ p)
 untouched at len k p e l m = elim (untouched_by (nat_lt at (8 * k + 8)) (nat_lt (8 * k) (at + len)) e) [
   | inl a ↦ inl (let b = not_below at (8 * k + 8) a in omega (arith, b, m))
@@ -241,7 +243,8 @@ touched at k z e =
 abbrev AllSpillsFit : List ℕ → List Cell → Type 0
 AllSpillsFit spills stack = (k : ℕ) → FitsSpill (spilled_type (slice_index spills k)) stack (8 * k)
 
--- if the stack holds a pointer for each spill, then after a store of bytes it holds one for each spill that is left
+-- if the stack holds a pointer for each spill, then after a store of plain bytes it holds a pointer for each spill in
+-- `after`: the spills of the places that the store touched are 0 there
 pub kept_after_bytes : (spills after : List ℕ) (stack : List Cell) (at : ℕ) (bytes : List ℕ) → after ≡ respilled 0 at (length bytes) 0 spills → AllSpillsFit spills stack
     → AllSpillsFit after (written stack at bytes)
 kept_after_bytes spills after stack at bytes e all k =
@@ -258,7 +261,9 @@ kept_after_bytes spills after stack at bytes e all k =
       ]
     ])
 
--- if the stack holds a pointer for each spill, then after a store of a pointer it holds one for each of the new spills
+-- Let the stack hold a pointer for each spill of `spills`. Let the pointer v, which fits type t, be written to the
+-- eight bytes of the stack from `at` on; `at` is a multiple of 8. After this the stack holds a pointer for each spill
+-- of `after`, in which these eight bytes have the spill of t and all other places have the spill that they had before.
 pub kept_after_pointer : (spills after : List ℕ) (stack : List Cell) (at : ℕ) (t : RegType) (v : Value) → after ≡ respilled (spill_of t) at 8 0 spills → at % 8 ≡ 0
     → at + 8 ≤ length stack → IsPointer v → FitsType t v → AllSpillsFit spills stack → AllSpillsFit after (pieces_written stack at v 0 8)
 kept_after_pointer spills after stack at t v e z inside p f all k =
@@ -277,7 +282,7 @@ kept_after_pointer spills after stack at t v e z inside p f all k =
       ]
     ])
 
--- a place that isn't within the bytes lies before or after them
+-- if byte p of the stack isn't one of the `len` bytes from `at` on, then it lies before or after them
 pub outside : (at len p : ℕ) → ¬ (Within at len p) → (p < at) ⊎ (at + len ≤ p)
 outside at len p out = elim (cases_lt p at) [
   | inl l ↦ inl l
@@ -302,7 +307,8 @@ length-joined_spills [] (y ∷ b) e = absurd (omega (arith, e))
 length-joined_spills (x ∷ a) [] e = absurd (omega (arith, e))
 length-joined_spills (x ∷ a) (y ∷ b) e = ap suc (length-joined_spills a b (omega (arith, e)))
 
--- if all spills below r are joined, and spill r is set to its join, then all spills below r + 1 are joined
+-- Let the first r spills of the list `ts` be the joins of those of `a` and `b`, and let spill r of `ts` be that of `a`.
+-- If spill r of `ts` is set to its join with spill r of `b`, then the first r + 1 spills of `ts` are these joins.
 pub spill_step : (ts a b : List ℕ) (r v : ℕ) → r < length ts → v ≡ both_spill (slice_index ts r) (slice_index b r) → slice_index ts r ≡ slice_index a r
     → ((k : ℕ) → k < r → slice_index ts k ≡ both_spill (slice_index a k) (slice_index b k)) → (k : ℕ) → k < r + 1
     → slice_index (slice_set ts r v) k ≡ both_spill (slice_index a k) (slice_index b k)
@@ -333,7 +339,8 @@ length-respilled : (n at len j : ℕ) (spills : List ℕ) → length (respilled 
 length-respilled n at len j [] = refl
 length-respilled n at len j (m ∷ rest) = ap suc (length-respilled n at len (suc j) rest)
 
--- of the spills that a store touches, those of the places below k are n by now; all other spills are the old ones
+-- `new` has 64 spills, one for each aligned place (eight bytes). From index `at` / 8 to index k - 1 each spill is n,
+-- the one that was put there. All other spills are those of `old`.
 pub record ArePut (n at k : ℕ) (old new : List ℕ) : Type 0 where
   pub long : length new ≡ 64
   pub inside : (j : ℕ) → at / 8 ≤ j → j < k → slice_index new j ≡ n
@@ -409,7 +416,9 @@ unwritten fact after e at len types stack spills =
           ∙ ap (λ l. respilled (spill_of e.spilled) e.at l 0 fact.spills) (sym len);
     }
 
--- the fact after an instruction doesn't depend on the types before it
+-- The fact after an instruction with effect e doesn't depend on the register types before it. Let `typed` and `fact`
+-- have the same set of stack bytes and the same spills. If `after` is the fact after the instruction when `typed` is
+-- known before it (`IsAfter`), then `after` is also the fact after it when `fact` is known before it.
 pub after_of : (fact typed after : Fact) (e : Effect) → typed.stack ≡ fact.stack → typed.spills ≡ fact.spills → IsAfter typed e after → IsAfter fact e after
 after_of fact typed after e stack spills h =
     record {

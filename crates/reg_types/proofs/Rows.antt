@@ -1,4 +1,5 @@
--- Closed examples: the answers of `verify` for whole programs, each unit written as its sixteen hexadecimal digits.
+-- Examples: the refusals of whole programs, or None if a program is accepted. Each unit is written as sixteen
+-- hexadecimal digits.
 use Rattle.std.proofs.Common.{◌≡◌, ℕ, ◌+◌, ◌≤◌, List, [], ◌∷◌, ◌++◌, Some, None, true, refl, sym, ap, ◌∙◌, arith}
 use Rattle.std.specs.Prelude.{pos, negsuc, ◌+ℤ◌, cond, nat_le}
 use Rattle.std.proofs.lemmas.Bool.Decides.{nat_tests}
@@ -43,7 +44,7 @@ half_an_answer : refusal_of (on_one (0x61120c0000000000 ∷ 0x1502010004000000 �
 unfolding refusal_of known first_flaw_below
 half_an_answer = refl
 
--- a load from the stack is accepted if its bytes are set on both edges to it, and refused if only on one
+-- a load from the stack is accepted if its bytes are set on both edges to it, and refused if they are set on only one
 stored_before : refusal_of (on_one (0xb700000000000000 ∷ 0x620af8ff07000000 ∷ 0x1500010001000000 ∷ 0xb700000005000000 ∷ 0x61a0f8ff00000000
     ∷ 0x9500000000000000 ∷ [])) ≡ None
 unfolding refusal_of known first_flaw_below
@@ -121,7 +122,8 @@ past_layout_two : refusal_of (on_two (0x7910490000000000 ∷ 0x9500000000000000 
 unfolding refusal_of known first_flaw_below
 past_layout_two = refl
 
--- the type that is read back from a pointer's spill is its type
+-- A spill is a pointer's type as a number. A type `Ctx` 0 to 80 or `Stk` -512 to 0 is read back from its spill
+-- unchanged.
 context_spilled : (k : ℕ) → k ≤ 80 → spilled_type (spill_of (Ctx k)) ≡ Ctx k
 context_spilled k l =
     let small : nat_le k 80 ≡ true = grind (arith, nat_tests) in

@@ -1,4 +1,5 @@
--- If the typing rules find a flaw in an instruction, then the instruction is one that can have this flaw.
+-- If the typing rules find a flaw in an instruction, then `MayHave`, which defines the flaws that each instruction can
+-- have, says that the instruction can have this flaw.
 use Rattle.std.proofs.Common.{◌≡◌, ℕ, ◌+◌, ◌-◌, ◌≤◌, List, Option, Some, None, Bool, true, false, refl, ap, subst, inl, inr, arith}
 use Rattle.std.specs.Prelude.{Result, Ok, Err, ℤ, pos, negsuc, neg_ℤ, ◌+ℤ◌, int_le, nat_le, ◌==◌, ◌&&◌, ◌||◌, cond}
 use Rattle.std.proofs.lemmas.Bool.{eqb-true}
@@ -208,7 +209,8 @@ module _ (count pc : ℕ) (i : Inst) (types : List RegType) (flaw : Flaw) where
       two_shown (MayHave count pc i form) flaw i.dst i.src (is_unset a) (is_unset (operand_type s w i types))
       (is_pointer a || is_pointer (operand_type s w i types)) p (λ u. q (second_by s w i types u)) r e
 
-  -- a flaw of a 64-bit ADD or SUB with an immediate is one that this instruction can have
+  -- if `sum_type` finds a flaw in a 64-bit ADD or SUB with an immediate, then `MayHave` says that the instruction can
+  -- have this flaw
   moved_shows : (layout : Layout) (op : Operator) → MayHave count pc i (Arithmetic op Bits64 Immediate) OutOfRange
       → MayHave count pc i (Arithmetic op Bits64 Immediate) (NotANumber i.dst) → (z : ℤ) (a : RegType)
       → sum_type layout Bits64 Immediate i z a (operand_type Immediate Bits64 i types) ≡ bad flaw → MayHave count pc i (Arithmetic op Bits64 Immediate) flaw
@@ -240,7 +242,7 @@ module _ (count pc : ℕ) (i : Inst) (types : List RegType) (flaw : Flaw) where
   alu_shows layout SwapBytes w s a e = one_shown (MayHave count pc i (Arithmetic SwapBytes w s)) flaw i.dst (is_unset a) (is_pointer a) refl tt e
   alu_shows layout op w s a e = numbers_shows (Arithmetic op w s) s w a (first_by s i) (λ h. h) tt e
 
-  -- ---- calls
+  -- ---- a call's flaw shows that its helper doesn't exist, or has the argument at fault, or uses a counter
 
   abbrev CallShown : Option Helper → Flaw → Type 0
   CallShown o NoSuchHelper = NoHelper o
@@ -282,7 +284,7 @@ call_shows count pc i types StoreToContext h = absurd h
 call_shows count pc i types StorePointer h = absurd h
 call_shows count pc i types PointerArithmetic h = absurd h
 
--- ---- one instruction
+-- ---- a flaw that the typing rules find in an instruction is one that it may have by its form (`MayHave`)
 
 effect_shows : (count pc : ℕ) (options : LoadOptions) (fact : Fact) (i : Inst) (upper : ℤ) (form : Form) (flaw : Flaw) → effect options fact i upper form ≡ wrong flaw
     → MayHave count pc i form flaw
@@ -331,7 +333,7 @@ judged_shown : (P : Flaw → Type 0) (b : Bool) (r : Effects) (flaw : Flaw) → 
 judged_shown P true r flaw p q e = is_wrong P FallsOff flaw e (p refl)
 judged_shown P false r flaw p q e = q e
 
--- a flaw that the typing rules find in an instruction is one that this instruction can have
+-- if the typing rules find a flaw in an instruction, then `MayHave` says that the instruction can have this flaw
 pub checked_effect_shows : (count pc : ℕ) (options : LoadOptions) (fact : Fact) (i : Inst) (upper : ℤ) (form : Form) (flaw : Flaw)
     → checked_effect count pc options fact i upper form ≡ wrong flaw → MayHave count pc i form flaw
 checked_effect_shows count pc options fact i upper form flaw e =

@@ -26,7 +26,8 @@ both false b e = absurd (cc)
 low_some : (c : Cell) (o : Option ℕ) → HasByte c → ((n : ℕ) × (o ≡ Some n)) → (n : ℕ) × (low_byte c o ≡ Some n)
 low_some c o b r = (b.0 + 256 * r.0, ap (λ x. low_byte x o) b.1 ∙ ap (low_byte (Byte b.0)) r.1)
 
--- a load of stack bytes that are all in the set gives a number
+-- If each stack cell whose place is in `set` holds a byte (`Covered`), and the n places from `at` on are all in `set`,
+-- then a load of these n bytes gives a number.
 pub covered_load : (set : List Bool) (stack : List Cell) (at n : ℕ) → Covered set stack → all_in set at n ≡ true → (v : ℕ) × (number_in stack at n ≡ Some v)
 covered_load set stack at zero c h = (0, refl)
 covered_load set stack at (suc n) c h =
@@ -83,7 +84,7 @@ at_most k (negsuc n) at limit e =
     let l : k - suc n ≤ limit = le_from _ _ t.1 in
     omega (arith, h.1)
 
--- the bytes of a store are inside the stack
+-- if `stack_at` gives a place for at most eight bytes, then all of them are inside the stack
 pub store_inside : (v : Value) (i : Inst) (size at : ℕ) → size ≤ 8 → stack_at v i.offset size ≡ Some at → at + size ≤ 512
 store_inside (Stack n) i size at small e =
     let l = at_most n i.offset at (512 - size) e in omega (arith, l)

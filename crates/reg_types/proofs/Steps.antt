@@ -95,7 +95,7 @@ written_value (x ∷ xs) (suc n) v lt = written_value xs n v (omega arith)
 same_or_other : (r q : ℕ) → (r ≡ q) ⊎ (r ≢ q)
 same_or_other r q = elim (cases_lt r q) [ inl l ↦ inr (omega arith) | inr g ↦ elim (cases_lt q r) [ inl l ↦ inr (omega arith) | inr h ↦ inl (omega arith) ] ]
 
--- ---- numbers
+-- ---- a value that fits a number's type is a number, and an accepted comparison or exit has passed its tests
 
 abbrev HasNumber : Value → Type 0
 HasNumber v = (n : ℕ) × (v ≡ Number n)
@@ -122,7 +122,7 @@ exit_test : (a : Bool) (x : Flaw) (r e : Effect) → cond a (ok_of r) (Err x) �
 exit_test true x r e h = refl
 exit_test false x r e h = absurd (cc)
 
--- ---- places
+-- ---- what is known of an accepted load or store: its place, its type or its effect
 
 set_test : (b : Bool) (t : RegType) → cond b (typed_as Num) (Err UnsetBytes) ≡ typed_as t → (b ≡ true) × (Num ≡ t)
 set_test true t h = (refl, cc)
@@ -137,7 +137,9 @@ mark_is : (types : List RegType) (size : ℕ) (o : Option ℕ) (e : Effect) → 
 mark_is types size None e h = absurd (cc)
 mark_is types size (Some at) e h = (at, refl, same_effect h)
 
--- the stored value isn't a pointer, or it is one and its place can hold it: eight bytes at a multiple of eight
+-- Let x be the effect of a store of a number, and e the effect of a store of a value of type `value` to the same place.
+-- The value isn't a pointer, and e is x. Or it is a pointer and its place can hold it (eight bytes at a multiple of
+-- eight); then e is x with `value` as the type of the spilled pointer.
 abbrev StoresPointerOrNot : RegType → Bool → Effect → Effect → Type 0
 StoresPointerOrNot value pointer x e = ((pointer ≡ false) × (x ≡ e)) ⊎ ((pointer ≡ true) × (is_aligned x.len x.at ≡ true) × (record x { spilled = value } ≡ e))
 
@@ -171,7 +173,7 @@ neither Anything a b = absurd (cc)
 neither (Ctx k) a b = absurd (cc)
 neither (Stk k) a b = absurd (cc)
 
--- a well typed store goes through a pointer into the stack, and its bytes are inside
+-- if a store is well typed, then `stack_at` gives its place in the stack, and its effect writes `size` bytes there
 pub store_is : (types : List RegType) (base : RegType) (v : Value) (i : Inst) (size : ℕ) (e : Effect) → FitsType base v → store_type types base i size ≡ ok_of e
     → (at : ℕ) × (stack_at v i.offset size ≡ Some at) × (record { types = types; at = at; len = size; spilled = Anything } ≡ e)
 store_is types (Stk k) (Stack n) i size e h g =
@@ -189,7 +191,8 @@ store_is types (Stk k) (Context n) i size e h g = absurd h
 abbrev marked_by : List RegType → ℕ → ℕ → Effect
 marked_by types at len = record { types = types; at = at; len = len; spilled = Anything }
 
--- after a call the registers fit their types: R0 is a number, R1 to R5 are unset, and R6 to R10 are as before
+-- if the registers fit their types before a call, then they fit them after it: R0 is a number, R1 to R5 are unset, and
+-- R6 to R10 are as before
 called_fits : (types : List RegType) (values : List Value) (n r : ℕ) → ((q : ℕ) → FitsType (type_at types q) (register values q))
     → FitsType (type_at (after_call types) r) (register (Number n ∷ Unset ∷ Unset ∷ Unset ∷ Unset ∷ Unset ∷ drop 6 values) r)
 called_fits types values n zero h = tt
@@ -275,7 +278,7 @@ module _ (options : LoadOptions) (fact after : Fact) (s : State) (fits : Fits fa
   operand_fits Immediate w i = refl
   operand_fits Register w i = fits.registers i.src
 
-  -- ---- loads
+  -- ---- a well typed load leads to the next unit, in a state that fits the fact after the load
 
   context_is : (o : Option ℕ) (t : RegType) → number_at o ≡ typed_as t → (at : ℕ) × (o ≡ Some at) × (Num ≡ t)
   context_is None t e = absurd (cc)
@@ -325,7 +328,8 @@ module _ (options : LoadOptions) (fact after : Fact) (s : State) (fits : Fits fa
       (subst (λ o. Follows options.mask after ((s.pc + 1) ∷ []) s (or_stuck o (λ n. sets s i.dst (Number (f n))))) (sym g.3)
       (sets_follow e i.dst r (Some (Number (f g.0))) is small h (λ t k. subst (λ u. FitsType u (Number (f g.0))) (g.4 ∙ same_type x.0 t (sym x.1 ∙ k)) tt)))
 
-  -- if a fact has a spill for an aligned place, then the stack holds a pointer of that type there
+  -- if `fact` has a spill (a pointer's type as a number) for the `size` bytes from `at` on, then these bytes are an
+  -- aligned place, and the stack holds a pointer that fits this type there
   spill_test : (size at : ℕ) (b : Bool) → is_aligned size at ≡ b → is_unset (cond b (spilled_type (slice_index fact.spills (at / 8))) Anything) ≡ false
       → (w : Value) × (is_aligned size at ≡ true) × (pointer_at s.stack at ≡ Some w) × FitsType (cond b (spilled_type (slice_index fact.spills (at / 8))) Anything) w
   spill_test size at true a u =
@@ -345,7 +349,8 @@ module _ (options : LoadOptions) (fact after : Fact) (s : State) (fits : Fits fa
       let h = aligned size at a in
       ap (number_in s.stack at) h.0 ∙ no_number (cell_at s.stack at) s.stack at w (number_in s.stack (suc at) 7) e
 
-  -- a load through a pointer to a spill reads the spilled pointer
+  -- if a load reads the eight bytes of an aligned place for which `fact` has a spill, then it reads the pointer that is
+  -- stored there, and this pointer fits the spill's type
   kept_gives : (context : List ℕ) (a : RegType) (v : Value) (i : Inst) (size : ℕ) → FitsType a v → is_unset (reload_type fact.spills a i size) ≡ false
       → (at : Place) × (w : Value) × (mem (length context) v i.offset size ≡ Some at) × (loaded at size context s.stack ≡ Some w)
       × FitsType (reload_type fact.spills a i size) w
@@ -393,7 +398,7 @@ module _ (options : LoadOptions) (fact after : Fact) (s : State) (fits : Fits fa
             (sets_follow e i.dst r (Some g.1) is small h (λ t k. subst (λ u. FitsType u g.1) (same_type spilled t (pointer.1 ∙ sym x.1 ∙ k)) g.4)))
       ]
 
-  -- ---- stores
+  -- ---- a well typed store leads to the next unit, in a state that fits the fact after the store
 
   fits_stored : (e : Effect) (at : ℕ) (bytes : List ℕ) (pc : ℕ) → IsAfter fact e after → marked_by fact.types at (length bytes) ≡ e → at + length bytes ≤ 512
       → Fits after (record s { pc = pc; stack = written s.stack at bytes })
@@ -444,8 +449,8 @@ module _ (options : LoadOptions) (fact after : Fact) (s : State) (fits : Fits fa
   stored_pointer i size Unset p = absurd p
   stored_pointer i size (Number n) p = absurd p
 
-  -- after a store of a pointer to an aligned place of eight bytes, the stack holds the pointer there, and the state
-  -- fits the fact after the store
+  -- a well typed store of a pointer to an aligned place of eight bytes leads to the next unit, in a state that fits the
+  -- fact after the store
   keeps_follow : (i : Inst) (size : ℕ) (x e : Effect) (t : RegType) (v : Value) → IsAfter fact e after → size ≤ 8
       → store_type fact.types (type_at fact.types i.dst) i size ≡ ok_of x → is_aligned x.len x.at ≡ true → record x { spilled = t } ≡ e → is_pointer t ≡ true
       → FitsType t v → Follows options.mask after ((s.pc + 1) ∷ []) s (stores_value s i size v)
@@ -473,7 +478,7 @@ module _ (options : LoadOptions) (fact after : Fact) (s : State) (fits : Fits fa
       (λ at. Continues (record s { pc = s.pc + 1; stack = written s.stack at (little_bytes size n) })))) (sym x.1)
       (inl refl, fits_stored e x.0 (little_bytes size n) (s.pc + 1) is same (omega (arith, long, inside)), Changes-refl options.mask s.counters)
 
-  -- ---- jumps
+  -- ---- a jump leads to one of its successor units, whether it is taken or not, in a state that fits the fact after it
 
   cons_is : (o : Option ℕ) (rest tos : List ℕ) → option_cons o rest ≡ Some tos → (to : ℕ) × (o ≡ Some to) × ((to ∷ rest) ≡ tos)
   cons_is None rest tos e = absurd (cc)
@@ -500,7 +505,7 @@ module _ (options : LoadOptions) (fact after : Fact) (s : State) (fits : Fits fa
   some_list : (x y : List ℕ) → Some x ≡ Some y → x ≡ y
   some_list x y e = cc
 
-  -- ---- calls
+  -- ---- the state after a well typed call fits the fact after it; then all instructions are taken together
 
   call_fits : (e : Effect) → IsAfter fact e after → (a : HelperResult) (at : ℕ) (bytes : List ℕ) → marked_by (after_call fact.types) at (length bytes) ≡ e
       → a.stack ≡ written s.stack at bytes → at + length bytes ≤ 512
@@ -530,7 +535,8 @@ module _ (options : LoadOptions) (fact after : Fact) (s : State) (fits : Fits fa
             (kept_after_bytes fact.spills after.spills s.stack at bytes now.spills fits.spills k);
       }
 
-  -- a well typed instruction leads to one of its units, in a state that fits the fact after it, or it ends the run
+  -- a well typed instruction leads to one of its successor units, in a state that fits the fact after it, or it ends
+  -- the run
   pub step_follows : (context : List ℕ) → length context ≡ context_len options.layout
       → (view : View) (i : Inst) (upper : ℤ) (form : Form) (e : Effect) (tos : List ℕ) → i.dst ≤ 10 → IsAfter fact e after
       → effect options fact i upper form ≡ ok_of e → successor_units s.pc i form ≡ Some tos → Follows options.mask after tos s (form_step options.mask context view s i upper form)

@@ -126,7 +126,8 @@ module _ (facts : List StoredFact) (at k : ℕ) (d : StoredFact) (f fact : Fact)
         occupied = λ q. elim (cases_eq q at) [ inl e ↦ ap is_some (set_here q e) ∙ sym (ap is_some (held_here q e)) | inr n ↦ ap is_some (set_elsewhere q n) ];
       }
 
--- a fact that a jump brings to a unit with a stored fact is joined with that one
+-- if a jump brings a fact to a unit with a stored fact, then the fact is joined into the stored one, and no other
+-- stored fact changes
 pub entered_at : (facts new : List StoredFact) (at : ℕ) (fact : Fact) (o : Option ℕ) (b : Bool) → is_some o ≡ true → IfSome o (λ k. IsPlace facts at k)
     → (IsTrue b → IsJoined at fact (stored facts) (stored new)) → (b ≡ false → stored facts at ≡ None) → (q : ℕ)
     → AreSame (stored new q) (arrived q fact at (stored facts q))

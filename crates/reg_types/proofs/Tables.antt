@@ -1,4 +1,5 @@
--- The order of facts (which fact allows more states), and tables of facts.
+-- The order of facts: a fact is below another if each state that fits it also fits the other (`IsBelow`). Each of
+-- two facts is below their join, which can be made register by register.
 use Rattle.std.proofs.Common.{◌≡◌, ◌≢◌, ℕ, ◌+◌, ◌<◌, ◌≤◌, List, Bool, true, false, refl, sym, ap, ◌∙◌, subst, inl, inr, arith, length}
 use Rattle.std.specs.Prelude.{◌==◌, ◌*◌, cond, slice_set, slice_index}
 use Rattle.std.specs.Ordering.{int_eq}
@@ -18,7 +19,7 @@ use Rattle.reg_types.specs.Facts.{FitsType, FitsSpill, IsBelow}
 use Rattle.reg_types.specs.Inference.{join_spills}
 use Rattle.reg_types.proofs.Keeping.{joined_spill, no_spill_fits}
 
--- ---- the order
+-- ---- the order of facts
 
 pub IsBelow-refl : (a : Fact) → IsBelow a a
 IsBelow-refl a = record { weakens = λ s f. f }
@@ -69,7 +70,7 @@ join_right (Ctx k) (Ctx m) v h = kept_right (k == m) (Ctx k) (Ctx m) v (λ e. ap
 join_right (Stk k) (Stk m) v h = kept_right (int_eq k m) (Stk k) (Stk m) v (λ e. ap Stk ((Decides-int_eq k m).0 e)) h
 join_right a b v h = tt
 
--- if the stack holds the pointer of a fact's spill k, then it also holds that of spill k of a join with this fact
+-- if spill k of the first of two facts fits the stack, then spill k of their join fits it too
 spills_left : (a b j : List ℕ) (stack : List Cell) (k : ℕ) → j ≡ join_spills a b → FitsSpill (spilled_type (slice_index a k)) stack (8 * k)
     → FitsSpill (spilled_type (slice_index j k)) stack (8 * k)
 spills_left a b j stack k e h =
@@ -86,7 +87,7 @@ spills_right a b j stack k e h =
       | inr none ↦ no_spill_fits (slice_index (join_spills a b) k) stack (8 * k) none
     ])
 
--- each state that fits one of two facts fits their join; the join is given register by register and place by place
+-- each state that fits the first of two facts fits their join j, which is given register by register and place by place
 pub below_left : (a b j : Fact) → ((r : ℕ) → type_at j.types r ≡ join_type (type_at a.types r) (type_at b.types r)) → ((p : ℕ) → Has j.stack p → Has a.stack p)
     → j.spills ≡ join_spills a.spills b.spills → IsBelow a j
 below_left a b j e h n =
@@ -119,7 +120,8 @@ below_right a b j e h n =
           };
     }
 
--- if all registers below r are joined, and register r is set to its join, then all registers below r + 1 are joined
+-- if the types of all registers below r in `ts` are the joins of those in `a` and `b`, and the type of register r is
+-- set to the join of its types in `a` and `b`, then the types of all registers below r + 1 are these joins
 pub join_step : (ts a b : List RegType) (r : ℕ) (v : RegType) → r < length ts → v ≡ join_type (type_at a r) (type_at b r)
     → ((k : ℕ) → k < r → type_at ts k ≡ join_type (type_at a k) (type_at b k)) → (k : ℕ) → k < r + 1
     → type_at (slice_set ts r v) k ≡ join_type (type_at a k) (type_at b k)

@@ -41,7 +41,7 @@ ok_of t = Ok t
 ok_inj : {x y : RegType} → ok_of x ≡ ok_of y → x ≡ y
 ok_inj e = cc
 
--- a value that fits a type which is neither unset nor a pointer's is a number
+-- if a type is neither unset nor a pointer's type, then each value that fits it is a number
 is_number : (t : RegType) (v : Value) → FitsType t v → is_unset t ≡ false → is_pointer t ≡ false → HasNumber v
 is_number Anything v h a b = absurd (cc)
 is_number Num (Number n) h a b = (n, refl)
@@ -82,7 +82,8 @@ two r q a b va vb t h k e =
     let p = either_false (is_pointer a) (is_pointer b) x.2 in
     (is_number a va h x.0 p.0, is_number b vb k x.1 p.1, x.3)
 
--- an operator on two numbers gives a number
+-- if the typing rules accept two operands as numbers, then an operator on them gives a value that fits the type of the
+-- result
 on_two : (f : ℕ → ℕ → ℕ) (r q : ℕ) (a b : RegType) (va vb : Value) (t : RegType) → FitsType a va → FitsType b vb → two_numbers r q a b ≡ Ok t
     → Gives (on_numbers f va vb) t
 on_two f r q a b va vb t h k e =
@@ -125,7 +126,7 @@ down_fits n m k h a b = (grind (arith, ints, nat_tests), grind (arith, ints, nat
 down_is : (n m : ℕ) (k : ℤ) → m < n → pos n ≡ (k +ℤ pos 512) → pos (n - suc m) ≡ ((k +ℤ negsuc m) +ℤ pos 512)
 down_is n m k l h = omega (arith, ints)
 
--- a stack pointer that is moved by z fits the type of its register moved by z
+-- if the typing rules give a type for a stack pointer moved by z bytes, then the moved pointer fits that type
 stk_moved : (n : ℕ) (k z : ℤ) (t : RegType) → pos n ≡ (k +ℤ pos 512) → stk_at (k +ℤ z) ≡ ok_of t → Gives (map_option Stack (shifted n z 512)) t
 stk_moved n k (pos m) t h e =
     let x = stk_test (int_le (negsuc 511) (k +ℤ pos m) && int_le (k +ℤ pos m) (pos 0)) (k +ℤ pos m) t e in

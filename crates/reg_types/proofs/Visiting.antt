@@ -1,4 +1,4 @@
--- The verifier's pass over the units: one unit of it, and the whole pass.
+-- The verifier's pass over the units: what it does at one unit, and the whole pass.
 use Rattle.std.proofs.Common.{◌≡◌, ◌≢◌, ℕ, suc, ◌+◌, ◌<◌, ◌≤◌, List, [], ◌∷◌, Option, Some, None, Bool, true, false, refl, sym, ap, ◌∙◌, subst, inl, inr, arith}
 use Rattle.std.proofs.Common.{add-one, length}
 use Rattle.std.specs.Prelude.{Result, Ok, Err, OnOk, IfErr, IfSome, IsSome, is_some, ◌&&◌, ◌||◌, ℤ, slice_get, ◌==◌, cond}
@@ -85,8 +85,8 @@ jumped_some q fact (Next to) old = or_no (is_some old)
 jumped_some q fact (Jump to) old = entered_if (q == to) (taken_in old fact) old
 jumped_some q fact (Either to next) old = entered_if (q == to) (taken_in old fact) old
 
--- joining a fact into the jump's target, and carrying it to the next instruction, takes it along all edges of the
--- instruction
+-- There are two ways to pass on `fact` after an instruction. Either all edges of the instruction bring it, or only its
+-- jump's edge does, and `fact` is carried to the next instruction. Both ways, the same is known of unit q afterwards.
 seen_led : (q : ℕ) (fact : Fact) (next : Successors) (old new : Option Fact) → AreSame new (arrived_all q fact (jumps_of next) old)
     → AreSame (brought q (carried_of fact next) new) (arrived_all q fact (list_of next) old)
 seen_led q fact End old new h = h
@@ -120,7 +120,9 @@ module _ (us : List ProgramUnit) (options : LoadOptions) (pc : ℕ) (i : Inst) (
       ∙ ap (λ r. passed_by q fact r (successor_units pc i form) old) (sym (j ∙ ap (λ u. checked_effect (length us) pc options fact i u form) up))
       ∙ ap (λ o. passed_by q fact (Ok e) o old) (sym to)
 
-  -- joining the fact after an accepted instruction into each unit that it leads to is what `passed` defines
+  -- Let the fact after an accepted instruction at unit pc be joined into what is known of each unit that it leads to.
+  -- Then what is known of unit q afterwards, `new`, is what `passed` gives: what is known of q after the verifier's
+  -- pass over the units has visited unit pc.
   passed_to : (e : Effect) (after : Fact) (next : Successors) → upper ≡ upper_of us pc → ok_of e ≡ checked_effect (length us) pc options fact i upper form
       → IsAfter fact e after → some_of (list_of next) ≡ successor_units pc i form → (q : ℕ) (old new : Option Fact) → AreSame new (arrived_all q after (list_of next) old)
       → AreSame new (passed us options pc (Some fact) q old)
@@ -140,7 +142,8 @@ module _ (us : List ProgramUnit) (options : LoadOptions) (pc : ℕ) (i : Inst) (
   jumps_ahead (Jump to) h = h
   jumps_ahead (Either to next) h = (h.0, tt)
 
-  -- an instruction begins at the unit that the fact is carried to
+  -- if the fact after an instruction is carried on, it is for unit pc + 1, or for unit pc + 2 if pc + 1 is the second
+  -- unit of a wide load; an instruction begins at that unit
   goes_to : (after : Fact) (next : Successors) → IsNext pc form next → AllByRecursion (IsAhead us pc) (list_of next)
       → IsCarriedTo us (pc + 1) (carried_of after next)
   goes_to after End n h = tt
@@ -154,7 +157,8 @@ module _ (us : List ProgramUnit) (options : LoadOptions) (pc : ℕ) (i : Inst) (
     ],
   )
 
-  -- the target of the jump at unit pc is the target of the instruction that begins there
+  -- the target of the jump at unit pc is the same whether it is computed from the program's units (`target`) or from
+  -- the form and the fields of the instruction that begins there (`target_by`)
   target_is : target us pc ≡ target_by pc form i
   target_is =
       ap (λ o. and_then (and_then o distance_of) (λ z. shifted (pc + 1) z 512)) at ∙ ap (λ o. and_then (distance_by o i) (λ z. shifted (pc + 1) z 512)) is
@@ -189,12 +193,13 @@ module _ (us : List ProgramUnit) (options : LoadOptions) (pc : ℕ) (i : Inst) (
             ∙ ap (λ o. is_some (old q) || goes o q) (jump ∙ sym target_is);
       })
 
-  -- `OutOfMemory` is a refusal that a unit with an accepted jump can get
+  -- if the instruction at unit pc is accepted and is a jump, then the verifier's pass over the units can return
+  -- `OutOfMemory` there
   pub ran_out : (e : Effect) (next : Successors) → upper ≡ upper_of us pc → ok_of e ≡ checked_effect (length us) pc options fact i upper form
       → jump_of next ≡ target_by pc form i → (jump_of next ≡ None → ⊥) → IsUnitRefused us options pc (Some fact) OutOfMemory
   ran_out e next up j jump some = (flaw_is (Ok e) up j, λ none. some (jump ∙ sym target_is ∙ none))
 
--- ---- one unit
+-- ---- what the verifier's pass over the units does at one unit
 
 brought_elsewhere : (q pc : ℕ) (c : Option StoredFact) → IsCarriedAt pc c → q ≢ pc → (old : Option Fact) → brought q c old ≡ old
 brought_elsewhere q pc None at n old = refl
@@ -313,16 +318,17 @@ module _ (us : List ProgramUnit) (options : LoadOptions) (pc : ℕ) (carried : O
 
 -- ---- the fact before a unit: the stored and the carried one joined
 
--- ---- the pass
+-- ---- the verifier's whole pass over the units
 
 pub start_same : (us : List ProgramUnit) (options : LoadOptions) (f : Fact) → IsEntry f → (q : ℕ)
     → AreSame (stored (record { at = 0; fact = f } ∷ []) q) (known us options 0 q)
 unfolding known
 start_same us options f entry q = entry_by (q == 0) f (same_entry f entry)
 
--- The invariant of the pass before unit pc. No unit below pc has a flaw, and a fact that is stored for one is the same
--- as the inferred fact. For each unit from pc on, the stored and the carried fact together are what is known of it from
--- the entry and from the edges of the units below pc.
+-- The invariant of the verifier's pass over the units when it comes to unit pc. No reached unit below pc has a flaw. If
+-- a fact is stored for a unit below pc, it is the same as the unit's inferred fact. For each unit from pc on, what the
+-- stored facts and the carried one give (`seen`) is the same as what is known of the unit from the entry and from the
+-- edges of the units below pc (`known`).
 pub record IsReached (us : List ProgramUnit) (options : LoadOptions) (carried : Option StoredFact) (facts : Facts) (pc : ℕ) : Type 0 where
   pub behind : (q : ℕ) → q < pc → AreStored (facts q) (inferred us options q)
   pub ahead : (q : ℕ) → pc ≤ q → AreSame (seen carried facts q) (known us options pc q)

@@ -35,7 +35,8 @@ abbrev led : ℕ → Fact → Option (List ℕ) → Option Fact → Option Fact
 led q fact None o = o
 led q fact (Some tos) o = arrived_all q fact tos o
 
--- a jump to another unit than q doesn't change what is known of q
+-- if an instruction's jump doesn't go to unit q, and its other edges don't change what is known of q, then all of its
+-- edges together don't change what is known of q
 jump_elsewhere : (q : ℕ) (fact : Fact) (to : Option ℕ) (tos : List ℕ) (o : Option Fact) → to ≢ Some q → ((p : Option Fact) → arrived_all q fact tos p ≡ p)
     → led q fact (option_cons to tos) o ≡ o
 jump_elsewhere q fact None tos o n rest = refl
@@ -69,7 +70,8 @@ module _ (us : List ProgramUnit) (options : LoadOptions) (pc q : ℕ) (no_jump :
       let is = instruction_is (slice_get us pc) x at in
       ap (λ o. and_then (and_then o distance_of) (λ z. shifted (pc + 1) z 512)) is.0 ∙ ap (λ o. and_then (distance_by o x.0) (λ z. shifted (pc + 1) z 512)) is.1
 
-  -- an instruction doesn't change what is known of unit q if q is neither its jump's target nor the next instruction
+  -- an instruction doesn't change what is known of unit q if q is neither its jump's target nor the unit of the next
+  -- instruction
   from_elsewhere : (fact : Fact) (o : Option (Inst × Form)) (old : Option Fact) → instruction_at us pc ≡ o
       → ((x : Inst × Form) → o ≡ Some x → q ≢ following pc x.1) → passed_from us options pc fact o q old ≡ old
   from_elsewhere fact None old at n = refl
@@ -105,8 +107,8 @@ one_instruction : (x y : Inst × Form) (o : Option (Inst × Form)) → o ≡ Som
 one_instruction x y o a b = cc
 
 module _ (us : List ProgramUnit) (options : LoadOptions) (q : ℕ) where
-  -- the instruction before unit q is one of the first n units, and all that is known of q is the fact after that
-  -- instruction
+  -- An instruction begins at one of the first n units and ends just before unit q. The only thing known of q from these
+  -- n units is the fact after that instruction.
   record IsLast (n : ℕ) : Type 0 where
     before : ℕ
     below : before < n
@@ -138,7 +140,7 @@ module _ (us : List ProgramUnit) (options : LoadOptions) (q : ℕ) where
   not_both x o a b = cc
 
   module _ (bytes : List ℕ) (reads : units bytes ≡ Some us) where
-    -- no two instructions have the same next one
+    -- no two instructions have the same next instruction
     apart : (p n : ℕ) (x y : Inst × Form) → p < n → instruction_at us p ≡ Some x → instruction_at us n ≡ Some y → following p x.1 ≡ following n y.1 → ⊥
     apart p n x y l first second same =
         let is = instruction_is (slice_get us p) x first in
@@ -178,8 +180,8 @@ module _ (us : List ProgramUnit) (options : LoadOptions) (q : ℕ) where
               h
         ]
 
-    -- If no reached jump below n goes to unit q, and q isn't 0, then q isn't reached, or has only the fact after the
-    -- instruction before it.
+    -- if q isn't 0 and no reached jump below n goes to it, then nothing is known of q from the units below n, or only
+    -- the fact after the instruction that comes just before q
     lasts : (n : ℕ) → is_entered us options n q ≡ false → (known us options n q ≡ None) ⊎ IsLast n
     unfolding known is_entered
     lasts zero e = inl (cond-false (q == 0) (Some entry_fact) None e)

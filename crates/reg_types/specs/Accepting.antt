@@ -29,8 +29,8 @@ abbrev pub PlainAt : List ProgramUnit → ℕ → LoadOptions → Inst → Fact 
 PlainAt us pc options i fact =
     (upper : ℤ) (form : Form) → form_of i.opcode ≡ Some form → (e : Effect) × (checked_effect (length us) pc options fact i upper form ≡ Ok e) × ArePlain e.types
 
--- The types that a plain program can have at a unit. At unit 0 they are those on entry; or else R1 points to the
--- context and R0 holds a number.
+-- the types that a plain program can have at unit pc: those on entry, if pc is 0, or types by which R1 points to the
+-- context and R0 holds a number
 abbrev pub PlainTypesAt : ℕ → List RegType → Type 0
 PlainTypesAt pc types = ((pc ≡ 0) × (types ≡ entry_types)) ⊎ ArePlain types
 

@@ -4,8 +4,9 @@ use Rattle.reg_types.specs.declared.types.RegType.{RegType}
 use Rattle.reg_types.specs.declared.types.StackWrite.{StackWrite}
 use Rattle.reg_types.specs.declared.types.Flaw.{Flaw}
 
--- The types after an instruction, and the bytes of the stack that it writes: `len` of them from `at` on. `spilled` is
--- the type of the pointer that it spills there, or `Unset` if it writes a number's bytes.
+-- The types after an instruction, and the bytes of the stack that it writes: `len` of them from byte `at` on, counted
+-- from the stack's lowest byte. `spilled` is the type of the pointer that the instruction spills there, or `Unset` if
+-- it spills none: then the bytes are those of a number.
 pub record Effect : Type 0 where
   pub types : List RegType
   pub at : ℕ

@@ -30,7 +30,7 @@ use Rattle.reg_types.specs.Rules.{type_at, is_unset, spill_of, spilled_type, che
 use Rattle.reg_types.specs.Inference.{successor_units, entry_types, no_spills, respilled}
 use Rattle.operations.specs.Operations.{upper_of}
 
--- ---- states that fit
+-- ---- states that fit a fact
 
 -- The value is one that the type allows. A stack pointer's type counts from the stack's end, and its value from the
 -- stack's lowest byte, which is 512 bytes below.
@@ -64,7 +64,7 @@ pub record Fits (fact : Fact) (s : State) : Type 0 where
 pub record IsBelow (fact wider : Fact) : Type 0 where
   pub weakens : (s : State) → Fits fact s → Fits wider s
 
--- from `old` to `new` only declared counters change; no bound changes, and no value comes to be above its bound
+-- from `old` to `new` only declared counters change; no bound changes, and no value rises above its bound
 pub record Changes (declared : ℕ) (old new : Counters) : Type 0 where
   pub right : AreCounters old → AreCounters new
   pub undeclared : (c : ℕ) → declared / 2 ^ c % 2 ≡ 0 → counter new c ≡ counter old c
@@ -100,14 +100,15 @@ next_of (Next to) = Some to
 next_of (Jump to) = None
 next_of (Either to next) = Some next
 
--- The fact after an instruction, with the number of the unit after it. None if a run can't continue at that unit.
+-- the fact after an instruction, with the unit of the next instruction; None if a run can't continue there
 abbrev pub carried_of : Fact → Successors → Option StoredFact
 carried_of fact End = None
 carried_of fact (Next to) = Some (record { at = to; fact = fact })
 carried_of fact (Jump to) = None
 carried_of fact (Either to next) = Some (record { at = next; fact = fact })
 
--- the next instruction begins at the next unit, or after a wide load's second one
+-- if a run can continue at the next instruction, that instruction begins at unit pc + 1 or, only after a wide load, at
+-- unit pc + 2
 abbrev pub IsNext : ℕ → Form → Successors → Type 0
 IsNext pc form End = ⊤
 IsNext pc form (Next to) = (to ≡ pc + 1) ⊎ ((to ≡ pc + 2) × (form ≡ Wide))
@@ -144,7 +145,8 @@ pub record IsIndexed (facts : List StoredFact) (places : List ℕ) : Type 0 wher
   pub some : (q k : ℕ) → slice_index places q ≡ suc k → IsPlace facts q k
   pub distinct : AreDistinct facts
 
--- the fact with the unit that it is carried to; None if it isn't carried on
+-- the fact after an instruction, with `at`, the unit of the next instruction; None if there is no such unit, because a
+-- run can't continue at the next instruction
 abbrev pub carried_to : Option ℕ → Fact → Option StoredFact
 carried_to None fact = None
 carried_to (Some at) fact = Some (record { at = at; fact = fact })
@@ -152,15 +154,15 @@ carried_to (Some at) fact = Some (record { at = at; fact = fact })
 abbrev pub carried_in : CarriedFact → Option StoredFact
 carried_in carried_fact = carried_to carried_fact.at carried_fact.fact
 
--- Place p is in the set after a write of `len` bytes from `at` on. The bytes of a number (true) are added to the set,
--- and those of a pointer (false) are removed.
+-- Byte p is in a set of stack bytes after a write of `len` bytes from byte `at` on; `set` is the set before the write.
+-- A number's bytes (true) are added to the set, and a pointer's bytes (false) are removed from it.
 abbrev pub HasAfter : Bool → List Bool → ℕ → ℕ → ℕ → Type 0
 HasAfter true set at len p = Has set p ⊎ Within at len p
 HasAfter false set at len p = Has set p × ¬ (Within at len p)
 
--- If `fact` is known before an instruction with this effect, then `after` is the fact after it. It has the types of the
--- effect and the new spills. Its set of stack bytes gains those of a written number, or loses those of a written
--- pointer.
+-- If `fact` is known before an instruction with this effect, then `after` is the fact after it. Its types are those of
+-- the effect. Its set of stack bytes gains those of a written number, or loses those of a written pointer. Each aligned
+-- place that is written to gets the spill of the written pointer, or 0 for a number; all others keep their spills.
 pub record IsAfter (fact : Fact) (effect : Effect) (after : Fact) : Type 0 where
   pub types : after.types ≡ effect.types
   pub places : (p : ℕ) → Has after.stack p ↔ HasAfter (is_unset effect.spilled) fact.stack effect.at effect.len p

@@ -29,13 +29,13 @@ common [] bs = []
 common (a ∷ rest) [] = []
 common (a ∷ rest) (b ∷ bs) = (a && b) ∷ common rest bs
 
--- the set with `len` bytes from `at` on added
+-- the set of stack bytes after the `len` bytes that begin at byte `at` were added to it
 abbrev pub marked : ℕ → ℕ → List Bool → List Bool
 marked zero zero set = set
 marked zero (suc len) set = true ∷ marked zero len (drop 1 set)
 marked (suc at) len set = slice_index_or set 0 false ∷ marked at len (drop 1 set)
 
--- the set with `len` bytes from `at` on removed
+-- the set of stack bytes after the `len` bytes that begin at byte `at` were removed from it
 abbrev pub cleared : ℕ → ℕ → List Bool → List Bool
 cleared zero zero set = set
 cleared zero (suc len) set = false ∷ cleared zero len (drop 1 set)
@@ -49,25 +49,25 @@ join_spills [] bs = []
 join_spills (a ∷ rest) [] = []
 join_spills (a ∷ rest) (b ∷ bs) = (if a == b then a else 0) ∷ join_spills rest bs
 
--- whether a store of `len` bytes, at least one, from `at` on writes a byte of aligned place k (the eight bytes from 8 k
--- on)
+-- whether a store of the `len` bytes (at least one) that begin at byte `at` writes a byte of aligned place k (the eight
+-- bytes from byte 8 k on)
 abbrev pub touches : ℕ → ℕ → ℕ → Bool
 touches at len k = nat_lt at (8 * k + 8) && nat_lt (8 * k) (at + len)
 
--- A list of the spills from place k on, after a store of `len` bytes from `at` on. The spills of the places that it
--- touches become n.
+-- the spills of the aligned places k, k + 1 and so on, after a store of the `len` bytes that begin at byte `at`: n for
+-- each place that the store touches, and for the others the spill as before
 abbrev pub respilled : ℕ → ℕ → ℕ → ℕ → List ℕ → List ℕ
 respilled n at len k [] = []
 respilled n at len k (m ∷ rest) = (if touches at len k then n else m) ∷ respilled n at len (suc k) rest
 
--- ---- facts
+-- ---- these are the join of two facts, the fact when a run begins, and the fact after an instruction
 
 abbrev pub join_types : List RegType → List RegType → List RegType
 join_types [] bs = []
 join_types (a ∷ rest) [] = []
 join_types (a ∷ rest) (b ∷ bs) = join_type a b ∷ join_types rest bs
 
--- the join of two facts: what is true whichever of the two holds
+-- the join of two facts: what is known whichever of the two holds
 abbrev pub join_fact : Fact → Fact → Fact
 join_fact a b =
     record { types = join_types a.types b.types; stack = common a.stack b.stack; spills = join_spills a.spills b.spills }
@@ -84,7 +84,8 @@ no_spills = replicate 64 0
 abbrev pub entry_fact : Fact
 entry_fact = record { types = entry_types; stack = []; spills = no_spills }
 
--- the set after an instruction: the bytes of a number that it writes are set, and those of a pointer aren't
+-- the set of stack bytes after an instruction with this effect: the bytes of a number that it writes are in the set,
+-- and those of a pointer aren't
 abbrev pub set_after : Effect → List Bool → List Bool
 set_after effect set = if is_unset effect.spilled then marked effect.at effect.len set else cleared effect.at effect.len set
 
@@ -97,7 +98,7 @@ fact_after fact effect =
       spills = respilled (spill_of effect.spilled) effect.at effect.len 0 fact.spills;
     }
 
--- ---- one unit
+-- ---- these are the instruction at a unit, the units that it leads to, and its effect or its flaw
 
 abbrev pub option_cons : Option ℕ → List ℕ → Option (List ℕ)
 option_cons None tos = None
@@ -145,8 +146,8 @@ flaw_under us options pc (Some fact) = flaw_of us options pc fact (instruction_a
 
 -- ---- edges
 
--- a unit's fact after an edge (the way from an instruction to one that can follow it in a run) has brought it `fact`:
--- the join of both if the unit had a fact before, else `fact`
+-- An edge is the way from an instruction to one that can follow it in a run. After an edge has brought `fact` to a
+-- unit, the unit's fact is the join of its old fact and `fact`, or `fact` itself if the unit had no fact before.
 abbrev pub taken_in : Option Fact → Fact → Fact
 taken_in None fact = fact
 taken_in (Some old) fact = join_fact old fact
@@ -170,12 +171,13 @@ abbrev pub passed_from : List ProgramUnit → LoadOptions → ℕ → Fact → O
 passed_from us options pc fact None q old = old
 passed_from us options pc fact (Some x) q old = passed_by q fact (ruled us options pc fact x) (successor_units pc x.0 x.1) old
 
--- what is known of unit q after the pass over unit pc; `old` is what was known of q before
+-- what is known of unit q after the verifier's pass over the units has visited unit pc; `old` is what was known of q
+-- before that
 abbrev pub passed : List ProgramUnit → LoadOptions → ℕ → Option Fact → ℕ → Option Fact → Option Fact
 passed us options pc None q old = old
 passed us options pc (Some fact) q old = passed_from us options pc fact (instruction_at us pc) q old
 
--- ---- the whole program
+-- ---- these are what is known before each unit of a program, and the program's first flaw
 
 -- what is known of unit q from the entry and from the edges of the units below n; None if none of these reaches it
 unfoldable pub known : List ProgramUnit → LoadOptions → ℕ → ℕ → Option Fact

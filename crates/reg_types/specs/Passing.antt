@@ -23,7 +23,7 @@ use Rattle.operations.specs.declared.operation.Operation.{Operation}
 use Rattle.operations.specs.Operations.{AreOperations}
 use Rattle.reg_types.specs.Inference.{flaw_under, arrived, passed, inferred, first_flaw, instruction_at, goes, is_entered, facts_in, targets_in}
 
--- ---- facts that are the same
+-- ---- two facts are the same as each other if they have the same types, stack bytes and spills
 
 -- the two facts have the same types, the same set of stack bytes and the same spills
 pub record IsSame (a b : Fact) : Type 0 where
@@ -42,19 +42,21 @@ abbrev pub AreStored : Option Fact → Option Fact → Type 0
 AreStored None fact = ⊤
 AreStored (Some a) fact = AreSame (Some a) fact
 
--- ---- the facts stored, and the one that is carried along
+-- ---- the stored facts, and the carried fact: the fact after an instruction, for the unit of the next instruction
 
--- what is known of unit q after the carried fact, if there is one, was joined into the fact of the unit that it is
--- carried to
+-- A carried fact is the fact after an instruction, with the unit of the next instruction. `brought` is what is known of
+-- unit q after the carried fact, if there is one, was joined into what is known of its unit; `old` is what was known of
+-- q before.
 abbrev pub brought : ℕ → Option StoredFact → Option Fact → Option Fact
 brought q None old = old
 brought q (Some s) old = arrived q s.fact s.at old
 
--- what is known of each unit from the stored facts and the carried one
+-- what is known of each unit from the stored facts and the carried fact
 abbrev pub seen : Option StoredFact → Facts → Facts
 seen carried facts q = brought q carried (facts q)
 
--- a fact that is carried on is for unit pc, or for unit pc + 1 if pc is the second unit of a wide load
+-- A carried fact is the fact after an instruction, with the unit of the next instruction. If there is a carried fact,
+-- an instruction begins at its unit. This unit is pc, or pc + 1 if unit pc is the second unit of a wide load.
 abbrev pub IsCarriedTo : List ProgramUnit → ℕ → Option StoredFact → Type 0
 IsCarriedTo us pc None = ⊤
 IsCarriedTo us pc (Some s) =
@@ -64,7 +66,7 @@ abbrev pub IsCarriedAt : ℕ → Option StoredFact → Type 0
 IsCarriedAt pc None = ⊤
 IsCarriedAt pc (Some s) = s.at ≡ pc
 
--- the fact, if the Bool is true; None if it is false, which means that no run reaches the unit
+-- the fact, if the Bool is true; None if the Bool is false
 abbrev pub fact_if : Bool → Fact → Option Fact
 fact_if false fact = None
 fact_if true fact = Some fact
@@ -82,8 +84,9 @@ pub record IsMerged (pc : ℕ) (carried : Option StoredFact) (fact : Option Fact
   pub here : AreStored (new pc) fact
   pub occupied : (q : ℕ) → is_some (new q) ≡ is_some (old q)
 
--- The instruction at pc has no flaw if `fact` is known before it. The fact after it was joined with that of its jump's
--- target, if it has a jump. The fact after it is also carried to the next instruction, if a run can continue there.
+-- The instruction at unit pc has no flaw if `fact` is known before it. If it is a jump, the pass has joined the fact
+-- after it into what is known of the jump's target. If a run can continue at the next instruction, the pass carries the
+-- same fact to that instruction (`next`).
 pub record IsVisited (us : List ProgramUnit) (options : LoadOptions) (pc : ℕ) (fact : Fact) (next : Option StoredFact) (old new : Facts) : Type 0 where
   pub flawless : flaw_under us options pc (Some fact) ≡ None
   pub ahead : (q : ℕ) → pc < q → AreSame (seen next new q) (passed us options pc (Some fact) q (old q))
@@ -91,8 +94,8 @@ pub record IsVisited (us : List ProgramUnit) (options : LoadOptions) (pc : ℕ) 
   pub goes_on : IsCarriedTo us (pc + 1) next
   pub occupied : (q : ℕ) → is_some (new q) ≡ (is_some (old q) || goes (target us pc) q)
 
--- The instruction of unit pc, if one begins there, has no flaw. The facts of the units that it leads to were joined
--- with the fact after it.
+-- If an instruction begins at unit pc and is reached, it has no flaw, and the pass has joined the fact after it into
+-- what is known of each unit that it leads to.
 pub record IsPassed (us : List ProgramUnit) (options : LoadOptions) (pc : ℕ) (carried next : Option StoredFact) (old new : Facts) : Type 0 where
   pub flawless : flaw_under us options pc (seen carried old pc) ≡ None
   pub ahead : (q : ℕ) → pc < q → AreSame (seen next new q) (passed us options pc (seen carried old pc) q (seen carried old q))
@@ -158,16 +161,16 @@ IsFactCount p n = (us : List ProgramUnit) → units p.bytes ≡ Some us → n �
 abbrev pub IsBoundedByTargets : List ℕ → ℕ → Type 0
 IsBoundedByTargets bytes n = (us : List ProgramUnit) → units bytes ≡ Some us → n ≤ 1 + targets_in us
 
--- ---- refusals
+-- ---- these say which refusal a fault becomes, and which refusals the verifier's pass can return
 
--- the refusal for a fault of decoding; that memory ran out becomes the refusal `OutOfMemory`
+-- the refusal for a fault of decoding; if the fault is that memory ran out, the refusal is `OutOfMemory`
 abbrev pub decode_fault_refusal : DecodeFault → Refusal
 decode_fault_refusal NoMemoryToDecode = OutOfMemory
 decode_fault_refusal fault = Decode fault
 
 -- The pass can return this refusal at unit pc if `fact` is known before it: the flaw of the unit, or that memory ran
--- out. Memory is taken only for a unit without a flaw whose instruction is a jump: the fact after it is stored for the
--- jump's target.
+-- out. Memory is taken only if the unit has no flaw and its instruction is a jump: then the fact after the jump is
+-- stored for the jump's target.
 abbrev pub IsUnitRefused : List ProgramUnit → LoadOptions → ℕ → Option Fact → Refusal → Type 0
 IsUnitRefused us options pc fact (Decode fault) = ⊥
 IsUnitRefused us options pc fact (Flow fault) = ⊥
@@ -181,7 +184,7 @@ IsPassRefused us options (Flow fault) = ⊥
 IsPassRefused us options (TypeRefusal fault) = first_flaw us options ≡ Some fault
 IsPassRefused us options OutOfMemory = ⊤
 
--- the refusal isn't an `OutOfMemory` inside a fault of decoding or of a jump; if memory runs out, it is the refusal
--- `OutOfMemory` itself
+-- the refusal isn't a `Decode` with the fault `NoMemoryToDecode`, nor a `Flow` with the fault `NoMemoryForFlow`: a
+-- refusal that says that memory ran out is `OutOfMemory` itself
 abbrev pub WrapsNoOutOfMemory : Refusal → Type 0
 WrapsNoOutOfMemory refusal = (refusal ≢ Decode NoMemoryToDecode) × (refusal ≢ Flow NoMemoryForFlow)

@@ -21,7 +21,7 @@ use Rattle.bpf_model.specs.Layouts.{context_len}
 abbrev pub LoadsArgument : Layout → Inst → Size → Type 0
 LoadsArgument layout i size = (i.dst ≡ 0) × (i.src ≡ 1) × IsSome (shifted 0 i.offset (context_len layout - bytes_in size))
 
--- the form is plain: it is EXIT or a jump without condition, or it works on R0 alone or loads into it from the context
+-- the form is plain: it is EXIT or a jump without condition, works on R0 alone, or loads into R0 from the context
 abbrev pub IsPlainForm : Layout → Inst → Form → Type 0
 IsPlainForm layout i Exit = ⊤
 IsPlainForm layout i Ja = ⊤
@@ -36,7 +36,7 @@ IsPlainForm layout i (Load size) = LoadsArgument layout i size
 IsPlainForm layout i (LoadSigned size) = LoadsArgument layout i size
 IsPlainForm layout i form = ⊥
 
--- the form gives its register a new value, whatever that held before: a MOV of an immediate, a wide load or a load
+-- the form gives dst a new value, whatever dst held before: it is a MOV of an immediate, a wide load or a load
 abbrev pub SetsFirst : Form → Type 0
 SetsFirst Wide = ⊤
 SetsFirst (Load size) = ⊤

@@ -50,7 +50,7 @@ WritesR10 i (Load size) = i.dst ≡ 10
 WritesR10 i (LoadSigned size) = i.dst ≡ 10
 WritesR10 i form = ⊥
 
--- register r is the operand in dst, or the second operand if that is a register
+-- register r is the first operand (dst), or the second operand (src) if that is a register
 abbrev pub IsOperand : Inst → Source → ℕ → Type 0
 IsOperand i Register r = (r ≡ i.dst) ⊎ (r ≡ i.src)
 IsOperand i Immediate r = r ≡ i.dst
@@ -59,7 +59,8 @@ abbrev pub IsSecond : Inst → Source → ℕ → Type 0
 IsSecond i Register r = r ≡ i.src
 IsSecond i Immediate r = ⊥
 
--- the instruction reads register r as an operand of arithmetic, a comparison, a store or an exit
+-- the instruction reads register r as an operand of arithmetic or a comparison, as the value to store, or as the answer
+-- of an exit
 abbrev pub Reads : Inst → Form → ℕ → Type 0
 Reads i (Arithmetic Mov w s) r = IsSecond i s r
 Reads i (Arithmetic Neg w s) r = r ≡ i.dst
@@ -90,8 +91,8 @@ MovesPointer (Arithmetic Add Bits64 Immediate) = ⊤
 MovesPointer (Arithmetic Sub Bits64 Immediate) = ⊤
 MovesPointer form = ⊥
 
--- The instruction is arithmetic that takes only numbers. This is all arithmetic but a MOV of an immediate, a MOV of 64
--- bits from a register with offset 0, and ADD and SUB of 64 bits with an immediate.
+-- The instruction is arithmetic that takes only numbers. This is all arithmetic except a MOV of an immediate, a MOV of
+-- 64 bits from a register with offset 0, and ADD and SUB of 64 bits with an immediate.
 abbrev pub TakesNumbers : Inst → Form → Type 0
 TakesNumbers i (Arithmetic Add Bits64 Immediate) = ⊥
 TakesNumbers i (Arithmetic Sub Bits64 Immediate) = ⊥
@@ -144,7 +145,7 @@ MayHave count pc i form (BadArgument n) = CallsBy i form (HasArgument n)
 MayHave count pc i form UndeclaredCounter = CallsBy i form UsesCounter
 
 -- The bytes can be decoded as units, and no jump has a fault. The type fault names a unit at which an instruction
--- begins, and this instruction can have it.
+-- begins, and this instruction can have that fault.
 pub record IsPossibleTypeFault (bytes : List ℕ) (fault : TypeFault) : Type 0 where
   pub code : List ProgramUnit
   pub reads : units bytes ≡ Some code

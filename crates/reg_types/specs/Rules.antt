@@ -125,14 +125,15 @@ abbrev pub put_type : List RegType → ℕ → Result RegType Flaw → Result Ef
 put_type types dst (Err e) = Err e
 put_type types dst (Ok t) = Ok (unmarked (slice_set types dst t))
 
--- The effect of an instruction that writes a result of this type to register dst. It is the flaw `WriteR10` if dst is
--- R10, which can't be written; else, if there is a flaw instead of the type, it is that flaw.
+-- The effect or the flaw of an instruction that writes a result of this type to register dst. If dst is R10, which
+-- can't be written, the flaw is `WriteR10`. Else, if there is a flaw instead of the type, that is the flaw.
 abbrev pub set_type : List RegType → ℕ → Result RegType Flaw → Result Effect Flaw
 set_type types dst r = if dst == 10 then Err WriteR10 else put_type types dst r
 
--- ---- places
+-- ---- loads and stores
 
--- `lowest` is where a stack pointer points, counted from the stack's lowest byte; 0 for a pointer below that byte
+-- `natural` is the integer itself, or 0 if it is negative; `lowest` is where the stack pointer Stk k points, in bytes
+-- from the stack's lowest byte, or 0 for a pointer below that byte
 abbrev pub natural : ℤ → ℕ
 natural (pos n) = n
 natural (negsuc n) = 0
@@ -140,7 +141,7 @@ natural (negsuc n) = 0
 abbrev pub lowest : ℤ → ℕ
 lowest k = natural (k +ℤ pos 512)
 
--- whether the n places from `at` on are all in the set
+-- whether the n bytes of the stack that begin at byte `at` are all in `set`, a set of stack bytes
 abbrev pub all_in : List Bool → ℕ → ℕ → Bool
 all_in set at zero = true
 all_in set at (suc n) = slice_index_or set at false && all_in set (suc at) n
@@ -187,7 +188,7 @@ reload_type spills Unset i size = Unset
 abbrev pub reload_or : RegType → Result RegType Flaw → Result RegType Flaw
 reload_or t r = if is_unset t then r else Ok t
 
--- the type that a load gives: that of the pointer spilled there, or without one a number's, or a flaw
+-- the type that a load gives: that of the spilled pointer if it loads one, else that of a number; or the load's flaw
 abbrev pub loaded_type : Layout → List Bool → List ℕ → RegType → Inst → ℕ → Result RegType Flaw
 loaded_type layout set spills base i size = reload_or (reload_type spills base i size) (load_type layout set base i size)
 
@@ -202,13 +203,14 @@ store_type types (Const c) i size = Err NotAPointer
 store_type types (Ctx k) i size = Err StoreToContext
 store_type types (Stk k) i size = marks types size (shifted (lowest k) i.offset (512 - size))
 
--- the effect of a store of a pointer, from that of a store of a number to the same place; it is a flaw unless the place
--- is eight bytes at a multiple of eight
+-- given the effect `e` of a store of a number, the effect of a store of a pointer of type `value` to the same place; or
+-- the flaw `StorePointer`, if the place isn't eight bytes at a multiple of eight
 abbrev pub stores_pointer : RegType → Effect → Result Effect Flaw
 stores_pointer value e = if is_aligned e.len e.at then Ok (record e { spilled = value }) else Err StorePointer
 
--- The effect or the flaw of a store of a value of this type, from that of a store of a number to the same place. A flaw
--- stays. An effect stays too, unless the value is a pointer: then `stores_pointer` gives the result.
+-- The effect or the flaw of a store of a value of type `value`. The result of a store of a number to the same place is
+-- given. If that is a flaw, it stays. If it is an effect, it stays too, unless the value is a pointer: then
+-- `stores_pointer` gives the result.
 abbrev pub stores_if_pointer : RegType → Result Effect Flaw → Result Effect Flaw
 stores_if_pointer value (Err e) = Err e
 stores_if_pointer value (Ok e) = if is_pointer value then stores_pointer value e else Ok e
@@ -228,7 +230,8 @@ exited types a = if is_numeric a then Ok (unmarked types) else Err (NotANumber 0
 
 -- ---- calls
 
--- the place where a helper writes a record of 16 bytes, if the argument is a stack pointer with room for it; else None
+-- the place where a helper writes a record of 16 bytes, for an argument of this type; None unless the argument is a
+-- stack pointer that is at least 16 bytes below the stack's end
 abbrev pub place_by : RegType → Option ℕ
 place_by (Stk k) = shifted (lowest k) (pos 0) 496
 place_by Unset = None
@@ -249,7 +252,7 @@ fits_kind Number t = is_numeric t
 fits_kind Counter t = fits_counter t
 fits_kind Place t = is_some (place_by t)
 
--- whether the program declares the counter with the number of a constant; true for all other types
+-- whether the program declares counter c, if the type is `Const c`; true for all other types
 abbrev pub declares : ℕ → RegType → Bool
 declares declared (Const c) = declared / 2 ^ c % 2 == 1
 declares declared Unset = true
@@ -292,7 +295,7 @@ call_type declared types None = Err NoSuchHelper
 call_type declared types (Some kinds) =
     call_with declared types (kind_at kinds 0) (kind_at kinds 1) (type_at types 1) (type_at types 2)
 
--- ---- one instruction
+-- ---- the typing rules give each instruction an effect or a flaw
 
 -- the effect of an instruction, or its flaw; `upper` is the upper half of a wide load's number
 abbrev pub effect : LoadOptions → Fact → Inst → ℤ → Form → Result Effect Flaw

@@ -129,8 +129,9 @@ fn numbers_of_type(fault: TypeFault) -> (u32, Option<u32>, Option<u32>)
 
 impl Refusal {
     /// Returns the number of the fault (1 for V1, to 20 for V20), then its unit, counted from 0, and then its register
-    /// or argument. The unit is `None` for V1 only, and the register or argument is `None` except for V11 and V19.
-    /// Returns `None` if the refusal is that memory ran out.
+    /// or argument. The unit is `None` only for V1, a wrong length. The register or argument is `None` except for V11
+    /// (a register that isn't a number or isn't set) and V19 (a wrong argument). Returns `None` if the refusal is that
+    /// memory ran out.
     pub fn fault_numbers(self) -> Option<(u32, Option<u32>, Option<u32>)>
         ensures { result ≡ refusal_numbers self }
     {

@@ -43,7 +43,7 @@ fn first_alone() -> [usize; 513]
 }
 
 impl Table {
-    /// Makes a table that has this fact for unit 0, and no other fact. The error is that memory ran out.
+    /// Makes a table that has `fact` for unit 0, and no other fact. The error is that memory ran out.
     pub fn new(alloc: Global, fact: &Fact) -> Result<Table, AllocError>
         ensures { IfOk result (λ table. table ≡ record { at = 0; fact = fact.now } ∷ []) }
     {
@@ -106,9 +106,9 @@ impl Table {
         Ok(())
     }
 
-    /// Adds the fact that a jump brings to its target `at`, which must be at most 512: joins the fact with the target's
-    /// stored fact, or stores it if there is none. The error is that memory ran out. Memory is taken only if the target
-    /// has no stored fact.
+    /// Adds the fact that a jump brings to its target `at`: joins `fact` into the target's stored fact, or stores
+    /// `fact` if the target has none. `at` must be at most 512. The error is that memory ran out. Memory is taken only
+    /// if the target has no stored fact.
     pub fn enter(&mut self, at: u32, fact: &Fact) -> Result<(), AllocError>
         requires { at ≤ UNITS }
         ensures entered { OnOk result ((q : ℕ)

@@ -32,9 +32,10 @@ pub struct LoadOptions {
     pub layout: Layout,
 }
 
-/// The abstract state before an instruction: the types of registers 0 to 10, which bytes of the stack are set, and the
-/// pointers spilled there. `spills` has a number for each of the 64 aligned places of eight bytes, the lowest first: 0
-/// for no pointer, 1 to 81 for `Ctx(0)` to `Ctx(80)`, and 82 to 594 for `Stk(-512)` to `Stk(0)`.
+/// The abstract state before an instruction: the types of registers 0 to 10, which bytes of the stack are set (each
+/// holds a byte of a number), and the pointers spilled in the stack. `spills` has a number for each of the 64 aligned
+/// places of eight bytes, the lowest first: 0 for no pointer, 1 to 81 for `Ctx(0)` to `Ctx(80)`, and 82 to 594 for
+/// `Stk(-512)` to `Stk(0)`.
 #[derive(Clone, Copy)]
 pub struct Fact {
     pub types: [RegType; 11],
@@ -49,8 +50,8 @@ pub struct StoredFact {
     pub fact: Fact,
 }
 
-/// The fact after an instruction, carried to the next one. `at` is the unit where the next one begins, or `None` if a
-/// run can't continue there.
+/// The fact after an instruction, carried to the next instruction. `at` is the unit where the next instruction begins,
+/// or `None` if a run can't continue there.
 #[derive(Clone, Copy)]
 pub struct CarriedFact {
     pub at: Option<u32>,
@@ -58,8 +59,8 @@ pub struct CarriedFact {
 }
 
 /// What an instruction writes to the stack: `len` bytes from byte `at` on, counted from the stack's lowest byte. If it
-/// writes nothing, both are 0. `spilled` is the type of a pointer that is spilled there, or `Unset` if the bytes become
-/// those of a number.
+/// writes nothing, `at` and `len` are 0. `spilled` is the type of the pointer that it spills there, or `Unset` if it
+/// spills none: then the bytes become those of a number.
 #[derive(Clone, Copy)]
 pub struct StackWrite {
     pub at: u32,
@@ -139,7 +140,8 @@ impl RegType {
         matches!(self, RegType::Num | RegType::Const(_))
     }
 
-    /// Joins two types: sets both to the most exact type that includes both. Writes nothing if they are the same.
+    /// Joins two types: sets `self` and `other` to the most exact type that includes both. Writes nothing if they are
+    /// the same.
     #[inline(always)]
     pub fn join(&mut self, other: &mut RegType)
         ensures joined { self.new ≡ join_type self.old other.old }
@@ -175,7 +177,7 @@ impl Fact {
         }
     }
 
-    /// Joins two facts: sets both to what is true whichever of the two holds.
+    /// Joins two facts: sets both to what is known whichever of the two holds.
     pub fn join(&mut self, other: &mut Fact)
         ensures joined { IsSame self.new (join_fact self.old other.old) }
         ensures both { other.new ≡ self.new }
@@ -185,13 +187,14 @@ impl Fact {
         for r in 0..11 {
             self.types[r].join(&mut other.types[r]);
         }
-        // Copied last, since a processor stalls where it reads in wide words what it has just written in narrow ones.
+        // The stack and the spills are copied last, since a processor stalls when it reads in wide words what it has
+        // just written in narrow ones.
         other.stack = self.stack;
         other.spills = self.spills;
     }
 
     /// Applies an instruction's write to the stack: changes which bytes are set and which pointers are spilled. The
-    /// write must be inside the stack's 512 bytes. The types are not changed here.
+    /// write must be inside the stack's 512 bytes. Doesn't change the types.
     pub fn apply(&mut self, mark: StackWrite)
         requires { mark.at + mark.len ≤ STACK_BYTES }
         ensures { IsAfter self.old (effect_of self.old.types mark) self.new }
@@ -201,8 +204,9 @@ impl Fact {
         }
     }
 
-    // Applies a write, which is meant to have at least one byte and must be inside the stack. The bytes of a number
-    // become set, and are no longer part of a spill. The bytes of a pointer become a spill, and are no longer set.
+    // Applies a write to the stack. It must be inside the stack, and is meant to have at least one byte. The bytes of a
+    // number become set, and are no longer part of a spill. The bytes of a pointer become a spill, and are no longer
+    // set.
     fn write(&mut self, mark: StackWrite)
         requires { mark.at + mark.len ≤ STACK_BYTES }
         ensures types { self.new.types ≡ self.old.types }

@@ -1,5 +1,6 @@
--- By the configuration a door takes a line of a till, or a line that names a point, exactly if a session of its role is
--- allowed to send it.
+-- From a door's role in the configuration, `role_of` makes the role of the door's sessions. By its role in the
+-- configuration the door takes a line exactly if the role of its sessions is allowed to send this line. The line is a
+-- till's, or a dispenser's for one of the points 1 to 32.
 use Rattle.std.proofs.Common.{◌≡◌, ℕ, ◌+◌, ◌-◌, ◌/◌, ◌%◌, ◌^◌, ◌≤◌, ◌==◌, ◌&&◌, ◌||◌, nat_le, not, length, ℤ, pos, negsuc, List, [], ◌∷◌, Bool, true, false, cond}
 use Rattle.std.proofs.Common.{Result, Ok, Err, refl, sym, subst, ap, ◌∙◌, arith}
 use Rattle.std.specs.Prelude.{bit_or}
@@ -53,7 +54,8 @@ or_false false = refl
 same_place : (p q : ℕ) → 1 ≤ p → 1 ≤ q → ((p - 1) == (q - 1)) ≡ int_eq (pos p) (pos q)
 same_place p q some other = grind (arith, nat_tests)
 
--- After `with_points` a point is among the bits exactly if it was among them before or is in the list.
+-- If `with_points` finds no flaw, then a point is among the new bits exactly if it was among the bits before or is in
+-- the list.
 in_bits : (list : Place) (place points bits : ℕ) (zs : List ℤ) (new q : ℕ) → 1 ≤ q → with_points list place points bits zs ≡ Ok new
     → (new / 2 ^ (q - 1) % 2 == 1) ≡ ((bits / 2 ^ (q - 1) % 2 == 1) || list_any (λ z. int_eq z (pos q)) zs)
 unfolding with_point

@@ -1,4 +1,5 @@
--- Doors that fit can be made, and prices in their range take memory.
+-- If `doors_fit` finds no flaw in the doors of a configuration, then a door of the site can be made from each of them.
+-- If the prices of the site can be made from those in the configuration, then making them takes memory.
 use Rattle.std.proofs.Common.{◌≡◌, ℕ, suc, ◌<◌, ◌==◌, ℤ, List, [], ◌∷◌, length, Bool, true, false, Result, Ok, Err, IsOk, IsOkAnd, is_ok, refl, ap, arith}
 use Rattle.std.proofs.lemmas.Bool.{eqb-true}
 use Rattle.site_config.specs.declared.flaw.ConfigFlaw.{ConfigFlaw}
@@ -27,7 +28,7 @@ one_more (Ok x) (Ok xs) n o l = ap suc l
 one_more (Ok x) (Err g) n o l = absurd l
 one_more (Err g) rs n o l = absurd (cc)
 
--- If all doors fit, then each of them can be made.
+-- If all doors fit, then a door is made from each of them.
 pub all_made : (tills points t w : ℕ) (ds : List RawDoor) → doors_fit tills points ds ≡ Ok tt
     → IsOkAnd (each_door (door_of tills points t w) ds) (λ made. length made ≡ length ds)
 all_made tills points t w [] e = refl

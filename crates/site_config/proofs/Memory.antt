@@ -9,8 +9,9 @@ use Rattle.site_config.specs.Document.{document_of}
 use Rattle.site_config.specs.Typed.{typed_of}
 use Rattle.site_config.specs.Memory.{MakesFirst, TakesTyped, TakesDocument}
 
--- If `one` finds no flaw in the item at place i, then it finds none in the first item: for i = 0 that is the same item,
--- and otherwise it is given.
+-- If `one` finds no flaw in `x`, the item at place i of `xs`, then it finds none in the first item (`MakesFirst`). If i
+-- is 0, `x` is the first item. If i is 1 or more, the first item was read before `x`, and it is a premise that `one`
+-- found no flaw in it.
 pub made : {A B : Type 0} (one : ℕ → A → Result B ConfigFlaw) (xs : List A) (i : ℕ) (x : A) (rest : List A)
     → drop i xs ≡ x ∷ rest → (1 ≤ i → MakesFirst (one 0) xs) → IsOk (one i x) → MakesFirst (one 0) xs
 made one xs zero x rest split before now = subst (MakesFirst (one 0)) (sym split) now
@@ -33,7 +34,7 @@ is_text : (b : Bool) (bytes : List ℕ) (ms : Members) → (if b then parse_docu
 is_text true bytes ms e = refl
 is_text false bytes ms e = absurd (cc)
 
--- A document that takes memory is in a text that isn't blank.
+-- If reading the settings from a document takes memory, then the document's text is UTF-8 and isn't blank.
 pub taken : (bytes : List ℕ) (ms : Members) → document_of bytes ≡ Some ms → TakesDocument ms → (is_utf8 bytes ≡ true) × (IsBlank bytes → ⊥)
 unfolding document_of
 taken bytes ms e takes =

@@ -1,4 +1,5 @@
--- When the bytes that were read are no whole head yet.
+-- If there are at most 65,540 bytes, and neither they nor any beginning of them ends with a line `---`, then they are
+-- no whole head (a configuration and its line `---`) yet: `IsOpen` holds.
 use Rattle.std.proofs.Common.{◌≡◌, ℕ, ◌<◌, ◌≤◌, nat_lt, Bool, true, false, List, length, take, refl}
 use Rattle.std.proofs.lemmas.Bool.{ltb-true, ltb-false}
 use Rattle.std.proofs.lemmas.List.{take_all}

@@ -1,4 +1,4 @@
--- The lowest number whose lines no door takes.
+-- Trying the numbers of tills or points from 1 up finds the lowest one whose lines no door takes, if there is one.
 use Rattle.std.proofs.Common.{◌≡◌, ℕ, zero, suc, ◌+◌, ◌-◌, ◌≤◌, List, Option, Some, None, true, false, Bool, cond, sym, subst, arith}
 use Rattle.site_config.specs.declared.flaw.ConfigFlaw.{ConfigFlaw}
 use Rattle.site_config.specs.declared.flaw.ConfigFlaw.TheVariants.{WithoutDoor}

@@ -1,4 +1,4 @@
--- Definitions: reading that can fail with a flaw, and the document in some bytes.
+-- Definitions: how the steps of a reading are joined if each can fail with a flaw, and which document some bytes are.
 use Rattle.std.specs.Prelude.{◌≡◌, ◌≢◌, ℕ, ◌+◌, List, [], ◌∷◌, ◌++◌, Bool, true, false, Option, Some, None, Result, Ok, Err, if◌then◌else◌}
 use Rattle.std.specs.Str.{is_utf8}
 use Rattle.toml.specs.Data.{Members}
@@ -33,14 +33,16 @@ abbrev pub first_of : Option ConfigFlaw → Option ConfigFlaw → Option ConfigF
 first_of (Some flaw) other = Some flaw
 first_of None other = other
 
--- The result is what `read`, a definition, gives: the same value, once `view` is applied to it, or the same flaw. If
--- the flaw is that memory ran out, nothing is claimed.
+-- `Finds view call read`: what a call returned, `call`, agrees with `read`, which a definition gives:
+-- - If `call` is a value, `read` is `view` of this value.
+-- - If `call` is a flaw, `read` is the same flaw. If the flaw is that memory ran out, nothing is claimed.
 abbrev pub Finds : {X Y : Type 0} → (X → Y) → Result X ConfigFlaw → Result Y ConfigFlaw → Type 0
 Finds view (Ok x) read = read ≡ Ok (view x)
 Finds view (Err flaw) read = flaw ≢ OutOfMemory → read ≡ Err flaw
 
--- `read`, a definition, fails with this fault. If the fault is that memory ran out, nothing is claimed. Below, `Gives`:
--- the result is what `read` gives, as in `Finds`, but with a fault instead of a flaw.
+-- If this fault isn't that memory ran out, then `read`, which a definition gives, is the same fault. If memory ran out,
+-- nothing is claimed. Below, `Gives`: what a call returned agrees with `read`. If the call returned a value, `read` is
+-- `view` of this value. If it returned a fault, `Fails` holds for the fault.
 abbrev pub Fails : {Y : Type 0} → ConfigFault → Result Y ConfigFault → Type 0
 Fails fault.OutOfMemory read = Unit {0}
 Fails f read = read ≡ Err f

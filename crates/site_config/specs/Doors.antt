@@ -1,4 +1,5 @@
--- Definitions: the doors of a served site, and what is demanded of them (K3).
+-- Definitions: the doors of a served site, and what their values must be. If a value is out of its range, a list has a
+-- wrong length, or another condition isn't met, the fault is K3.
 use Rattle.std.specs.Prelude.{◌==◌, not, ◌+◌, ◌-◌, ◌/◌, ◌%◌, ◌^◌, nat_le, bit_or, ℕ, zero, suc, ℤ, pos, List, [], ◌∷◌, length, map, Bool, true, false}
 use Rattle.std.specs.Prelude.{Option, Some, None, Result, Ok, string_bytes, if◌then◌else◌}
 use Rattle.std.specs.Ordering.{int_eq}
@@ -33,8 +34,11 @@ pub data AddressValue : Type 0 where
   port : ℕ → AddressValue
   socket : List ℕ → AddressValue
 
--- A door: the place of its address in the configuration, the address, whose lines the door takes, and how many workers
--- it has.
+-- A door:
+-- - `place`: the place of its address in the configuration
+-- - `address`: its address
+-- - `role`: whose lines it takes
+-- - `workers`: how many workers it has
 pub record DoorValue : Type 0 where
   pub place : Place
   pub address : AddressValue
@@ -49,13 +53,14 @@ pub record ServeValue : Type 0 where
   pub idle_seconds : ℕ
   pub page_port : Option ℕ
 
--- The place of `key` in the table that has the key at `place`. If `place` isn't a key's, the result is `place` itself.
+-- The place of `key` in the same table as the key at `place`. If `place` isn't the place of a key, the result is
+-- `place` itself.
 abbrev pub beside : Place → Key → Place
 beside (At section other) key = At section key
 beside place key = place
 
--- The place of item `n`, counted from 0, of the list at `place`. If `place` isn't a key's, the result is `place`
--- itself.
+-- The place of item `n`, counted from 0, of the list at `place`. If `place` isn't the place of a key, the result is
+-- `place` itself.
 abbrev pub item_of : Place → ℕ → Place
 item_of (At section key) n = Item section key n
 item_of place n = place
@@ -83,8 +88,8 @@ with_points list place points bits (z ∷ zs) = do
   more ← with_point list place points bits z
   with_points list (place + 1) points more zs
 
--- The points in the list at `list`, as bits, at a site that has points 1 to `points`. The list must have at least one
--- point, and none twice.
+-- The points in the list at `list`, as bits (point p is bit p - 1), at a site that has points 1 to `points`. The list
+-- must have at least one point, and none twice.
 unfoldable pub bits_of : Place → ℕ → List ℤ → Result ℕ ConfigFlaw
 bits_of list points zs = do
   some ← demand (WrongCount list 0 1 points) (not (length zs == 0))
@@ -122,8 +127,8 @@ doors_fit tills points (d ∷ ds) = do
   fits ← door_fits tills points d
   doors_fit tills points ds
 
--- The flaw if the addresses of two doors are the same port, or the same text as a path. `first` and `second` are the
--- places of the addresses.
+-- The flaw if two doors have the same port, or paths with the same text. `first` and `second` are the places of the
+-- addresses.
 abbrev pub address_clash : Place → Place → RawAddress → RawAddress → Option ConfigFlaw
 address_clash first second (Port y) (Port z) = if int_eq y z then Some (SamePort first second y) else None
 address_clash first second (Socket p) (Socket q) = if bytes_eq p q then Some (SameSocket first second) else None
@@ -199,14 +204,15 @@ takes side n role = false
 abbrev pub is_taken : Side → List RawDoor → ℕ → Bool
 is_taken side ds n = list_any (λ d. takes side n d.role) ds
 
--- The flaw of the lowest number, from 1 to the given one, of a till or a point whose lines no door takes. None if each
--- of these numbers has a door.
+-- The flaw of the lowest number, from 1 to the given one, of a till or a point whose lines no door takes. None if there
+-- is no such number.
 abbrev pub first_without_door : Side → List RawDoor → ℕ → Option ConfigFlaw
 first_without_door side ds zero = None
 first_without_door side ds (suc n) = first_of (first_without_door side ds n) (if is_taken side ds (suc n) then None else Some (WithoutDoor side (suc n)))
 
--- Checks one side: tills or dispensers. The shared door's workers and the doors of single tills, or of some points,
--- must be at most `most` in all. Each till or point, from 1 to `n`, must have a door that takes its lines.
+-- Checks one side: tills or dispensers. Its shared door has `shared` workers (0 if there is no such door), and each of
+-- its other doors (for one till, or for some points) has one worker. There must be at most `most` of these workers in
+-- all. Each till or point, from 1 to `n`, must have a door that takes its lines.
 unfoldable pub side_fits : Side → ℕ → ℕ → ℕ → List RawDoor → Result (Unit {0}) ConfigFlaw
 side_fits side shared most n ds = do
   few ← demand (TooManyWorkers side (shared + count_single side ds) most) (nat_le (shared + count_single side ds) most)
@@ -242,8 +248,7 @@ serve_of tills points s = do
   doors ← each_door (door_of tills points t w) s.doors
   Ok (record { doors = doors; connections = n; idle_seconds = i; page_port = p })
 
--- The address of the code as an `AddressValue`. Below: a door as a `DoorValue`, and the settings of `[serve]` as a
--- `ServeValue`.
+-- The code's `Address` as an `AddressValue`. Below: its `Door` as a `DoorValue`, and its `Serve` as a `ServeValue`.
 abbrev pub address_seen : Address → AddressValue
 address_seen (addresses.Port n) = port n
 address_seen (addresses.Socket path) = socket (string_bytes path)

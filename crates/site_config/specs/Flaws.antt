@@ -30,7 +30,8 @@ fault_of (TooManyWorkers side count most) = fault.K3
 fault_of (WithoutDoor side number) = fault.K3
 fault_of OutOfMemory = fault.OutOfMemory
 
--- The line and the column of a flaw in a text that isn't a document; other flaws have no position.
+-- The line and the column of a flaw with the fault K1, which is that the text isn't UTF-8 or isn't TOML. Other flaws
+-- have no position.
 abbrev pub position_of : ConfigFlaw → Option (ℕ × ℕ)
 position_of (NotUtf8 line column) = Some (line, column)
 position_of (NotToml line column message) = Some (line, column)

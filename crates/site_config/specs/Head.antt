@@ -3,12 +3,12 @@ use Rattle.std.specs.Prelude.{◌≡◌, ◌⊎◌, ℕ, ◌<◌, ◌≤◌, ◌
 use Rattle.std.specs.Str.{bytes_eq}
 use Rattle.std.specs.Io.KnownBytes.{Consumes, IsAtEnd}
 
--- The bytes are a line `---`, or end with one.
+-- The bytes are a line `---` with its LF, or end with one.
 abbrev pub ends_head : List ℕ → Bool
 ends_head bytes =
     bytes_eq bytes (45 ∷ 45 ∷ 45 ∷ 10 ∷ []) || bytes_eq (drop (length bytes - 5) bytes) (10 ∷ 45 ∷ 45 ∷ 45 ∷ 10 ∷ [])
 
--- The bytes before the line `---` at their end, or all bytes if they don't end with such a line.
+-- The bytes without the line `---` that they end with, or all bytes if they don't end with such a line.
 abbrev pub before_end : List ℕ → List ℕ
 before_end bytes = if ends_head bytes then take (length bytes - 4) bytes else bytes
 
@@ -24,8 +24,8 @@ pub record IsHead (old new : Option (List ℕ)) (bytes : List ℕ) : Type 0 wher
   pub few : length bytes ≤ 65541
   pub ended : (ends_head bytes ≡ true) ⊎ IsAtEnd new ⊎ (65540 < length bytes)
 
--- These bytes are no whole head (a configuration and its line `---`) yet: they are at most 65,540, and no line `---`
--- has ended among them or with them.
+-- These bytes are no whole head (a configuration and its line `---`) yet: there are at most 65,540 of them, and neither
+-- all of them nor a beginning of them ends with a line `---`.
 abbrev pub IsOpen : List ℕ → Type 0
 IsOpen bytes = ((k : ℕ) → k ≤ length bytes → ends_head (take k bytes) ≡ false) × (length bytes ≤ 65540)
 
@@ -39,7 +39,7 @@ abbrev pub TakesByReads : Option (List ℕ) → Option (List ℕ) → ℕ → �
 TakesByReads old new before after =
     (bytes : List ℕ) × (byte : ℕ) × Consumes old new (bytes ++ byte ∷ []) × IsOpen bytes × (length bytes + 1 + after ≡ before)
 
--- `count` bytes were read, each by a read of its own. If the input is at its end, perhaps one more read found this.
--- `before` reads were allowed, and `after` of them are left.
+-- `before` reads were allowed, and `after` of them are left. Either `count` reads were made, one for each of `count`
+-- bytes, or one more was made, which found that the input is at its end.
 abbrev pub TakesReads : Option (List ℕ) → ℕ → ℕ → ℕ → Type 0
 TakesReads new count before after = (count + after ≡ before) ⊎ ((count + after + 1 ≡ before) × IsAtEnd new)

@@ -1,5 +1,6 @@
--- Promises: by the configuration a door takes a line of a till, or a line that names a point, exactly if a session of
--- its role is allowed to send it.
+-- Promises: a door takes a line exactly if its sessions accept the line. What a door takes is given by its role in the
+-- configuration, and what its sessions accept by the role of these sessions. The lines are those of tills, and those of
+-- dispensers that name a point from 1 to 32.
 use Rattle.std.specs.Prelude.{◌≡◌, ◌≤◌, ◌&&◌, ℕ, Ok}
 use Rattle.fuelling_point.specs.declared.kinds.DispenserEvent.{DispenserEvent}
 use Rattle.till_request.specs.declared.act.Act.TheVariants as acts
@@ -13,8 +14,8 @@ use Rattle.site_config.specs.declared.raw.RawRole.{RawRole}
 use Rattle.site_config.specs.Doors.{role_of, takes}
 
 -- `raw` is a door's role in the configuration, and `role` is the role of its sessions. The door takes a till's lines
--- exactly if `role` is allowed to send tills' lines and isn't limited to another till. The door takes the lines that
--- name a point exactly if `role` is allowed to send dispensers' lines and isn't limited to other points.
+-- exactly if `role` allows tills' lines and isn't limited to another till. The door takes the dispensers' lines that
+-- name a point from 1 to 32 exactly if `role` allows dispensers' lines and isn't limited to other points.
 pub record TakesOwnLines (raw : RawRole) (role : Role) : Type 0 where
   pub of_tills : (number : ℕ) (request : Request)
       → takes sides.Tills number raw ≡ (allows role roles.Till && is_within_role role (acts.Till number request))

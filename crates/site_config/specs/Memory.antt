@@ -1,6 +1,6 @@
 -- Definitions: what takes memory while the settings are read from a TOML document (this profile). Memory is taken for a
--- copy of a text that isn't empty, and for each item of a list, once the item is read. No other step of this reports
--- that memory ran out.
+-- copy of a text that isn't empty, and for each item of a list, once the item is read. No other step of the reading
+-- reports that memory ran out.
 use Rattle.std.specs.Prelude.{◌≡◌, ◌<◌, ◌⊎◌, ℕ, ℤ, List, [], ◌∷◌, length, codes, Option, Some, None, Result, IsOk, IsOkAnd, IsSomeAnd}
 use Rattle.toml.specs.Data.{Data, Items, Members, no_items, item, get_member}
 use Rattle.site_config.specs.declared.flaw.ConfigFlaw.{ConfigFlaw}
@@ -35,7 +35,8 @@ Then takes step rest = takes ⊎ (IsOk step × rest)
 abbrev pub CopiesKey : Section → Members → Type 0
 CopiesKey section ms = IsSomeAnd (other_key (is_key_of section) ms) (λ name. 0 < length name)
 
--- The list has a first item. Reading it takes memory, or succeeds: then keeping the item takes memory.
+-- Reading the first item of the list takes memory, or it succeeds. In both cases memory is taken for this item: to read
+-- it, or to keep it. This never holds for an empty list.
 abbrev pub KeepsFirst : {A : Type 0} → (ℕ → Data → Result A ConfigFlaw) → (ℕ → Data → Type 0) → Items → Type 0
 KeepsFirst one takes no_items = ⊥
 KeepsFirst one takes (item d ds) = takes 0 d ⊎ IsOk (one 0 d)
@@ -72,7 +73,8 @@ CopiesPath place (Some x) socket = ⊥
 unfoldable pub TakesDoor : Section → Key × Key → Members → Type 0
 TakesDoor section keys ms = CopiesPath (At section keys.1) (get_member (name_of keys.0) ms) (get_member (name_of keys.1) ms)
 
--- Reading a door of `[serve]` takes memory, or succeeds: then keeping the door takes memory.
+-- Reading a door of `[serve]` takes memory, or it succeeds. In both cases memory is taken for this door: to read it, or
+-- to keep it.
 unfoldable pub TakesShared : Key × Key → RawRole → Members → Type 0
 TakesShared keys role ms = TakesDoor Serve keys ms ⊎ IsOk (door_at Serve keys role ms)
 
@@ -135,8 +137,8 @@ TakesPrices zs = (length zs ≡ 8) × MakesFirst (price_of 0) zs
 abbrev pub HasDoors : ServeValue → Type 0
 HasDoors s = 0 < length s.doors
 
--- Making the settings takes memory: the numbers that are checked before the prices are in range, and the prices are the
--- first to take memory.
+-- Making the settings takes memory: the number of tills and the price slot, which are checked first, are in range, and
+-- then making the prices takes memory.
 unfoldable pub TakesSettings : Typed → Type 0
 TakesSettings d = IsOk (ranged (At Top key.Tills) 1 64 d.tills) × IsOk (ranged (At Top key.PriceSlot) 0 15 d.price_slot) × TakesPrices d.prices
 

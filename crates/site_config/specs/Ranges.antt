@@ -1,4 +1,5 @@
--- Definitions: the ranges, lengths, counts and conditions of a configuration (K3).
+-- Definitions: the settings that the values of a configuration give. If a value is out of its range, a list has a wrong
+-- length, or another condition isn't met, the fault is K3.
 use Rattle.std.specs.Prelude.{◌==◌, ◌&&◌, ◌-◌, nat_le, ℕ, ℤ, List, ◌++◌, length, replicate, Option}
 use Rattle.std.specs.Prelude.{Some, None, Result, Ok, Err, option_map}
 use Rattle.toml.specs.Data.{Members}
@@ -24,7 +25,7 @@ point_of place p = do
   s ← ranged (At (Point place) key.Preset) 0 15 p.1
   Ok (r, s)
 
--- The value and the bound of a counter. The value must be at most the bound.
+-- The value and the bound of a counter: each from 0 to 9,223,372,036,854,775,807, and the value at most the bound.
 unfoldable pub counter_of : ℕ → ℤ × ℤ → Result (ℕ × ℕ) ConfigFlaw
 counter_of place p = do
   v ← ranged (At (Counter place) key.Value) 0 9223372036854775807 p.0
@@ -79,7 +80,8 @@ settings_of_typed d = do
 abbrev pub settings_view : Settings → SettingsValue
 settings_view s = record { config = s.config; serve = option_map serve_seen s.serve }
 
--- The settings in a document, or its first flaw: any flaw with the fault K2 comes before any with K3.
+-- The settings in a document, or its first flaw. Any flaw in the keys or the types of their values (K2) comes
+-- before any flaw in the values themselves (K3).
 unfoldable pub settings_of : Members → Result SettingsValue ConfigFlaw
 settings_of ms = typed_of ms >>= settings_of_typed
 
@@ -87,6 +89,8 @@ abbrev pub config_in : Option Members → Result SettingsValue ConfigFault
 config_in None = Err K1
 config_in (Some ms) = numbered (settings_of ms)
 
--- The settings in the text of a configuration, or its fault: K1 comes before K2, and K2 before K3.
+-- The settings in the text of a configuration, or the fault of its first flaw. That the text isn't a TOML document (K1)
+-- comes before any flaw in the keys or the types of their values (K2), and these come before any flaw in the values
+-- themselves (K3).
 unfoldable pub config_of : List ℕ → Result SettingsValue ConfigFault
 config_of bytes = config_in (document_of bytes)

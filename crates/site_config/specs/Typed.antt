@@ -1,4 +1,5 @@
--- Definitions: the keys of a document, and the types of their values (K2).
+-- Definitions: the keys of a document, and the types of their values. If a key is unknown or missing, doesn't go
+-- with the other keys, or has a value of a wrong type, the fault is K2.
 use Rattle.std.specs.Prelude.{◌||◌, not, ◌+◌, ℕ, ℤ, pos, List, [], ◌∷◌, codes, Bool, true, false, Option, Some, None, Result, Ok, Err}
 use Rattle.std.specs.Prelude.{option_map, is_some, if◌then◌else◌}
 use Rattle.std.specs.Str.{bytes_eq}
@@ -25,8 +26,8 @@ use Rattle.site_config.specs.declared.raw.RawRole.TheVariants.{Tills, OneTill, D
 use Rattle.site_config.specs.Document.{or_flaw, demand, ◌>>=◌, with_front}
 use Rattle.site_config.specs.Keys.{name_of}
 
--- The document is allowed to have a key of this name. Below: the same for the other kinds of tables. The names of the
--- keys of `[serve]` are tested in groups.
+-- The document is allowed to have a key of this name at its top. Below: the same for the other kinds of tables. The one
+-- for `[serve]` is `is_serve_key`. `is_port_key`, `is_socket_key` and `is_number_key` are only parts of `is_serve_key`.
 unfoldable pub is_top_key : List ℕ → Bool
 is_top_key k =
     bytes_eq k (codes "tills")
@@ -156,7 +157,7 @@ abbrev pub has_key : Key → Members → Bool
 has_key key ms = is_some (get_member (name_of key) ms)
 
 -- A door whose port is the value of one key, or whose socket is the value of another one. Exactly one of these keys
--- must be given. The door's place is the key that is given.
+-- must be given. The door's place is that of the key that is given.
 abbrev pub door_by : Place → Place → RawRole → Option Data → Option Data → Result RawDoor ConfigFlaw
 door_by port socket role (Some d) None = do
   z ← integer_of port d
@@ -175,7 +176,10 @@ door_at section keys role ms =
 abbrev pub has_shared : Key × Key → Members → Bool
 has_shared keys ms = has_key keys.0 ms || has_key keys.1 ms
 
--- The shared door, if one of its keys is given. If none is given, there must be tables of doors at the key `tables`.
+-- The shared door as a list. The first argument says whether a key of this door is given.
+-- - If any is given, the list has this door alone, or the result is the flaw of reading this door.
+-- - If none is given, there is no such door. The list is empty if `tables`, the key of the side's other doors, is
+--   given; its value isn't checked here. If `tables` isn't given either, the result is the flaw `Missing`.
 abbrev pub shared_if : Bool → Key × Key → Key → RawRole → Members → Result (List RawDoor) ConfigFlaw
 shared_if true keys tables role ms = do
   door ← door_at Serve keys role ms
@@ -188,7 +192,7 @@ unfoldable pub shared_at : Key × Key → Key → RawRole → Members → Result
 shared_at keys tables role ms = shared_if (has_shared keys ms) keys tables role ms
 
 -- How many workers a shared door has, or None if there is no such door. The key `key` must be given exactly if there is
--- one.
+-- such a door.
 abbrev pub workers_if : Bool → Key × Key → Key → Members → Result (Option ℤ) ConfigFlaw
 workers_if true keys key ms = do
   z ← integer_at Serve key ms
@@ -221,7 +225,8 @@ abbrev pub single_in : Side → ℕ → Data → Result RawDoor ConfigFlaw
 single_in sides.Tills = till_in
 single_in sides.Dispensers = dispenser_in
 
--- The doors in the tables at a key of `[serve]`. If the key isn't given, the list is empty.
+-- The doors in the tables at the key `key` of `[serve]`. `one` reads each table as a door. If the key isn't given, the
+-- list is empty.
 abbrev pub tables_from : (ℕ → Data → Result RawDoor ConfigFlaw) → Key → Option Data → Result (List RawDoor) ConfigFlaw
 tables_from one key None = Ok []
 tables_from one key (Some d) = array_of (At Serve key) d >>= each_in one 0
@@ -299,7 +304,7 @@ pub record Typed : Type 0 where
   pub counters : List (ℤ × ℤ)
   pub serve : Option TypedServe
 
--- The values of the keys of a document. An unknown key, a missing key or a wrong type is K2.
+-- The values of the keys of a document, or its first flaw in the keys or the types of their values (K2).
 unfoldable pub typed_of : Members → Result Typed ConfigFlaw
 typed_of ms = do
   known ← known_in Top ms
@@ -311,7 +316,7 @@ typed_of ms = do
   serve ← served_at ms
   Ok (record { tills = tills; price_slot = slot; prices = prices; points = points; counters = counters; serve = serve })
 
--- The values of `[serve]` in the code as a `TypedServe`. Below: those of a document as a `Typed`.
+-- The code's `Served` as a `TypedServe`. Below: its `Raw` as a `Typed`.
 abbrev pub seen_serve : Served → TypedServe
 seen_serve s = record {
   doors = s.doors.items;

@@ -37,7 +37,7 @@ fn position_behind(text: &[u8]) -> (usize, usize)
 }
 
 /// Returns the line and the column of the byte at the index `at`, as `position_behind` counts them. If `bytes` has no
-/// such index, returns those of its end.
+/// such index, returns those of the end of `bytes`.
 fn position_at(bytes: &[u8], at: usize) -> (usize, usize)
     ensures { result ≡ position_at bytes.now at }
 {
@@ -45,8 +45,9 @@ fn position_at(bytes: &[u8], at: usize) -> (usize, usize)
 }
 
 /// Returns the flaw `NotToml` for an error that the TOML reader found in `text` at the byte with the index `at`: the
-/// line and the column of this byte, and a copy of the reader's message. `at` must be at most the length of `text`. If
-/// it is this length, the error is at the end. If memory ran out, returns `OutOfMemory`.
+/// line and the column of this byte, and a copy of `message`, the reader's message. `at` must be at most the length of
+/// `text` in bytes. If `at` is this length, the error is at the end of `text`. If memory ran out, returns
+/// `OutOfMemory`.
 fn not_toml(alloc: Global, text: &str, at: usize, message: &str) -> ConfigFlaw
     requires { at ≤ length text.now }
     ensures fault { result ≢ ConfigFlaw.OutOfMemory → IsOfText result }

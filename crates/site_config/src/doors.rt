@@ -1,4 +1,5 @@
-//! Checks and makes the doors of `[serve]`. A door is where connections come in. The fault is K3.
+//! Checks and makes the doors of `[serve]`. A door is where connections come in. The fault of each flaw is K3: a value
+//! is out of its range, a list has a wrong length, or another condition isn't met.
 ghost use Rattle.std.specs.Prelude.{◌≡◌, ◌≢◌, ◌<◌, ◌≤◌, ◌+◌, length, map, IfOk, IfSome, IsOkAnd, Err};
 ghost use Rattle.site_config.specs.Document.{Finds};
 ghost use Rattle.site_config.specs.Demands.{ranged};
@@ -38,8 +39,8 @@ fn beside(place: Place, key: Key) -> Place
     }
 }
 
-/// Returns the place of an item in a list. `list` is the place of the key whose value the list is, and `place` counts
-/// the items before this one. If `list` isn't the place of a key, returns `list` itself.
+/// Returns the place of an item in a list. `list` is the place of the list's key, and `place` is the item's place in
+/// the list, counted from 0. If `list` isn't the place of a key, returns `list` itself.
 fn item_of(list: Place, place: usize) -> Place
     ensures { result ≡ item_of list place }
 {
@@ -127,8 +128,8 @@ fn add_points(list: Place, points: u32, values: &[i64]) -> Result<u32, ConfigFla
 }
 
 /// Returns the points in `values`, the list at `list`, as bits: point p is bit p - 1. The site has `points` points,
-/// which must be at most 32. The error is `WrongCount` if the list is empty. Else it is `OutOfRange` or `PointTwice`,
-/// for the first value that isn't a point of the site or is a point a second time.
+/// which must be at most 32. The error is `WrongCount` if the list is empty. Else it is the flaw of the first wrong
+/// value: `OutOfRange` if it isn't from 1 to `points`, or `PointTwice` if it comes a second time.
 #[tactic(auto, unfolding(crate::specs::Doors::bits_of))]
 fn make_bits(list: Place, points: u32, values: &[i64]) -> Result<u32, ConfigFlaw>
     requires { points ≤ POINTS }
@@ -172,8 +173,8 @@ fn make_role(tills: u32, points: u32, place: Place, role: &RawRole) -> Result<Ro
     }
 }
 
-/// Checks the address and then the role of a door. `points` must be at most 32. The error is the first flaw: one that
-/// `check_address` returns, or else one that `make_role` returns.
+/// Checks the address and then the role of a door. `points` must be at most 32. The error is the first flaw: an error
+/// of `check_address`, or else an error of `make_role`.
 #[tactic(auto, unfolding(crate::specs::Doors::door_fits, crate::specs::Doors::address_fits))]
 fn check_door(tills: u32, points: u32, door: &RawDoor) -> Result<(), ConfigFlaw>
     requires { points ≤ POINTS }
@@ -362,8 +363,8 @@ fn is_taken(side: Side, number: u32, doors: &[RawDoor]) -> bool
     false
 }
 
-/// Returns the flaw `WithoutDoor` for the first till (if the side is tills) or point (if the side is dispensers), of
-/// those with the numbers 1 to `most`, whose lines no door takes. Returns `None` if a door takes the lines of each.
+/// Returns the flaw `WithoutDoor` for the lowest number, from 1 to `most`, of a till (if the side is tills) or a point
+/// (if the side is dispensers) whose lines no door takes. Returns `None` if there is no such number.
 fn first_without_door(side: Side, doors: &[RawDoor], most: u32) -> Option<ConfigFlaw>
     ensures found { result ≡ first_without_door side doors.now most }
     ensures memory { IfSome result (λ flaw. flaw ≢ ConfigFlaw.OutOfMemory) }
@@ -467,7 +468,7 @@ fn number_of(key: Key, value: i64, low: u32, high: u32) -> Result<u32, ConfigFla
 }
 
 /// Checks `served`, and makes the settings of `[serve]` for a site that has `tills` tills and `points` points. `points`
-/// must be at most 32. The error is the first flaw, whose fault is K3, or that memory ran out.
+/// must be at most 32. The error is the first flaw in the values (K3), or that memory ran out.
 #[tactic(auto, unfolding(crate::specs::Doors::serve_of))]
 pub(crate) fn make_serve(
     alloc: Global,

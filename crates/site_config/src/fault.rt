@@ -5,8 +5,8 @@
 pub enum ConfigFault {
     /// The configuration isn't TOML.
     K1,
-    /// A key is unknown, is missing, excludes another given key or needs one that isn't given, or a value has a wrong
-    /// type.
+    /// A key is unknown or missing, two keys are given of which only one is allowed, a key is given without one that it
+    /// needs, or a value has a wrong type.
     K2,
     /// A value is out of its range, a list has a wrong number of items, or another condition isn't met.
     K3,

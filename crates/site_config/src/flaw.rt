@@ -90,15 +90,16 @@ impl fmt::Display for Key {
     }
 }
 
-/// Returns the number, counted from 1, of the item at `place`, which is counted from 0.
+/// Returns the number, counted from 1, of the item at `place`, which is counted from 0. If `place` is the greatest
+/// `usize`, returns `place`.
 fn counted(place: usize) -> usize
     ensures { result ≡ counted place }
 {
     place.saturating_add(1)
 }
 
-/// A table of a configuration. `Top` is the whole document, and `Serve` is `[serve]`. The others are one table of
-/// `[[point]]`, `[[counter]]`, `[[serve.till]]` or `[[serve.dispenser]]`, with its place in this list of tables,
+/// A table of a configuration. `Top` is the whole document, and `Serve` is `[serve]`. Each other variant is one table
+/// of `[[point]]`, `[[counter]]`, `[[serve.till]]` or `[[serve.dispenser]]`, with its place in this list of tables,
 /// counted from 0.
 #[derive(Clone, Copy)]
 pub enum Section {
@@ -240,7 +241,8 @@ pub enum ConfigFlaw {
         line: usize,
         column: usize,
     },
-    /// The text isn't TOML (K1): a line and a column, both counted from 1, and the message of the TOML reader.
+    /// The text isn't TOML (K1): the line and the column of the error, both counted from 1, and the message of the TOML
+    /// reader.
     NotToml {
         line: usize,
         column: usize,
@@ -262,7 +264,8 @@ pub enum ConfigFlaw {
     /// K3: a list has a wrong number of items. The numbers are how many it has, and the least and the greatest number
     /// that are allowed.
     WrongCount(Place, usize, usize, usize),
-    /// K3: a counter's value is over its bound. The numbers are the counter's, counted from 0, its value and its bound.
+    /// K3: a counter's value is over its bound. The numbers are the counter's own number (counted from 0), its value
+    /// and its bound.
     OverBound(usize, u64, u64),
     /// K3: the path of a socket is empty.
     Empty(Place),
@@ -276,7 +279,8 @@ pub enum ConfigFlaw {
     PointTwice(Place, u32),
     /// K3: the doors of one side have too many workers. The numbers are how many, and the most that are allowed.
     TooManyWorkers(Side, usize, usize),
-    /// K3: no door takes the lines of the till, or the point, that has this number.
+    /// K3: no door takes the lines of the till with this number, or the dispensers' lines that name the point with this
+    /// number.
     WithoutDoor(Side, u32),
     OutOfMemory,
 }

@@ -21,12 +21,12 @@ fn is_head_end(bytes: &[u8]) -> bool
 }
 
 /// Reads and returns the bytes up to the end of the first line that is `---` and its LF. What follows the line stays
-/// unread. If there is no such line, reads and returns all bytes. Reading also stops after 65,541 bytes, which are too
-/// many for a configuration and its line `---`, and returns these bytes.
+/// unread. If there is no such line, reads and returns all bytes. Also stops after 65,541 bytes, which are too many for
+/// a configuration and its line `---`, and returns these bytes.
 ///
 /// Each read asks for one byte, and subtracts 1 from `left`, the number of reads that are still allowed. So does the
-/// read that finds the end of the input. The error is that no read is left, that the input failed, or that there was no
-/// memory for a byte that was read.
+/// read that finds the end of the input. The error is `ReadsSpent` if a read is needed and `left` is 0, `Read` if the
+/// input failed, or `OutOfMemory` if there was no memory for a byte that was read.
 pub fn read_head<I: LineIn>(
     alloc: Global,
     input: &mut I,

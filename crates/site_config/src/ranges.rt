@@ -1,4 +1,5 @@
-//! Checks the ranges, lengths, counts and conditions of a configuration (K3), and makes the settings.
+//! Checks the values of a configuration, and makes the settings from them. If a value is out of its range, a list has a
+//! wrong length, or another condition isn't met, the fault is K3.
 ghost use Rattle.std.specs.Prelude.{◌≡◌, ◌≢◌, ◌≤◌, ◌-◌, ◌++◌, length, replicate, option_map, IfErr, IfOk, All};
 ghost use Rattle.std.specs.Prelude.{None, Some, Err, IsOkAnd, IsSomeAnd, true};
 ghost use Rattle.std.specs.Str.{is_utf8};
@@ -219,8 +220,8 @@ fn maybe_serve(
     }
 }
 
-/// Checks `raw`, the values of a document's keys, and makes the settings from them. The error is the first flaw, whose
-/// fault is K3, or that memory ran out.
+/// Checks `raw`, the values of a document's keys, and makes the settings from them. The error is the first flaw in
+/// these values (K3), or that memory ran out.
 #[tactic(auto, using(crate::proofs::Making::prices_made), unfolding(crate::specs::Ranges::settings_of_typed, crate::specs::Memory::TakesSettings))]
 fn make_settings(alloc: Global, raw: &Raw) -> Result<Settings, ConfigFlaw>
     ensures read { Finds settings_view result (settings_of_typed (seen raw.now)) }
@@ -244,7 +245,8 @@ fn make_settings(alloc: Global, raw: &Raw) -> Result<Settings, ConfigFlaw>
     }
 }
 
-/// Reads the settings from a document. The error is the document's first flaw (K2 or K3), or that memory ran out.
+/// Reads the settings from a document. The error is that memory ran out, or the document's first flaw: any in the keys
+/// or the types of their values (K2) comes before any in the values themselves (K3).
 #[tactic(auto, unfolding(crate::specs::Ranges::settings_of, crate::specs::Memory::TakesDocument))]
 fn settings_in(alloc: Global, document: &Table) -> Result<Settings, ConfigFlaw>
     ensures read { Finds settings_view result (settings_of (table_view document.now)) }

@@ -1,4 +1,5 @@
-//! Reads the table `[serve]` and the tables of doors in it, and checks their types (K2).
+//! Reads the table `[serve]` and the tables of doors in it, and checks their keys and the types of the keys' values. If
+//! a key is unknown or missing, doesn't go with the other keys, or has a value of a wrong type, the fault is K2.
 ghost use Rattle.std.specs.Prelude.{◌≡◌, ◌≢◌, ◌<◌, Err, IsOkAnd, IsSomeAnd, length, option_map};
 ghost use Rattle.toml.specs.View.{view, table_view, items_view};
 ghost use Rattle.toml.specs.Data.{get_member};
@@ -84,11 +85,11 @@ fn is_shared(table: &Table, keys: (Key, Key)) -> bool
     has_key(table, keys.0) || has_key(table, keys.1)
 }
 
-/// Reads the shared door of tills or of dispensers, and appends it to `doors`. The keys `keys` of `[serve]` name its
-/// address. If neither of them is given, there is no such door, and `doors` is returned as it is. Then the key `tables`
-/// must be given, but its value isn't checked. The error is `Missing` if none of the three keys is given, `BothThere`
-/// if both of `keys` are given, `WrongType` if the port isn't a number or the socket isn't a text, or that memory ran
-/// out.
+/// Reads the shared door of tills or of dispensers, and appends it to `doors`. `keys` are the keys of `[serve]` for its
+/// port and for its socket. If neither of them is given, there is no such door, and `doors` is returned as it is. Then
+/// `tables`, the key of the side's other doors, must be given in their place, but its value isn't checked here. The
+/// error is `Missing` if none of the three keys is given, `BothThere` if both of `keys` are given, `WrongType` if the
+/// port isn't a number or the socket isn't a text, or that memory ran out.
 #[tactic(auto, unfolding(crate::specs::Typed::shared_at, crate::specs::Memory::TakesShared))]
 fn add_shared(
     alloc: Global,
@@ -112,9 +113,9 @@ fn add_shared(
     Ok(doors)
 }
 
-/// Reads how many workers a shared door has. Returns `None` if there is no such door: if neither of `keys` is given.
-/// The error is `Missing` or `WrongType` if there is such a door and `key` isn't given or isn't a number. It is
-/// `Needless` if there is no such door, but `key` is given.
+/// Reads how many workers a shared door has. There is such a door if any of `keys` is given.
+/// - If there is such a door, the error is `Missing` if `key` isn't given, or `WrongType` if its value isn't a number.
+/// - If there is no such door, the result is `None`, or the error `Needless` if `key` is given.
 #[tactic(auto, unfolding(crate::specs::Typed::workers_at))]
 fn read_workers(table: &Table, keys: (Key, Key), key: Key) -> Result<Option<i64>, ConfigFlaw>
     ensures read { Finds (λ x. x) result (workers_at keys key (table_view table.now)) }
@@ -134,7 +135,8 @@ fn read_workers(table: &Table, keys: (Key, Key), key: Key) -> Result<Option<i64>
 }
 
 /// Reads the door of one till from `value`, which is item `place`, counted from 0, of `[[serve.till]]`. The error is
-/// the first flaw (K2), which can be that `value` isn't a table, or that memory ran out.
+/// that memory ran out, or the first flaw (K2): `value` isn't a table, a key in it is unknown or missing, a port
+/// and a socket are both given, or a key's value has a wrong type.
 #[tactic(auto, unfolding(crate::specs::Typed::till_in, crate::specs::Memory::TakesTill))]
 fn read_till(alloc: Global, value: &Value, place: usize) -> Result<RawDoor, ConfigFlaw>
     ensures read { Finds (λ x. x) result (till_in place (view value.now)) }
@@ -148,7 +150,8 @@ fn read_till(alloc: Global, value: &Value, place: usize) -> Result<RawDoor, Conf
 }
 
 /// Reads the door of some points from `value`, which is item `place`, counted from 0, of `[[serve.dispenser]]`. The
-/// error is the first flaw (K2), which can be that `value` isn't a table, or that memory ran out.
+/// error is that memory ran out, or the first flaw (K2): `value` isn't a table, a key in it is unknown or missing, a
+/// port and a socket are both given, or a key's value has a wrong type.
 #[tactic(auto, unfolding(crate::specs::Typed::dispenser_in, crate::specs::Typed::integers_at, crate::specs::Memory::TakesDispenser, crate::specs::Memory::TakesIntegers))]
 fn read_dispenser(alloc: Global, value: &Value, place: usize) -> Result<RawDoor, ConfigFlaw>
     ensures read { Finds (λ x. x) result (dispenser_in place (view value.now)) }
@@ -201,9 +204,9 @@ fn each_single(
     Ok(doors)
 }
 
-/// Reads the doors of single tills, or those of some points each, from the tables at the key `key`, and appends them to
-/// `doors`. If the key isn't given, returns `doors` as it is. The error is `WrongType` if its value isn't an array, one
-/// that `each_single` returns, or that memory ran out.
+/// Reads doors from the tables at the key `key`, and appends them to `doors`: each table is the door of one till, or of
+/// some points, as `side` says. If the key isn't given, returns `doors` as it is. The error is `WrongType` if the key's
+/// value isn't an array, or an error of `each_single`, which can be that memory ran out.
 fn add_singles(
     alloc: Global,
     table: &Table,
@@ -245,7 +248,7 @@ fn add_owner(
 }
 
 /// Reads all doors from the table `[serve]`, in the order in which workers get their passes (rights to call the site).
-/// The error is the first flaw, whose fault is K2, or that memory ran out.
+/// The error is the first flaw in the keys or the types of their values (K2), or that memory ran out.
 #[tactic(auto, unfolding(crate::specs::Typed::doors_at, crate::specs::Typed::tills_at, crate::specs::Typed::dispensers_at, crate::specs::Memory::TakesDoors))]
 fn read_doors(alloc: Global, table: &Table) -> Result<Vec<RawDoor>, ConfigFlaw>
     ensures read { Finds (λ v. v.items) result (doors_at (table_view table.now)) }

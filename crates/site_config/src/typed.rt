@@ -1,4 +1,5 @@
-//! Reads the keys of a document and checks their types (K2).
+//! Reads the keys of a document, and checks the types of their values. If a key is unknown or missing, doesn't go
+//! with the other keys, or has a value of a wrong type, the fault is K2.
 ghost use Rattle.std.specs.Prelude.{◌≡◌, Err};
 ghost use Rattle.toml.specs.View.{view, table_view, items_view};
 ghost use Rattle.site_config.specs.Document.{Finds};
@@ -125,7 +126,8 @@ fn find_counters(alloc: Global, table: &Table) -> Result<Vec<(i64, i64)>, Config
     }
 }
 
-/// Reads the values of all keys of a document. The error is the first flaw, whose fault is K2, or that memory ran out.
+/// Reads the values of all keys of a document. The error is the first flaw in the keys or the types of their values
+/// (K2), or that memory ran out.
 #[tactic(auto, unfolding(crate::specs::Typed::typed_of, crate::specs::Memory::TakesTyped))]
 pub fn read_typed(alloc: Global, table: &Table) -> Result<Raw, ConfigFlaw>
     ensures read { Finds seen result (typed_of (table_view table.now)) }

@@ -187,7 +187,8 @@ fn is_dispenser(key: &str) -> bool
 }
 
 /// Checks that a table of this section is allowed to have each key of `table`. The error is `UnknownKey` with the first
-/// key, in the order of the keys' bytes, that such a table isn't allowed to have, or that memory ran out.
+/// key, in the order of the keys' bytes, that such a table isn't allowed to have. The error can also be that memory ran
+/// out.
 pub fn check_keys(alloc: Global, table: &Table, section: Section) -> Result<(), ConfigFlaw>
     ensures read { Finds (λ x. x) result (known_in section (table_view table.now)) }
     ensures memory { result ≡ Err ConfigFlaw.OutOfMemory → CopiesKey section (table_view table.now) }
@@ -199,8 +200,8 @@ pub fn check_keys(alloc: Global, table: &Table, section: Section) -> Result<(), 
     Err(ConfigFlaw::UnknownKey(section, name))
 }
 
-/// Returns the items of a key's list as numbers. The error is `WrongType` for the first item that isn't an integer, or
-/// that memory ran out.
+/// Returns the items of a key's list as numbers. The error is `WrongType` for the first item that isn't an integer. The
+/// error can also be that memory ran out.
 pub fn read_integers(
     alloc: Global,
     values: &[Value],

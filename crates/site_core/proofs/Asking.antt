@@ -1,4 +1,4 @@
--- A question that is asked in one state is also asked in another state that gives the same context.
+-- A request that asks a program a question in one state also does so in another state that gives the same context.
 use Rattle.std.proofs.Common.{◌≡◌, ℕ, ◌<◌, ◌≤◌, ◌&&◌, Bool, true, false, length, Option, Some, None, Ok, Err, refl, ap, ◌∙◌, sym, arith}
 use Rattle.std.specs.Prelude.{if◌then◌else◌, nat_lt}
 use Rattle.std.specs.Result.{result_ok}
@@ -78,7 +78,7 @@ asks-price config s product price q h =
     let all = price-ok (is_within 1 product 8 && is_within 1 price 9999999) bad_amount (first_busy s) asked q h in
     record { question = all.2; within = all.0; free = all.1 }
 
--- ---- the question that a request is routed to
+-- ---- the question that a request asks a program, even if the state refuses it
 
 at-none : (s : SiteState) (n : ℕ) (q : Question) → at_number s.points n ≡ None → at_point s n q ≡ None
 unfolding at_point
@@ -88,7 +88,7 @@ at-some : (s : SiteState) (n : ℕ) (q : Question) (p : PointState) → at_numbe
 unfolding at_point
 at-some s n q p some = rw (some, at_point)
 
--- The question `q` is `asked`, and point `n` exists.
+-- The questions `q` and `asked` are the same, and point `n` exists.
 record Routes (s : SiteState) (n : ℕ) (asked q : Question) : Type 0 where
   point : PointState
   is_point : at_number s.points n ≡ Some point
@@ -98,7 +98,7 @@ routes : (s : SiteState) (n : ℕ) (asked q : Question) (o : Option PointState) 
 routes s n asked q None at h = absurd (none-some q (sym (at-none s n asked at) ∙ h))
 routes s n asked q (Some p) at h = record { point = p; is_point = at; question = sym (some-same asked q (sym (at-some s n asked p at) ∙ h)) }
 
--- If a program is asked a question for a request, then it is the question that `routed_request` gives.
+-- If the request `r` asks a program the question `q` in this state, then `routed_request` gives `q` for `r` too.
 asked-routed-request : (config : ConfigValue) (s : SiteState) (r : Request) (q : Question) → question_of config s r ≡ Some q
     → routed_request config s r ≡ Some q
 asked-routed-request config s (request.Release n amount) q h =
@@ -122,7 +122,7 @@ pub asked-routed : (config : ConfigValue) (s : SiteState) (till : ℕ) (r : Requ
     → routed config s till r ≡ Some q
 asked-routed config s till r q h = asked-routed-till config s r q (is_till config till) h
 
--- ---- questions that are given the same context
+-- ---- questions with the same context
 
 release-again : (config : ConfigValue) (s : SiteState) (n amount : ℕ) (p : PointState) → at_number s.points n ≡ Some p → is_within 1 amount 999999999 ≡ true
     → is_ready p.state ≡ true → nat_lt (length p.unpaid) 2 ≡ true → release_question config s n amount ≡ Ok (record {

@@ -1,6 +1,10 @@
--- A site carries an opening into the next day, unless a number that only grows is too great.
+-- What a site leaves for the next day is an opening, unless one of these numbers, which only grow, is too great:
+-- - the number of a point's newest transaction
+-- - the total in cents of what was cleared
+-- - the count of what was cleared
+-- - the count of versions
 use Rattle.std.proofs.Common.{◌≡◌, ℕ, ◌+◌, ◌-◌, ◌≤◌, ◌<◌, List, [], ◌∷◌, length, get_or, Bool, true, false, zero, suc, arith, Option, Some, None, refl, sym, ◌∙◌, subst}
-use Rattle.std.specs.Prelude.{All, ◌≢◌, ◌==◌, reverse, if◌then◌else◌, nat_le, slice_get, slice_index_or}
+use Rattle.std.specs.Prelude.{All, ◌==◌, reverse, if◌then◌else◌, nat_le, slice_get, slice_index_or}
 use Rattle.std.specs.List.{range_with_len}
 use Rattle.std.proofs.lemmas.List.{get_or-reverse, length-reverse}
 use Rattle.std.proofs.lemmas.List.Elements.{All-map, All-set}
@@ -18,7 +22,7 @@ use Rattle.program_slots.specs.Value.{SlotsValue, Version}
 use Rattle.site_core.specs.declared.opening.OpeningFault.{OpeningFault}
 use Rattle.site_core.specs.declared.opening.OpeningFault.TheVariants as fault
 use Rattle.site_core.specs.Opening.{IsOpening, OpeningValue}
-use Rattle.site_core.specs.Fitting.{IsFirstLimitFault, IsLimitOrMemoryFault, Misfits}
+use Rattle.site_core.specs.Fitting.{IsFirstLimitFault, Misfits}
 use Rattle.site_core.specs.Limits.{ConfigValue, IsConfig}
 use Rattle.site_core.specs.State.{SiteState, at_number, fresh_state, opened_state, opening_state}
 use Rattle.site_core.specs.SiteInvariant.{IsConsistent}
@@ -86,9 +90,10 @@ pub holders_kept : (config : ConfigValue) (past : List Entry) (s : SiteState) �
     → All (IsHeldWithin config.tills) s.points
 holders_kept config past s l first = after_all config.tills (AreHeld config.tills) (holder_stays config.tills) config refl first past s l
 
--- ---- the versions in force are accepted and good
+-- ---- the verifier accepts the programs of the versions in force, and each run of these programs ends
 
--- If there is a load, its program is accepted and good.
+-- If there is a load, the verifier accepts its program, and the program is good: it can be decoded, and each run of it
+-- ends and changes only declared counters.
 abbrev IsGoodLoad : Option (ℕ × ProgramText) → Type 0
 IsGoodLoad None = Unit {0}
 IsGoodLoad (Some l) = IsGood l.1 × (refusal_of l.1 ≡ None)
@@ -144,9 +149,12 @@ all_reversed P entries all = λ k d lt.
     let less : k < length entries = omega (arith, lt, length-reverse entries) in
     subst P (sym (get_or-reverse entries k d less)) (all (length entries - 1 - k) d (omega (arith, less)))
 
--- ---- what a site leaves is an opening, unless a number that only grows is too great
+-- ---- what a site leaves is an opening, unless the number of a transaction, a total or a count is too great
 
--- An opening whose points and prices are right has the fault that was found in the numbers that only grow.
+-- An opening has these numbers, which only grow: those of its points' newest transactions, the total in cents and the
+-- count of what was cleared, and the count of versions. Let the opening `o` have `count` points and no price above
+-- 9,999,999 thousandths, and let `f` be the fault of the first of these numbers that is too great. Then `f` is the
+-- first fault of `o`.
 pub limit_fault_is_first : (count : ℕ) (o : OpeningValue) (f : OpeningFault) → length o.points ≡ count → All (λ price. price ≤ 9999999) o.prices
     → IsFirstLimitFault o.points o.cleared o.clears o.versions (Some f) → Misfits count o f
 limit_fault_is_first count o fault.Points points prices h = absurd h
@@ -160,20 +168,8 @@ limit_fault_is_first count o fault.Rules points prices h = absurd h
 limit_fault_is_first count o fault.DuplicateVersion points prices h = absurd h
 limit_fault_is_first count o fault.OutOfMemory points prices h = absurd h
 
-pub grown_alone : (points : List PointState) (cleared clears versions : ℕ) (f : OpeningFault) → IsFirstLimitFault points cleared clears versions (Some f)
-    → IsLimitOrMemoryFault f × (f ≢ fault.OutOfMemory)
-grown_alone points cleared clears versions fault.Points h = absurd h
-grown_alone points cleared clears versions fault.Prices h = absurd h
-grown_alone points cleared clears versions fault.Transactions h = (tt, λ e. absurd (cc))
-grown_alone points cleared clears versions fault.Cleared h = (tt, λ e. absurd (cc))
-grown_alone points cleared clears versions fault.Clears h = (tt, λ e. absurd (cc))
-grown_alone points cleared clears versions fault.Versions h = (tt, λ e. absurd (cc))
-grown_alone points cleared clears versions fault.Slots h = absurd h
-grown_alone points cleared clears versions fault.Rules h = absurd h
-grown_alone points cleared clears versions fault.DuplicateVersion h = absurd h
-grown_alone points cleared clears versions fault.OutOfMemory h = absurd h
-
--- A site has this configuration, history, state and slots, and these are its numbers that only grow.
+-- In this module a site has this configuration, history, state and slots. `points` are its points, `totals` are the
+-- total in cents and the count of what was cleared, and `n` is how many versions there have been.
 module _ (config : ConfigValue) (history : List Entry) (s : SiteState) (slots : SlotsValue) (site : SiteValue)
     (site_is : record { config = config; history = history; state = s } ≡ site) (good : IsConfig config) (k : IsConsistent config history s slots)
     (points : List PointState) (totals : ℕ × ℕ) (n : ℕ) (points_are : points ≡ s.points) (totals_are : totals ≡ (s.cleared, s.clears))

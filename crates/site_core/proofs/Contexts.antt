@@ -24,7 +24,7 @@ use Rattle.site_core.specs.declared.context.Field.{Field}
 use Rattle.site_core.specs.declared.context.Field.TheVariants.{Four, Eight}
 use Rattle.site_core.specs.Context.{context, fields, laid, field_or_zero, field_of_question_point}
 
--- ---- fields
+-- ---- at which bytes a context has the point's state and the numbers of busy points and of unpaid transactions
 
 -- The four bytes from place `at` on; 0 past the end.
 four : List ℕ → ℕ → List ℕ
@@ -97,7 +97,7 @@ context-unpaid : (layout : Layout) (s : SiteState) (till moment : ℕ) (q : Ques
     ≡ little_bytes 4 (field_of_question_point s q (λ p. length p.unpaid))
 context-unpaid layout s till moment q = ap (λ bytes. four bytes 48) (context-bytes layout s till moment q) ∙ fields-unpaid layout s till moment q
 
--- ---- the question's point
+-- ---- a context tells whether the question's point is ready, and its number of unpaid transactions, if below 2^32
 
 ready-byte : ℕ → Bool
 ready-byte x = x == 3 || x == 4
@@ -129,7 +129,8 @@ same-ready layout s t till moment n m q r p o at here there_at there same =
     context-state layout t till moment r ∙ ap (λ x. x % 256) (of-point t r m o (λ x. state_number x.state) there_at there) in
     by-byte p.state ∙ ap ready-byte (sym mine ∙ ap (λ bytes. get_or bytes 12 0) same ∙ theirs) ∙ sym (by-byte o.state)
 
--- If two contexts are the same, then the points of their questions have the same number of unpaid transactions.
+-- If two contexts are the same, then the points of their questions have the same number of unpaid transactions. Fewer
+-- than 2^32 must be unpaid at point p, and fewer than 2 at point o.
 pub same-unpaid : (layout : Layout) (s t : SiteState) (till moment n m : ℕ) (q r : Question) (p o : PointState) → q.point ≡ n → at_number s.points n ≡ Some p
     → r.point ≡ m → at_number t.points m ≡ Some o → field_of_question_point s q (λ x. length x.unpaid) < 4294967296 → length o.unpaid < 2
     → bytes_of (context layout s till moment q) ≡ bytes_of (context layout t till moment r) → length p.unpaid ≡ length o.unpaid
@@ -140,7 +141,7 @@ same-unpaid layout s t till moment n m q r p o at here there_at there fits few s
     sym (context-unpaid layout s till moment q) ∙ ap (λ l. four l 48) same ∙ context-unpaid layout t till moment r in
     sym mine ∙ four-same (field_of_question_point s q (λ x. length x.unpaid)) (field_of_question_point t r (λ x. length x.unpaid)) fits (omega (arith, theirs)) bytes ∙ theirs
 
--- ---- busy points
+-- ---- a context tells whether any point is busy, if fewer than 2^32 points are
 
 abbrev busy : PointState → Bool
 busy p = is_busy p.state
@@ -180,7 +181,8 @@ first-none : (s : SiteState) → busy_points s ≡ 0 → first_busy s ≡ None
 unfolding first_busy busy_points
 first-none s h = ap (option_map (λ (p : PointState). p.state)) (none-counted s.points (counted s.points ∙ h))
 
--- If two contexts are the same and no point is busy in one of the states, then no point is busy in the other.
+-- If two contexts are the same, fewer than 2^32 points are busy in state s, and none is busy in state t, then none is
+-- busy in state s.
 pub same-busy : (layout : Layout) (s t : SiteState) (till moment : ℕ) (q r : Question) → busy_points s < 4294967296 → first_busy t ≡ None
     → bytes_of (context layout s till moment q) ≡ bytes_of (context layout t till moment r) → first_busy s ≡ None
 same-busy layout s t till moment q r fits none same =
@@ -189,7 +191,7 @@ same-busy layout s t till moment q r fits none same =
     sym (context-busy layout s till moment q) ∙ ap (λ l. four l 44) same ∙ context-busy layout t till moment r in
     first-none s (four-same (busy_points s) (busy_points t) fits (omega (arith, zero_there)) bytes ∙ zero_there)
 
--- ---- views
+-- ---- if the views of two states have the same points and prices, they also have the same count of points
 
 there : List PointView → ℕ
 there [] = 0
@@ -220,7 +222,8 @@ view-there : (s : SiteState) → there (view_of s).points ≡ (view_of s).count
 unfolding view_of seen_points
 view-there s = there-seen s.points (32 - length s.points)
 
--- Views with the same points and prices are the same: they also count the same number of points.
+-- If the views of two states have the same points and prices, then the views are the same: they also have the same
+-- count of points.
 pub same-view : (s t : SiteState) (now view : View) → now ≡ view_of s → view ≡ view_of t → now.points ≡ view.points → now.prices ≡ view.prices → now ≡ view
 same-view s t now view mine theirs points prices =
     let many : now.count ≡ view.count =
@@ -228,7 +231,7 @@ same-view s t now view mine theirs points prices =
     (λ (v : View). there v.points) theirs ∙ view-there t ∙ ap (λ (v : View). v.count) (sym theirs) in
     λ i. record { count = many i; points = points i; prices = prices i }
 
--- ---- the fields that the code lays
+-- ---- the bytes of the fields that the code writes are the bytes of the context
 
 pub shared-first : (s : SiteState) (till moment : ℕ) (q : Question) → take 13 (fields layouts.Two s till moment q) ≡ fields layouts.One s till moment q
 shared-first s till moment q = refl

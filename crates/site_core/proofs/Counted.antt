@@ -1,4 +1,5 @@
--- When the declared counters of two lists are the same, and for which counters an entry has values.
+-- Two lists of 32 counters agree (`Agrees`) if each of the declared counters 0 to 31 is the same in both. A run's entry
+-- has values of declared counters only, and these don't depend on the other counters.
 use Rattle.std.proofs.Common.{◌≡◌, ℕ, Bool, true, false, map, ◌/◌, ◌%◌, ◌^◌, ◌*◌, ◌<◌, ◌≤◌, ◌⊎◌, length, ◌∙◌, sym, ap, inl, inr, arith, eq-eqb, refl, replicate, Option, Some, None}
 use Rattle.std.specs.Prelude.{IsTrue}
 use Rattle.std.proofs.lemmas.List.{get_or_past}
@@ -20,7 +21,7 @@ pub all-agree : (declared : ℕ) (a b : Counters) → length a ≡ 32 → length
     → ((k : ℕ) → k < 32 → IsTrue (is_declared declared k) → counter a k ≡ counter b k) → Agrees declared b a
 all-agree declared a b la lb same = λ k bit. at-place a b k la lb (λ lt. same k lt (eq-eqb (declared / 2 ^ k % 2) 1 bit)) (cases_lt k 32)
 
--- An entry has no values of counters above the last declared one.
+-- If no counter from c on is declared, and k is at least c, then an entry has no values of counter k.
 pub none_above : (mask : ℕ) (before after : Counters) (c k : ℕ) → mask / 2 ^ c ≡ 0 → c ≤ k → count_of mask before after k ≡ None
 none_above mask before after c k e l =
     let some : 1 ≤ 2 ^ c = one-le-pow c 2 (omega arith) in
@@ -38,7 +39,8 @@ kept-if : (d : Bool) (before after left new : ℕ × ℕ) → new ≡ (if d then
 kept-if true before after left new is = ap (λ (x : ℕ × ℕ). Some (before.0, x.0)) (sym is)
 kept-if false before after left new is = refl
 
--- An entry has the same values of counters, whether the declared ones are read before or after they are adopted.
+-- `own` are the counters before a run. If `new` has the declared counters of `after` and all other counters of `own`,
+-- then an entry has the same values of counters, whether the counters after the run are `after` or `new`.
 pub counts-adopted : (mask : ℕ) (own after new : Counters) → ((c : ℕ) → counter new c ≡ adopted mask after own c) → counts mask own after ≡ counts mask own new
 unfolding counts
 counts-adopted mask own after new is =

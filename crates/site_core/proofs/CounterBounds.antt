@@ -1,4 +1,4 @@
--- A counter keeps its bound, whatever program runs, and so through each event of a history.
+-- Each counter keeps its bound in a run of any program, and so through each legal history.
 use Rattle.std.proofs.Common.{◌≡◌, ℕ, ◌+◌, ◌-◌, ◌/◌, inl, inr, List, length, Bool, true, false, Option, Some, None}
 use Rattle.std.proofs.Common.{refl, sym, ap, ◌∙◌, subst, arith, zero, suc}
 use Rattle.std.specs.Prelude.{◌*◌, ◌==◌, if◌then◌else◌, nat_le, ℤ, IfSome, slice_set}
@@ -46,7 +46,7 @@ set_bounds counters c v q =
       | inr other ↦ ap (λ x. x.1) (get_or-set_other counters c q cell (0, 0) other)
     ]
 
--- ---- one step of any program
+-- ---- a step that sets a register, jumps or stores keeps each counter's bound
 
 abbrev Keeps : Counters → Next → Type 0
 Keeps before (Continues t) = HaveSameBounds t.counters before
@@ -87,7 +87,7 @@ value_keeps s i size (Context k) = keeps_keeps s i size (Context k)
 value_keeps s i size (Stack k) = keeps_keeps s i size (Stack k)
 value_keeps s i size Unset = tt
 
--- ---- calls of helpers
+-- ---- a call of a helper keeps each counter's bound, and so does each instruction
 
 abbrev AnswerKeeps : Counters → HelperAnswer → Type 0
 AnswerKeeps before a = HaveSameBounds a.counters before
@@ -185,7 +185,7 @@ step_keeps bytes declared context view s =
     (λ i. some_keeps s.counters (form_of i.opcode) (λ form. machine_act declared context view s i (imm_at bytes (s.pc + 1)) form)
     (λ form. act_keeps declared context view s i (imm_at bytes (s.pc + 1)) form))
 
--- ---- a run
+-- ---- a run of any program keeps each counter's bound
 
 abbrev EndKeeps : Counters → Outcome → Type 0
 EndKeeps before (Ended r after) = HaveSameBounds after before
@@ -220,7 +220,7 @@ ran_keeps (Ended r after) before h = h
 ran_keeps GotStuck before h = λ c. refl
 ran_keeps (Running s) before h = λ c. refl
 
--- ---- a history
+-- ---- a legal history keeps each counter's bound
 
 abbrev HasBounds : Counters → SiteState → Type 0
 HasBounds bounds s = HaveSameBounds s.counters bounds

@@ -1,4 +1,5 @@
--- On the next day a site's step has the same effect as if the day before had gone on.
+-- On the next day an event has the same effect as if the day before had gone on, as long as the two days together have
+-- fewer than 4,096 versions.
 use Rattle.std.proofs.Common.{◌≡◌, ℕ, ◌+◌, ◌-◌, ◌<◌, ◌≤◌, List, [], ◌∷◌, ◌++◌, length, map, Option, Some, None, refl, ap, sym, subst, arith, get_or, zero, suc}
 use Rattle.std.proofs.Common.{Bool, true, false}
 use Rattle.std.specs.Prelude.{reverse, ◌&&◌, ◌==◌, if◌then◌else◌, nat_lt, All, Result, Ok, Err, IfOk}
@@ -29,8 +30,8 @@ use Rattle.site_core.specs.Step.{effect, effect_of, asked, load_reply}
 use Rattle.site_core.specs.Site.{SiteValue}
 use Rattle.site_core.specs.Days.{next_day, with_number_raised}
 
--- The history of both days together, newest entry first: the next day's entries, `later` (newest first too), with
--- numbers raised by the length of the site's history, and then the entries of the site.
+-- The history of a site's day and of the next day together, newest entry first: the next day's entries, `later` (newest
+-- first too), with numbers raised by the length of the site's history, and then the entries of the site.
 abbrev pub followed : SiteValue → List Entry → List Entry
 followed site later = map (with_number_raised (length site.history)) later ++ reverse site.history
 
@@ -43,7 +44,7 @@ counted-sum : (all day before : ℕ) (o : Option (ℕ × ProgramText)) → all �
 counted-sum all day before None h = h
 counted-sum all day before (Some l) h = omega arith
 
--- The history of both days together has as many versions as the two days have.
+-- `followed`, the history of both days together, has as many versions as `later` and the site's history have together.
 pub versions-followed : (site : SiteValue) (later : List Entry) → versions (followed site later) ≡ versions later + versions (reverse site.history)
 versions-followed site [] = omega arith
 versions-followed site (e ∷ later) =
@@ -57,7 +58,7 @@ counted-more n (Some l) = omega arith
 pub versions-more : (e : Entry) (later : List Entry) → versions later ≤ versions (e ∷ later)
 versions-more e later = counted-more (versions later) (loaded e.act e.reply)
 
--- The next version has the same number after both days' history as on the next day.
+-- The next version has the same number after the history of both days (`followed`) as after `later` on the next day.
 next-number : (site : SiteValue) (later : List Entry) → versions_before site.config + versions (followed site later) + 1
     ≡ versions_before (next_day site) + versions later + 1
 next-number site later = let n = versions-followed site later in omega arith
@@ -68,7 +69,8 @@ abbrev newest : ℕ → ℕ → Option Version → Option (ℕ × ProgramText) �
 newest slot number older None = older
 newest slot number older (Some l) = if l.0 == slot then Some (record { number = number; program = l.1 }) else older
 
--- In each of slots 0 to 15 the same version is in force after both days' history as on the next day.
+-- In each of slots 0 to 15 the same version is in force after the history of both days (`followed`) as after `later` on
+-- the next day.
 in_force-followed : (site : SiteValue) (slot : ℕ) (later : List Entry) → slot ≤ 15
     → in_force site.config slot (followed site later) ≡ in_force (next_day site) slot later
 in_force-followed site slot [] h =
@@ -93,7 +95,7 @@ action-within config (request.Preset n amount) is = (point-slots config.points (
 action-within config (request.Price product price) is = is.price_slot
 action-within config _ is = tt
 
--- If a question isn't refused, it is the one that was asked.
+-- If `rest` is the question q or a refusal, then so is what `refuse_unless` returns for it.
 refuse_unless-kept : (q : Question) (test : Bool) (refusal : Reply) (rest : Result Question Reply) → IfOk rest (λ r. r ≡ q)
     → IfOk (refuse_unless test refusal rest) (λ r. r ≡ q)
 refuse_unless-kept q true refusal rest h = h
@@ -123,7 +125,8 @@ kind-kept s q Release = at_point-kept s q
 kind-kept s q Preset = at_point-kept s q
 kind-kept s q Price = busy-kept q (first_busy s)
 
--- A decision has the same effect after both days' history as on the next day.
+-- If the question's slot is 0 to 15, its decision has the same effect after the history of both days (`followed`) as
+-- after `later` on the next day.
 decided-followed : (site : SiteValue) (later : List Entry) (s : SiteState) (till moment : ℕ) (q : Question) (r : Result Question Reply) → q.slot ≤ 15
     → IfOk r (λ x. x ≡ q) → decided site.config (followed site later) s till moment r ≡ decided (next_day site) later s till moment r
 unfolding decided
@@ -132,15 +135,17 @@ decided-followed site later s till moment q (Ok x) h same =
     let within : x.slot ≤ 15 = subst (λ (y : Question). y.slot ≤ 15) (sym same) h in
     rw (in_force-followed site x.slot later within, decided) refl
 
--- What a request leads to has the same effect after both days' history as on the next day.
+-- `a` is what a request leads to: a question to a program, a command to a point, or the display of a point's state. If
+-- the slot of a question is 0 to 15 (`IsWithin`), then `a` has the same effect after the history of both days
+-- (`followed`) as after `later` on the next day.
 action-followed : (site : SiteValue) (later : List Entry) (s : SiteState) (till moment : ℕ) (a : RequestAction) → IsWithin a
     → effect_of site.config (followed site later) s till moment a ≡ effect_of (next_day site) later s till moment a
 action-followed site later s till moment (action.Decision q) h = decided-followed site later s till moment q (admitted s q) h (kind-kept s q q.kind)
 action-followed site later s till moment (action.Command n command) h = refl
 action-followed site later s till moment (action.Show n) h = refl
 
--- A load has the same reply after both days' history as on the next day, while both days together have fewer than 4,096
--- versions.
+-- A load has the same reply after the history of both days (`followed`) as after `later` on the next day, as long as
+-- both together have fewer than 4,096 versions.
 load-followed : (site : SiteValue) (later : List Entry) (slot : ℕ) → versions (reverse site.history) + versions later < 4096
     → load_reply site.config slot (followed site later) ≡ load_reply (next_day site) slot later
 load-followed site later slot h =
@@ -149,8 +154,8 @@ load-followed site later slot h =
     let short : nat_lt (versions later) 4096 ≡ true = grind (arith, nat_tests) in
     rw (long, short, next-number site later) refl
 
--- An event has the same effect after both days' history as on the next day, while both days together have fewer than
--- 4,096 versions.
+-- An event has the same effect after the history of both days (`followed`) as after `later` on the next day, as long as
+-- both together have fewer than 4,096 versions.
 pub effect-followed : (site : SiteValue) (later : List Entry) (s : SiteState) (moment : ℕ) (act : Act) → IsConfig site.config
     → versions (reverse site.history) + versions later < 4096
     → effect site.config (followed site later) s moment act ≡ effect (next_day site) later s moment act

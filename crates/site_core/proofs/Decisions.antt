@@ -1,5 +1,5 @@
--- The effect of a question: if it is refused before a program is looked for, if its slot has no program, and if it has
--- one.
+-- The effect of a question in three cases: it is refused before a program is looked for, its slot has no program, or
+-- its slot has one.
 use Rattle.std.proofs.Common.{◌≡◌, ℕ, List, Some, None, Ok, Err, refl, ap, ◌∙◌}
 use Rattle.decision_journal.specs.declared.entries.Entry.{Entry}
 use Rattle.till_request.specs.declared.act.Reply.{Reply}

@@ -1,5 +1,5 @@
--- Lists of fixed length that are filled from the front, and the copy of points and prices that a station keeps for
--- helpers.
+-- If a list of fixed length is filled from the front, one place after another, the places behind keep their first
+-- value. If a station's point is replaced, and so is its place in the view for helpers, the view stays right.
 use Rattle.std.proofs.Common.{◌≡◌, ℕ, zero, suc, ◌-◌, ◌<◌, ◌≤◌, List, [], ◌∷◌, ◌++◌, length, map, take, replicate, set, get_or, refl, ap, arith, ◌∙◌, sym, drop, max}
 use Rattle.std.proofs.lemmas.List.{length-set, drop-replicate}
 use Rattle.bpf_model.specs.declared.machine.View.{View}
@@ -27,7 +27,8 @@ seen-set points i p lt =
     let same : length (set points i p) ≡ length points = length-set points i p in
     set-map seen no_point points i (32 - length points) p lt ∙ ap (λ n. map seen (set points i p) ++ replicate (32 - n) no_point) (sym same)
 
--- A view with the points and prices of a state is that state's view.
+-- If a view has the number of points, the points and the prices that programs see of a state, then it is that state's
+-- view.
 pub view-is : (s : SiteState) (v : View) → v.count ≡ length s.points → v.points ≡ seen_points s.points → v.prices ≡ s.prices → v ≡ view_of s
 unfolding view_of
 view-is s v count points prices = λ i. record { count = count i; points = points i; prices = prices i }
@@ -36,7 +37,8 @@ view-is s v count points prices = λ i. record { count = count i; points = point
 pub place-below : (n m : ℕ) → 1 ≤ n → n ≤ m → n - 1 < m
 place-below n m one le = omega arith
 
--- The invariant of a station still holds after one of its points and its place in the view changed.
+-- The invariant of a station still holds after `p` replaces the point at place i, and `one`, which is what programs see
+-- of `p`, replaces what the station's view has at place i.
 pub keeps-seen : (points : List PointState) (view : View) (i : ℕ) (p : PointState) (one : PointView) → i < length points → length points ≤ 32
     → length view.prices ≡ 8 → view.count ≡ length points → view.points ≡ seen_points points → one ≡ seen p
     → (length (set points i p) ≤ 32) × (length view.prices ≡ 8) × (view.count ≡ length (set points i p))
@@ -45,7 +47,7 @@ keeps-seen points view i p one lt most prices count shown is =
     let same : length (set points i p) ≡ length points = length-set points i p in
     (omega (arith, same), prices, count ∙ sym same, (λ j. set (shown j) i (is j)) ∙ seen-set points i p lt)
 
--- Two lists are the same if they are the same at each place before n, and from n on.
+-- If two lists of the same length are the same at each place before n, and from n on, then they are the same.
 pub same-both : {A : Type 0} (n : ℕ) (xs ys : List A) → length xs ≡ length ys → ((k : ℕ) (d : A) → k < n → get_or xs k d ≡ get_or ys k d)
     → drop n xs ≡ drop n ys → xs ≡ ys
 same-both zero xs ys len front rest = rest
@@ -68,7 +70,8 @@ drop-filled f z (x ∷ xs) (suc n) m le =
     let left : (m - 1) - n ≡ m - suc n = omega arith in
     ap (λ k. drop n (map f xs ++ replicate k z)) less ∙ drop-filled f z xs n (m - 1) (omega arith) ∙ ap (λ k. replicate k z) left
 
--- Two views of at most 32 points show the same from the greater of their counts on.
+-- If n is the greater of the counts of two views of at most 32 points, then n is at most 32, and the points of both
+-- views are the same from place n on.
 pub same-others : (s t : SiteState) (v w : View) (n : ℕ) → v ≡ view_of s → w ≡ view_of t → length s.points ≤ 32 → length t.points ≤ 32
     → n ≡ max v.count w.count → (n ≤ 32) × (drop n v.points ≡ drop n w.points)
 unfolding view_of seen_points

@@ -19,7 +19,8 @@ use Rattle.site_core.specs.Context.{context}
 use Rattle.site_core.specs.Decide.{Effect, denied, grant, granted_amount, command_of, after_command, verdict, counts}
 use Rattle.site_core.proofs.Points.{at_number-read}
 
--- After a command, a point that follows its table is as the table says, or as it was before if it refused the command.
+-- If `FollowsTable` holds, then the new point is the one that the table gives, or the old point if the table refuses
+-- the command.
 after-is : (a : StepResult (Option ℕ)) (p new : PointState) (outcome : Result (Option ℕ) PointFault) → FollowsTable a p outcome new
     → (elim a as (λ _. PointState) [ Ok o ↦ o.0 | Err f ↦ p ]) ≡ new
 after-is (Ok (q, given)) p new outcome h = sym h.1
@@ -44,7 +45,9 @@ grant-is s till r q p new outcome one le is answers =
     grant-some s till r q p (at_number-read s.points q.point p one le is) ∙ ap
     (λ x. (g, with_point s q.point x)) (after-is (command_step p till (command_of q.kind g)) p new outcome answers)
 
--- One more transaction at one point keeps the site's numbers within the bounds of one more entry.
+-- `Bounded k` says of a site that the numbers of its points' newest transactions, and the total and count of what was
+-- cleared, are within the bounds that hold once a day has k entries. If it holds, and one point gets at most one more
+-- transaction, then `Bounded (k + 1)` holds.
 pub bounded-with : (k : ℕ) (s : SiteState) (n : ℕ) (p new : PointState) → Bounded k s → n ≤ length s.points → 1 ≤ n → p ≡ get_or s.points (n - 1) p
     → new.last ≤ p.last + 1 → Bounded (k + 1) (with_point s n new)
 bounded-with k s n p new b le one is last =
@@ -113,10 +116,13 @@ module _ (s : SiteState) (till moment r : ℕ) (q : Question) (v : Version) (c :
       verdict-grant s till moment r g.0 q v c g.1 some refl
       ∙ ap effect-of (sym (applied_answer-grant (with_counters s c) till v.number r q some) ∙ is)
 
-  -- The effect of the decision has the reply and the state that `applied_answer` gives.
+  -- The program of version `v` answered r to the question `q` and left the counters `c`. If `applied_answer` gives the
+  -- reply `given` and the state `new` for this answer and the state `s` with the counters `c`, then the effect that
+  -- `verdict` gives has this reply and this state. Its run, `made-run`, has the slot of `q`, the number of `v`, the
+  -- answer r, the context, and the values of the declared counters before and after.
   pub verdict-is : verdict s till moment q v r c ≡ record { reply = given; run = Some made-run; after = new }
   verdict-is = verdict-by (r == 0) refl
 
--- A run doesn't change the numbers for which there are bounds.
+-- A run changes only counters, so `Bounded` still holds after it.
 pub bounded-counted : (k : ℕ) (s : SiteState) (c : Counters) → Bounded k s → Bounded k (with_counters s c)
 bounded-counted k s c b = record { last = b.last; cleared = b.cleared; clears = b.clears }

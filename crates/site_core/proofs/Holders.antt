@@ -1,4 +1,5 @@
--- A point's transactions stay held by nobody or by tills of the site.
+-- If each of a point's unpaid transactions is held by nobody or by a till of the site, this stays true after each event
+-- of the point's dispenser and each command of a till of the site.
 use Rattle.std.proofs.Common.{ℕ, ◌+◌, ◌≤◌, length, List, [], ◌∷◌, ◌++◌, Bool, true, false, Option, Some, None, Ok, Err, arith}
 use Rattle.std.specs.Prelude.{◌==◌, ◌&&◌, ◌||◌, not, nat_le, nat_lt, if◌then◌else◌, slice_index_or, All}
 use Rattle.std.proofs.lemmas.List.Elements.{All-filter, All-map, All-push}
@@ -23,8 +24,8 @@ use Rattle.site_core.specs.declared.question.Kind.TheVariants.{Release, Preset, 
 abbrev IsHeld : ℕ → Transaction → Type 0
 IsHeld tills t = t.holder ≤ tills
 
--- If the step's result is a new point, each of its unpaid transactions is held by nobody, or by a till whose number is
--- at most `tills`. Always true of a refusal.
+-- If the table's result for an event or a command is a new point, each of this point's unpaid transactions is held by
+-- nobody, or by a till whose number is at most `tills`. Always true if the result is a refusal.
 abbrev pub LeavesHeld : {T : Type 0} → ℕ → StepResult T → Type 0
 LeavesHeld tills (Ok o) = IsHeldWithin tills o.0
 LeavesHeld tills (Err f) = Unit {0}
@@ -118,7 +119,8 @@ released_held tills granted p h =
 preset_held : (tills granted : ℕ) (p : PointState) → IsHeldWithin tills p → LeavesHeld tills (command_step p 0 (command.Preset granted))
 preset_held tills granted p h = tested tills (is_ready p.state) (Ok (record p { preset = granted }, None)) (Err (WrongState p.state)) h tt
 
--- After a command of one of the tills, a point's transactions are still held by nobody or by one of the tills.
+-- If each of a point's unpaid transactions is held by nobody or by one of the tills, this stays true after a command of
+-- one of the tills.
 pub command_held : (tills till : ℕ) (p : PointState) (c : Command) → till ≤ tills → IsHeldWithin tills p → LeavesHeld tills (command_step p till c)
 command_held tills till p command.OpenPoint le h =
     tested tills (is_closed p.state) (Ok (record p { state = ready_state p.nozzle }, None)) (Err (WrongState p.state)) h tt
@@ -140,7 +142,7 @@ after_if : (tills : ℕ) (p : PointState) (a : StepResult (Option ℕ)) → IsHe
 after_if tills p (Ok o) h k = k
 after_if tills p (Err f) h k = h
 
--- After a grant, a point's transactions are still held by nobody or by one of the tills.
+-- If each of a point's unpaid transactions is held by nobody or by one of the tills, this stays true after a grant.
 pub grant_held : (tills till g : ℕ) (p : PointState) (k : Kind) → IsHeldWithin tills p → IsHeldWithin tills (after_command p till (command_of k g))
 grant_held tills till g p Release h = after_if tills p (command_step p till (command.Release g)) h (released_held tills g p h)
 grant_held tills till g p Preset h = after_if tills p (command_step p till (command.Preset g)) h (preset_held tills g p h)
@@ -163,7 +165,8 @@ order_held : (tills : ℕ) (p : PointState) (o : Option Order) → IsHeldWithin 
 order_held tills p None h = tt
 order_held tills p (Some x) h = h
 
--- After a dispenser's event, a point's transactions are still held by nobody or by one of the tills.
+-- If each of a point's unpaid transactions is held by nobody or by one of the tills, this stays true after a
+-- dispenser's event.
 pub event_held : (tills : ℕ) (p : PointState) (e : DispenserEvent) → IsHeldWithin tills p → LeavesHeld tills (event_step p e)
 event_held tills p (event.Up n) h =
     tested tills (p.nozzle == 0 && nat_le 1 n && nat_le n 8 && takes_up p.state) (Ok (record p { nozzle = n; state = state_after_up p.state }, None))

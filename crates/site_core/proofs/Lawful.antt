@@ -1,4 +1,6 @@
--- Each granted release of a legal history is lawful.
+-- Each granted release of a legal history is lawful (`LawfulRelease`). That is: the reply names the version in force;
+-- the run of this version ends with an answer that isn't 0; the point is ready and has room; and the granted amount is
+-- the least of the amount asked, the answer, and the point's preset if it has one.
 use Rattle.std.proofs.Common.{◌≡◌, ℕ, ◌<◌, Bool, true, false, List, [], ◌∷◌, length, Option, Some, None, Result, Ok, Err, refl, ap, ◌∙◌, sym}
 use Rattle.std.proofs.lemmas.Bool.{ltb-true, eqb-false}
 use Rattle.std.specs.Prelude.{IsTrue, if◌then◌else◌, ◌==◌, nat_lt}
@@ -80,7 +82,8 @@ verdict-granted : (s : SiteState) (till moment : ℕ) (q : Question) (v : Versio
 unfolding verdict
 verdict-granted s till moment q v r c some = rw (some, verdict)
 
--- The amount that is granted for a release at a point is the one that `granted_amount` gives.
+-- The amount that `grant` gives for a release at a point is what `granted_amount` computes from the amount that is
+-- asked, the program's answer r and the point's preset.
 grant-release : (s : SiteState) (till n amount r slot : ℕ) (p : PointState) → at_number s.points n ≡ Some p
     → (grant s till (record { kind = kind.Release; point = n; product = 0; asked = amount; slot = slot }) r).0 ≡ granted_amount kind.Release amount r p.preset
 unfolding grant

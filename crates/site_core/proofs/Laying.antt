@@ -30,7 +30,7 @@ pub laid-more : (fs : List Field) (i : ℕ) (d : Field) → i < length fs → la
 laid-more fs i d lt =
     ap laid (take_more fs i d lt) ∙ laid-append (take i fs) (get_or fs i d ∷ []) ∙ ap (λ bytes. laid (take i fs) ++ bytes) (laid-one (get_or fs i d))
 
--- Bytes that are as long as all fields have room for the next field after the bytes of the fields before it.
+-- The first i fields and the field after them take together at most as many bytes as all fields.
 pub laid-room : (fs : List Field) (i : ℕ) (d : Field) → i < length fs → length (laid (take i fs)) + size_of (get_or fs i d) ≤ length (laid fs)
 laid-room fs i d lt =
     let whole : length (laid fs) ≡ length (laid (take (i + 1) fs) ++ laid (drop (i + 1) fs)) =

@@ -1,5 +1,6 @@
--- A list of entries is a legal history of the next day exactly if, with raised numbers, it could have followed the
--- history of the day before.
+-- A list of entries is a legal history of the next day exactly if the history of the day before is still legal with
+-- these entries added, their numbers raised by the length of that history. This holds while both days together have at
+-- most 1,048,576 entries and fewer than 4,096 versions.
 use Rattle.std.proofs.Common.{◌≡◌, ◌+◌, ◌<◌, ◌≤◌, List, [], ◌∷◌, ◌++◌, length, map, refl, ap, ◌∙◌, sym, subst, arith, length-append}
 use Rattle.std.specs.Prelude.{reverse}
 use Rattle.std.proofs.lemmas.List.{reverse-append, length-reverse, length-map, map-append}
@@ -24,13 +25,14 @@ length-followed site later =
       length-reverse site.history,
     )
 
--- In the history of both days together (`followed`) the number of the next entry is greater than on the next day alone,
--- by the length of the first day's history.
+-- `followed` is the history of the site's day and the next day together. The number of the entry after `later` on the
+-- next day, raised by the length of the site's history, is the number of the entry after `followed`.
 numbers : (site : SiteValue) (later : List Entry) → length later + 1 + length site.history ≡ length (followed site later) + 1
 numbers site later = let l = length-followed site later in omega arith
 
--- If the next day's step makes this entry, then the step after both days' history makes the same entry with its number
--- raised by the length of the first day's history.
+-- If the site's history and `later` together have fewer than 4,096 versions, and the step after `later` on the next day
+-- makes the entry `e`, then the step after both together (`followed`) makes `e` with its number raised by the length of
+-- the site's history.
 step-on : (site : SiteValue) (later : List Entry) (before after : SiteState) (e : Entry) → IsConfig site.config
     → versions (reverse site.history) + versions later < 4096 → Step (next_day site) later before e.pass e.moment e.act e after
     → Step site.config (followed site later) before e.pass e.moment e.act (with_number_raised (length site.history) e) after
@@ -50,8 +52,9 @@ step-on site later before after e is few st =
       leaves = st.leaves ∙ ap (λ (x : Effect). x.after) (sym same);
     }
 
--- If the step after both days' history makes an entry with its number raised by the length of the first day's history,
--- then the next day's step makes the entry itself.
+-- If the site's history and `later` together have fewer than 4,096 versions, and the step after both together
+-- (`followed`) makes `e` with its number raised by the length of the site's history, then the step after `later` on the
+-- next day makes the entry `e`.
 step-back : (site : SiteValue) (later : List Entry) (before after : SiteState) (e : Entry) → IsConfig site.config
     → versions (reverse site.history) + versions later < 4096
     → Step site.config (followed site later) before e.pass e.moment e.act (with_number_raised (length site.history) e) after
@@ -78,7 +81,9 @@ step-back site later before after e is few st =
       leaves = st.leaves ∙ ap (λ (x : Effect). x.after) same;
     }
 
--- If a history of the next day is legal, then its entries, with raised numbers, legally follow the site's own history.
+-- If the site's history and `later` together have at most 1,048,576 entries and fewer than 4,096 versions, and `later`
+-- is a legal history of the next day, then both together are a legal history of the site, and lead to the same state.
+-- In both together (`followed`) the numbers of `later` are raised by the length of the site's history.
 goes-on : (site : SiteValue) (later : List Entry) (s : SiteState) → IsConfig site.config → Upholds site → length site.history + length later ≤ 1048576
     → versions (reverse site.history) + versions later < 4096 → Legal (next_day site) later s → Legal site.config (followed site later) s
 goes-on site [] s is u room few l = subst (λ t. Legal site.config (reverse site.history) t) (sym l) u.legal
@@ -87,8 +92,9 @@ goes-on site (e ∷ later) s is u room few l =
     let less : length (followed site later) < 1048576 = omega (arith, length-followed site later) in
     (l.0, goes-on site later l.0 is u (omega arith) fewer l.1, less, step-on site later l.0 s e is fewer l.3)
 
--- If entries, with raised numbers, legally follow the site's own history, then they are a legal history of the next
--- day.
+-- If the site's history and `later` together have fewer than 4,096 versions, and both together (`followed`) are a legal
+-- history of the site, then `later` is a legal history of the next day, and leads to the same state. In both together
+-- the numbers of `later` are raised by the length of the site's history.
 comes-back : (site : SiteValue) (later : List Entry) (s : SiteState) → IsConfig site.config → Upholds site
     → versions (reverse site.history) + versions later < 4096 → Legal site.config (followed site later) s → Legal (next_day site) later s
 comes-back site [] s is u few l = legal-unique site.config (reverse site.history) s site.state l u.legal

@@ -30,8 +30,8 @@ pub own_none : HaveOwnNumbers []
 unfolding IsDistinct
 own_none = tt
 
--- The function `have_own_numbers` rightly returns true for an empty list of slots. The next lemmas are about a list
--- that begins with a version.
+-- For an empty list of slots, `have_own_numbers` rightly returns true. `own_both` and `own_not` are about a list that
+-- begins with a version.
 pub own_end : (rules : List (Option Version)) → rules ≡ [] → IsTrue true ↔ HaveOwnNumbers rules
 own_end rules is = (λ _. subst HaveOwnNumbers (sym is) own_none, λ _. refl)
 
@@ -56,7 +56,8 @@ new_set (Some w ∷ rest) zero v n h e = (e, h.1)
 new_set (None ∷ rest) (suc k) v n h e = new_set rest k v n h e
 new_set (Some w ∷ rest) (suc k) v n h e = (h.0, new_set rest k v n h.1 e)
 
--- If a version with a new number is put into a slot, still no two slots have versions with the same number.
+-- If no two slots have versions with the same number, then this stays true when a version with a new number is put into
+-- a slot.
 pub own_set : (rules : List (Option Version)) (slot : ℕ) (v : Version) → HaveOwnNumbers rules → IsNewNumber rules v.number
     → HaveOwnNumbers (set rules slot (Some v))
 own_set [] zero v h new = h
@@ -68,9 +69,9 @@ own_set (Some w ∷ rest) (suc k) v h new =
     own_cons w (set rest k (Some v)) (new_set rest k v w.number (own_head w rest h) (flipped v.number w.number new.0))
     (own_set rest k v (own_tail w rest h) new.1)
 
--- ---- slot by slot
+-- ---- two slots that don't have versions with the same number
 
--- Two slots don't have versions with the same number.
+-- The two slots don't have versions with the same number.
 abbrev pub Differ : Option Version → Option Version → Type 0
 Differ None y = Unit {0}
 Differ (Some v) None = Unit {0}
@@ -149,8 +150,8 @@ taken-differ true false n program x y apart up on d = new-first n program y on
 taken-differ false true n program x y apart up on d = new-last n program x up
 taken-differ false false n program x y apart up on d = d
 
--- The version in force in a slot after one more entry, before which n versions were loaded: the program that the entry
--- loaded into this slot, with the number n + 1, or else the older version.
+-- The version in force in a slot after one more entry. Before this entry n versions were loaded. If the entry loaded a
+-- program into this slot, the version is this program with the number n + 1. Otherwise it is the older version.
 abbrev pub newest : ℕ → ℕ → Option Version → Option (ℕ × ProgramText) → Option Version
 newest slot n older None = older
 newest slot n older (Some l) = taken (l.0 == slot) n l.1 older
@@ -204,7 +205,7 @@ in_force-up_to config good slot [] =
 in_force-up_to config good slot (e ∷ past) =
     newest-up_to slot (versions_before config) (versions past) (in_force config slot past) (loaded e.act e.reply) (in_force-up_to config good slot past)
 
--- The versions in force in two slots don't have the same number.
+-- The versions in force in two different slots don't have the same number.
 pub in_force-differ : (config : ConfigValue) → IsConfig config → (i j : ℕ) → i < j → (past : List Entry)
     → Differ (in_force config i past) (in_force config j past)
 in_force-differ config good i j lt [] = opening-differ config.opening (length config.points) i j lt good.opening
@@ -212,6 +213,6 @@ in_force-differ config good i j lt (e ∷ past) =
     newest-differ i j (versions_before config + versions past) (in_force config i past) (in_force config j past) (loaded e.act e.reply) lt
     (in_force-up_to config good i past) (in_force-up_to config good j past) (in_force-differ config good i j lt past)
 
--- So no two slots that a site leaves for the next day have versions with the same number.
+-- No two of the 16 slots that a site leaves for the next day have versions with the same number.
 pub own_in_force : (config : ConfigValue) → IsConfig config → (past : List Entry) → HaveOwnNumbers (map (λ slot. in_force config slot past) (range_with_len 0 16))
 own_in_force config good past = own_range (λ slot. in_force config slot past) 0 16 (λ i j lt. in_force-differ config good i j lt past)

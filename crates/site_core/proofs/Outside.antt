@@ -1,5 +1,5 @@
--- A run that was made outside the site gives what the site's own step gives, if all that the run depends on is still
--- the same.
+-- A draft's program is run while the site can change. If all that the run depends on is still the same when the run is
+-- committed, then the commit gives what the site's own step gives.
 use Rattle.std.proofs.Common.{◌≡◌, ℕ, List, ◌∷◌, length, Bool, true, false, Option, Some, None, Ok, Err, refl, ap, ◌∙◌, sym, subst}
 use Rattle.std.specs.Prelude.{◌⊎◌, reverse, ◌==◌, if◌then◌else◌, IsSome, is_some, ◌<◌, Result, IfOk, OnErr}
 use Rattle.std.specs.declared.alloc.AllocError.{AllocError}
@@ -63,7 +63,7 @@ pub effect-decided : (config : ConfigValue) (past : List Entry) (s : SiteState) 
     → asked_question config s till r ≡ Some q → effect config past s moment (act.Till till r) ≡ decided config past s till moment (Ok q)
 effect-decided config past s till moment r q h = asked-till config past s till moment r q (is_till config till) h
 
--- A till's entry loads no program, so the slots still agree with the history.
+-- If the slots agree with a history, they still do once a till's entry is added, since it loads no program.
 pub agrees-till : (config : ConfigValue) (slots : SlotsValue) (past : List Entry) (entry : Entry) (till : ℕ) (r : Request) → Agrees config slots past → entry.act ≡ act.Till till r
     → Agrees config slots (entry ∷ past)
 agrees-till config slots past entry till r a is =
@@ -74,7 +74,12 @@ agrees-till config slots past entry till r a is =
       versions = rw (none, versions) a.versions;
     }
 
--- If `StillAsked` holds, then applying the answer of the draft's run performs the step for the draft's request.
+-- The site's step for the draft's request gives the reply and the run of `entry`, and the state `new` (`Performs`), if
+-- all of these are true:
+-- - `StillAsked` holds for the draft in the state `s`, and the slots agree with the history.
+-- - The draft's program, run on the draft's context and view and on the counters of `s`, ends with `r0` and `after`.
+-- - For `r0` and `after`, `verdict` gives the reply and the run of `entry`, and the state `new`.
+-- - `entry` has the draft's moment, till and request.
 pub performs-applied_answer : (config : ConfigValue) (past : List Entry) (s new : SiteState) (slots : SlotsValue) (draft : DraftValue) (q : Question) (r0 : ℕ)
     (after : Counters) (entry : Entry) → entry.moment ≡ draft.moment → entry.act ≡ act.Till draft.till draft.request → StillAsked config s slots draft q
     → Agrees config slots past → outcome draft.version.program draft.context draft.view s.counters ≡ Ended r0 after
@@ -134,7 +139,8 @@ till-run : (config : ConfigValue) (past : List Entry) (s : SiteState) (till mome
 till-run config past s till moment r true h = request-run config past s till moment r h
 till-run config past s till moment r false h = refl
 
--- If a request asks no question, or its slot has no program, then the step runs no program.
+-- If a till's request asks no question, or the slot of its question has no program, then the site's step for this
+-- request runs no program.
 pub runs-none : (config : ConfigValue) (past : List Entry) (s : SiteState) (till moment : ℕ) (r : Request)
     → (asked_question config s till r ≡ None) ⊎ ((q : Question) × (asked_question config s till r ≡ Some q) × (in_force config q.slot past ≡ None))
     → (effect config past s moment (act.Till till r)).run ≡ None
@@ -149,7 +155,8 @@ verdict-run s till moment q v r c false some =
     let g = grant (record s { counters = c }) till q r in
     subst (λ (e : Effect). IsSome e.run) (sym (verdict-grant s till moment r g.0 q v c g.1 some refl)) refl
 
--- If a request asks a question, and its slot has a version in force, then the step runs a program.
+-- If a till's request asks a question, and the question's slot has a version in force, then the site's step for this
+-- request runs a program.
 pub runs-some : (config : ConfigValue) (past : List Entry) (s : SiteState) (till moment : ℕ) (r : Request) (q : Question) (v : Version)
     → asked_question config s till r ≡ Some q → in_force config q.slot past ≡ Some v → IsSome (effect config past s moment (act.Till till r)).run
 runs-some config past s till moment r q v h some =
@@ -159,7 +166,8 @@ runs-some config past s till moment r q v h some =
 
 -- ---- what `begin` returns
 
--- If the step runs no program, then its reply is neither a grant nor S24.
+-- If the site's step for a till's request would run no program now, then the reply to this request would be neither a
+-- grant nor S24 (a denial by a program).
 undecided : (site : SiteValue) (till moment : ℕ) (r : Request) → run_now site till moment r ≡ None → is_decided (reply_now site till moment r) ≡ false
 undecided site till moment r none =
     effect-tells site.config (reverse site.history) site.state moment (act.Till till r) ∙ ap (λ (run : Option Run). is_some run) none
@@ -224,7 +232,8 @@ pub begins-ok : (config : ConfigValue) (history : List Entry) (s : SiteState) (s
 begins-ok config history s slots till moment r (Ok b) agrees less d = begins config history s slots till moment r b agrees less d
 begins-ok config history s slots till moment r (Err e) agrees less d = d
 
--- If memory ran out for a draft, then the history isn't full, and the step would run a program now.
+-- If the history isn't full, `result` is an error, and `WouldRun` holds for the request, then the step would run a
+-- program for the request now. Nothing is claimed if `result` isn't an error.
 pub begins-err : (config : ConfigValue) (history : List Entry) (s : SiteState) (slots : SlotsValue) (till moment : ℕ) (r : Request)
     (result : Result Begin AllocError) → Agrees config slots (reverse history) → length history < 1048576
     → OnErr result (WouldRun config s slots till r)
@@ -233,13 +242,15 @@ begins-err config history s slots till moment r (Ok b) agrees less w = w
 begins-err config history s slots till moment r (Err e) agrees less w =
     (less, runs-some config (reverse history) s till moment r w.0 w.1 w.2 (agrees.in_force w.0.slot ∙ w.3))
 
--- What a run would be made on is the same, whether versions are looked up in the slots or in the history.
+-- If the slots agree with the history, then what a run would be made on is the same, whether versions are looked up in
+-- the slots or in the history.
 pub basis-is : (config : ConfigValue) (history : List Entry) (s : SiteState) (slots : SlotsValue) (draft : DraftValue) → Agrees config slots (reverse history)
     → basis_in config s slots draft ≡ basis (record { config = config; history = history; state = s }) draft
 basis-is config history s slots draft agrees =
     λ i. basis_of (λ slot. sym (agrees.in_force slot) i) s draft.till draft.moment (routed config s draft.till draft.request)
 
--- If the run of the performed event is the draft's, then so is the run of the entry that the site makes.
+-- If `Performs` holds for the act `asked` and the entry `p`, and `IsRunOf ready` holds for the run of `p`, then
+-- `IsRunOf ready` also holds for the run of the entry that the site makes for this act.
 pub entered-run : (site : SiteValue) (pass moment : ℕ) (asked : Act) (ready : ReadyValue) (p : Entry) (new : SiteState) (slots : SlotsValue)
     → Performs site.config (reverse site.history) site.state moment asked p new slots → IsRunOf ready p.run → IsRunOf ready (entered site pass moment asked).run
 unfolding entered

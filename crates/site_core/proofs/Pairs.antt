@@ -1,4 +1,4 @@
--- `==` on lists of pairs of numbers decides whether they are equal.
+-- Two pairs of numbers are equal exactly if `==` holds for both of their parts.
 use Rattle.std.proofs.Common.{arith, ℕ, ◌≡◌, ap, ◌&&◌, nat_eq}
 use Rattle.std.specs.Bool.{Decides}
 use Rattle.std.proofs.lemmas.Bool.Decides.{nat_tests}

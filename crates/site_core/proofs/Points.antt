@@ -28,7 +28,7 @@ pub till_command_effect-none : (s : SiteState) (till n : ℕ) (command : Command
 unfolding till_command_effect
 till_command_effect-none s till n command none = rw (none, till_command_effect)
 
--- A command to a point that exists has the effect of what the point returns for it.
+-- If the point exists, then the effect of a command is `command_effect` of what the point returns for it.
 pub till_command_effect-some : (s : SiteState) (till n : ℕ) (command : Command) (p : PointState) → at_number s.points n ≡ Some p
     → till_command_effect s till n command ≡ command_effect s n (command_step p till command)
 unfolding till_command_effect
@@ -67,14 +67,15 @@ till_command_effect-err s till n command p new fault one le is answers =
     till_command_effect-some s till n command p (at_number-read s.points n p one le is) ∙ e.0 ∙ ap
     (λ x. replied (fault_reply fault) x) (same_points s n p is ∙ ap (λ x. with_point s n x) (sym e.1))
 
--- A command that the point takes is answered with Done. An amount that it cleared is added to the total and counted.
+-- A command that the point carries out is answered with Done. If the command cleared an amount, this is added to the
+-- total of cleared amounts, and 1 to the count of cleared transactions.
 pub till_command_effect-ok : (s : SiteState) (till n : ℕ) (command : Command) (p new : PointState) (cleared : Option ℕ) → 1 ≤ n → n ≤ length s.points
     → p ≡ get_or s.points (n - 1) p → FollowsTable (command_step p till command) p (Ok cleared) new → till_command_effect s till n command ≡ replied reply.Done
     (record (with_point s n new) { cleared = s.cleared + unwrap_or cleared 0; clears = s.clears + clears_by cleared })
 till_command_effect-ok s till n command p new cleared one le is answers =
     till_command_effect-some s till n command p (at_number-read s.points n p one le is) ∙ ok_effect s n (command_step p till command) p new cleared answers
 
--- An event of a point that doesn't exist is answered with `no_such_point`, and the site stays as it was.
+-- An event at a point that doesn't exist is answered with `no_such_point`, and the site stays as it was.
 pub dispenser_effect-none : (s : SiteState) (n : ℕ) (event : DispenserEvent) → at_number s.points n ≡ None → dispenser_effect s n event ≡ replied no_such_point s
 unfolding dispenser_effect
 dispenser_effect-none s n event none = rw (none, dispenser_effect)
@@ -125,8 +126,8 @@ pub dispenser_effect-is : (s : SiteState) (n : ℕ) (event : DispenserEvent) (p 
 dispenser_effect-is s n event p new (Ok order) one le is answers = dispenser_effect-ok s n event p new order one le is answers
 dispenser_effect-is s n event p new (Err fault) one le is answers = dispenser_effect-err s n event p new fault one le is answers
 
--- A question at a point that doesn't exist is refused with `no_such_point`. If the point exists, the point's own check
--- (`asked_at`) decides.
+-- A question at a point that doesn't exist is refused with `no_such_point`. `asked-some` states the other case: if the
+-- point exists, then the point's own check (`asked_at`) decides.
 pub asked-none : (s : SiteState) (q : Question) → at_number s.points q.point ≡ None → asked_at_point s q ≡ Err no_such_point
 unfolding asked_at_point
 asked-none s q none = rw (none, asked_at_point)

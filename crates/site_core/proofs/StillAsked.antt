@@ -1,5 +1,6 @@
--- If a comparison finds no difference between a draft and a state, then `StillAsked` holds; if a counter differs,
--- `Differs` does.
+-- Let the version, the context, the points and the prices in a state be those of a draft (`SameBasis`). If no declared
+-- counter differs, and `FitsContext` holds, then `StillAsked` holds. If a declared counter differs, then `Differs`
+-- holds with the first such counter.
 use Rattle.std.proofs.Common.{◌≡◌, ℕ, Some, ap, ◌∙◌}
 use Rattle.bpf_model.specs.Machine.{counter}
 use Rattle.program_slots.specs.Value.{SlotsValue}

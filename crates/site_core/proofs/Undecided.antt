@@ -1,4 +1,4 @@
--- A reply is a grant or S24 exactly if the step runs a program.
+-- The reply to an act is a grant or S24 (a denial by a program) exactly if the site's step for this act runs a program.
 use Rattle.std.proofs.Common.{◌≡◌, ℕ, ◌+◌, ◌&&◌, Bool, true, false, List, length, Option, Some, None, Result, Ok, Err, refl, ap, ◌∙◌, sym, subst}
 use Rattle.std.specs.Prelude.{if◌then◌else◌, ◌==◌, nat_le, nat_lt, is_some}
 use Rattle.fuelling_point.specs.Table.{PointState, StepResult, command_step, event_step}

@@ -1,5 +1,5 @@
 -- Representation: what a draft keeps of the state in which it was made, and what the contracts of the steps inside
--- `begin` and `commit` say. A reader doesn't have to believe it.
+-- `begin` and `commit` say. No reader has to believe it: the prover checks the code against it.
 use Rattle.std.specs.Prelude.{◌≡◌, ◌≢◌, ℕ, ◌<◌, ◌≤◌, ◌⊎◌, if◌then◌else◌, length, Option, Some, None, Result, Ok, Err}
 use Rattle.std.specs.Result.{result_ok}
 use Rattle.fuelling_point.specs.Table.{PointState}
@@ -60,8 +60,8 @@ pub record WasDrafted (draft : DraftValue) : Type 0 where
   pub context_is : draft.context ≡ bytes_of (context draft.version.program.layout state draft.till draft.moment question)
   pub view_is : draft.view ≡ view_of state
 
--- The two counts in the question's context are below 2^32, so that each fits into its four bytes: how many points are
--- busy, and how many transactions of the question's point are unpaid.
+-- Two counts are below 2^32: how many points are busy, and how many transactions of the question's point are unpaid. So
+-- each fits into the four bytes that it has in the question's context.
 pub record FitsContext (s : SiteState) (q : Question) : Type 0 where
   pub busy : busy_points s < 4294967296
   pub unpaid : field_of_question_point s q (λ (p : PointState). length p.unpaid) < 4294967296
@@ -91,8 +91,8 @@ Drafts config s slots till moment request (Some draft) = IsDraft config s slots 
 abbrev pub basis_in : ConfigValue → SiteState → SlotsValue → DraftValue → Basis
 basis_in config s slots draft = basis_of (version_in slots) s draft.till draft.moment (routed config s draft.till draft.request)
 
--- The draft isn't stale in this state: its request asks question q here, of the same version, with the same context and
--- view, and no declared counter differs.
+-- In this state the draft isn't stale: its request asks question q, the question's slot has the draft's version,
+-- context and view are the same, and no declared counter differs.
 pub record StillAsked (config : ConfigValue) (s : SiteState) (slots : SlotsValue) (draft : DraftValue) (q : Question) : Type 0 where
   pub asked : asked_question config s draft.till draft.request ≡ Some q
   pub well : HasPointOrValidPrice s q
@@ -102,14 +102,15 @@ pub record StillAsked (config : ConfigValue) (s : SiteState) (slots : SlotsValue
   pub view_is : view_of s ≡ draft.view
   pub fresh : IsFresh (basis_in config s slots draft) draft
 
--- The result is that of a comparison of the draft with this state: the question that is asked here, or the first
--- difference.
+-- The result is that of a comparison of the draft with this state: the question that is asked in this state, or the
+-- first difference.
 abbrev pub Compares : ConfigValue → SiteState → SlotsValue → DraftValue → Result Question Why → Type 0
 Compares config s slots draft (Ok q) = StillAsked config s slots draft q
 Compares config s slots draft (Err why) = Differs (basis_in config s slots draft) draft why
 
--- The fault is why no entry is made for the draft's run in a state with this basis. `Stale`: the draft is stale, and
--- this is the first difference. `OutOfMemory`: the draft isn't stale, and memory ran out.
+-- The fault gives the true reason why no entry is made for the draft's run. The `Basis` is what this run would be made
+-- on now. `Stale`: the draft is stale, and the fault names the first difference. `OutOfMemory`: the draft isn't stale,
+-- and memory ran out.
 abbrev pub DiffersIfStale : Basis → DraftValue → CommitFault → Type 0
 DiffersIfStale now draft (commit_fault.Stale why) = Differs now draft why
 DiffersIfStale now draft commit_fault.OutOfMemory = IsFresh now draft

@@ -3,9 +3,11 @@ use Rattle.std.specs.Prelude.{ℕ, ◌+◌, ◌*◌, ◌≤◌, All}
 use Rattle.fuelling_point.specs.Table.{PointState}
 use Rattle.site_core.specs.State.{SiteState}
 
--- The site's numbers are within their bounds after n entries of a day. They exceed the limits of an opening by at most
--- n for each point's newest transaction number and for the count of cleared transactions, and by at most n times
--- 999,999,999 cents for the cleared total.
+-- The site's numbers are within their bounds after n entries of a day. Each bound is the number's limit in an opening
+-- and some more:
+-- - for the number of each point's newest transaction: n more
+-- - for the total in cents of what was cleared: 999,999,999 times n more
+-- - for the count of cleared transactions: n more
 pub record Bounded (n : ℕ) (s : SiteState) : Type 0 where
   pub last : All (λ (p : PointState). p.last ≤ 4290000000 + n) s.points
   pub cleared : s.cleared ≤ 1000000000000000000 + 999999999 * n

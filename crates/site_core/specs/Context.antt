@@ -29,7 +29,7 @@ abbrev pub field_of_question_point : SiteState → Question → (PointState → 
 field_of_question_point s q field = field_or_zero (at_number s.points q.point) field
 
 -- The product of a question: for a price the product whose price is to change. Otherwise it is the number of the
--- point's lifted nozzle, which is the number of its product; 0 if no nozzle is lifted or there is no such point.
+-- point's lifted nozzle, since nozzle n carries product n; 0 if no nozzle is lifted or there is no such point.
 abbrev pub product_of : SiteState → Question → ℕ
 product_of s q = elim q.kind [ Price ↦ q.product | _ ↦ field_of_question_point s q (λ p. p.nozzle) ]
 

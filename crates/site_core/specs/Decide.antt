@@ -57,7 +57,9 @@ bad_amount = refused 25
 abbrev pub transactions_full : Reply
 transactions_full = refused 26
 
--- The refusals S22 with the point's state, S23 with the slot's number, and S24 with the version's number.
+-- `wrong_state` is the refusal S22 (a point's state doesn't allow the request), with the state's number. `no_program`
+-- is S23 (the slot has no program), with the slot's number. `denied` is S24 (a denial by a program), with the version's
+-- number.
 abbrev pub wrong_state : State → Reply
 wrong_state state = refused_with 22 (state_number state)
 
@@ -67,7 +69,7 @@ no_program slot = refused_with 23 slot
 abbrev pub denied : ℕ → Reply
 denied version = refused_with 24 version
 
--- The reply is a grant or S24: the two replies that only a program's answer leads to.
+-- The reply is a grant or S24 (a denial by a program): the two replies that only a program's answer leads to.
 abbrev pub is_decided : Reply → Bool
 is_decided (reply.Granted amount version) = true
 is_decided (reply.Refused number value) = number == 24
@@ -83,8 +85,8 @@ is_within least x greatest = nat_le least x && nat_le x greatest
 abbrev pub is_till : ConfigValue → ℕ → Bool
 is_till config till = is_within 1 till config.tills
 
--- The slot that decides the releases of point n, and the slot that decides its presets. Both are 0 if there are fewer
--- than n points; n = 0 gives those of point 1.
+-- The slot whose program decides the releases of point n, and the slot whose program decides its presets. Both are 0 if
+-- there are fewer than n points; n = 0 gives those of point 1.
 abbrev pub slots_of : ConfigValue → ℕ → ℕ × ℕ
 slots_of config n = slice_index_or config.points (n - 1) (0, 0)
 
@@ -149,8 +151,9 @@ preset_question config s n amount = admitted s (preset_of config n amount)
 abbrev pub price_question : ConfigValue → SiteState → ℕ → ℕ → Result Question Reply
 price_question config s product price = admitted s (price_question_of config product price)
 
--- The amount that is granted if the program answered r: the amount that is asked, but at most r. For a release it is
--- also at most the point's preset, unless that is 0, which means none. A price is granted as it is asked.
+-- The amount that is granted if the program answered r. For a price, it is the price that is asked. For a preset or a
+-- release, it is the amount that is asked, but at most r. For a release it is also at most the point's preset, unless
+-- the preset is 0, which means none.
 abbrev pub granted_amount : Kind → ℕ → ℕ → ℕ → ℕ
 granted_amount Release asked r preset = if preset == 0 then min asked r else min (min asked r) preset
 granted_amount Preset asked r preset = min asked r
@@ -175,7 +178,7 @@ grant s till q r =
       | None ↦ (q.asked, record s { prices = slice_set s.prices (q.product - 1) q.asked })
     ]
 
--- If the question's point doesn't exist, it names a product from 1 to 8, and asks a price of at most 9,999,999.
+-- The question's point exists, or the question's product is 1 to 8 and its price is at most 9,999,999 thousandths.
 abbrev pub HasPointOrValidPrice : SiteState → Question → Type 0
 HasPointOrValidPrice s q = at_number s.points q.point ≡ None → (1 ≤ q.product) × (q.product ≤ 8) × (q.asked ≤ 9999999)
 
@@ -208,14 +211,15 @@ verdict s till moment q v r counters =
     (let g : ℕ × SiteState = grant counted till q r in
     record { reply = reply.Granted g.0 v.number; run = Some run; after = g.1 })
 
--- The answer and the counters after a run. A run that doesn't end counts as a denial, so that the step is a function.
--- This never occurs: every program that is loaded is good, and the run of a good program ends.
+-- The answer and the counters after a run. A run that doesn't end counts as a denial that leaves the counters as they
+-- were before. This never occurs: every program that is loaded is good, and the run of a good program ends.
 abbrev pub run_result : Outcome → Counters → ℕ × Counters
 run_result (Ended r counters) before = (r, counters)
 run_result _ before = (0, before)
 
--- The effect of a question. If it was refused before a program is looked for, the reply is this refusal. If its slot
--- has no program, the reply is S23. Otherwise it is the decision of the slot's program, run on the current state.
+-- The effect of a question. If the question is refused, the reply is this refusal, and no program is run. If the
+-- question's slot has no program, the reply is S23. Otherwise the slot's program is run on this state, and its answer
+-- decides.
 unfoldable pub decided : ConfigValue → List Entry → SiteState → ℕ → ℕ → Result Question Reply → Effect
 decided config past s till moment (Err refusal) = replied refusal s
 decided config past s till moment (Ok q) =

@@ -21,7 +21,7 @@ pub record CounterDiffers (declared : ℕ) (a b : Counters) (c : ℕ) : Type 0 w
   pub differs : counter a c ≢ counter b c
   pub same_before : (k : ℕ) → k < c → IsTrue (is_declared declared k) → counter a k ≡ counter b k
 
--- Nothing that the draft's run depends on differs from what a run would be made on now.
+-- The draft isn't stale: a run now would be made on the draft's version, context, view and declared counters.
 pub record IsFresh (now : Basis) (draft : DraftValue) : Type 0 where
   pub version : now.version ≡ Some draft.version
   pub context : now.context ≡ draft.context

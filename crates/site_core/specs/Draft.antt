@@ -1,4 +1,4 @@
--- Definitions: a decision whose program is run outside the site.
+-- Definitions: a decision whose program is run on a draft, while the site can change.
 use Rattle.std.specs.Prelude.{◌≡◌, ℕ, if◌then◌else◌, List, [], Option, Some, None}
 use Rattle.till_request.specs.declared.act.Request.{Request}
 use Rattle.bpf_model.specs.declared.machine.View.{View}
@@ -16,8 +16,8 @@ use Rattle.site_core.specs.State.{SiteState, at_number, view_of}
 use Rattle.site_core.specs.Context.{context}
 use Rattle.site_core.specs.Decide.{is_till, request_action}
 
--- The value of a draft, from which a run outside the site starts: which till asks what at which moment, and the
--- version, context, view and counters of the run.
+-- The value of a draft: which till asks what at which moment, the version whose program is run, and the context, view
+-- and counters that it is run on.
 pub record DraftValue : Type 0 where
   pub till : ℕ
   pub moment : ℕ

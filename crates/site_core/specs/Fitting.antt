@@ -1,4 +1,4 @@
--- Promises: why a site can't begin with an opening.
+-- Promises: why an opening doesn't fit a site, so that the site can't begin with it.
 use Rattle.std.specs.Prelude.{◌≡◌, ℕ, ◌≤◌, List, [], ◌∷◌, length, Option, Some, None, All}
 use Rattle.std.specs.List.{AllByRecursion}
 use Rattle.fuelling_point.specs.Table.{PointState}
@@ -7,8 +7,8 @@ use Rattle.site_core.specs.Opening.{OpeningValue, HaveOwnNumbers}
 use Rattle.site_core.specs.declared.opening.OpeningFault.{OpeningFault}
 use Rattle.site_core.specs.declared.opening.OpeningFault.TheVariants as fault
 
--- The opening, for a site with `count` points, doesn't have this fault. `OutOfMemory` is no fault of an opening; for it
--- this is false, so that `Misfits` claims nothing.
+-- The opening, for a site with `count` points, doesn't have this fault. `OutOfMemory` says nothing about an opening:
+-- for it `LacksFault` is always false, and so `Misfits`, which negates `LacksFault`, is always true.
 abbrev pub LacksFault : ℕ → OpeningValue → OpeningFault → Type 0
 LacksFault count o fault.Points = length o.points ≡ count
 LacksFault count o fault.Prices = All (λ price. price ≤ 9999999) o.prices
@@ -36,8 +36,7 @@ faults_before fault.DuplicateVersion =
     fault.Points ∷ fault.Prices ∷ fault.Transactions ∷ fault.Cleared ∷ fault.Clears ∷ fault.Versions ∷ fault.Slots ∷ fault.Rules ∷ []
 faults_before fault.OutOfMemory = []
 
--- The fault is the first one that the opening has for a site with this many points. If memory ran out, nothing is
--- claimed.
+-- The fault is the first one that the opening has for a site with `count` points. For `OutOfMemory` nothing is claimed.
 abbrev pub Misfits : ℕ → OpeningValue → OpeningFault → Type 0
 Misfits count o fault = AllByRecursion (LacksFault count o) (faults_before fault) × ¬ LacksFault count o fault
 
@@ -58,9 +57,9 @@ IsLimitOrMemoryFault fault.OutOfMemory = Unit {0}
 abbrev pub AreLastNumbersWithinLimit : List PointState → Type 0
 AreLastNumbersWithinLimit points = All (λ (p : PointState). p.last ≤ 4290000000) points
 
--- The fault names the first of these numbers that is too great for an opening; None means that none is. The numbers,
--- which only grow, are those of these points' newest transactions, the total and the count of what was cleared, and the
--- count of versions.
+-- `Some fault` names the first number that is too great for an opening; None means that none is. The numbers, which
+-- only grow, are in this order: those of these points' newest transactions, the total in cents and the count of what
+-- was cleared, and the count of versions.
 abbrev pub IsFirstLimitFault : List PointState → ℕ → ℕ → ℕ → Option OpeningFault → Type 0
 IsFirstLimitFault points cleared clears versions None =
     AreLastNumbersWithinLimit points × (cleared ≤ 1000000000000000000) × (clears ≤ 1000000000000000000) × (versions ≤ 4290000000)

@@ -2,9 +2,9 @@
 use Rattle.std.specs.Prelude.{◌≡◌, ℕ, ◌≤◌, List, length, Option, Some, All}
 use Rattle.site_core.specs.Opening.{OpeningValue, IsOpening}
 
--- The values of a configuration. A point's pair is the slot of its releases and the slot of its presets; a counter's
--- pair is its value and its bound. With an opening, the site begins with the opening's points, prices and counters.
--- Without one, it begins with closed points, and with the prices and counters of the configuration.
+-- The values of a configuration. Prices are in thousandths of the currency per litre. A point's pair is the slot of its
+-- releases and that of its presets; a counter's is its value and its bound. With an opening, the site begins with the
+-- opening's points, prices and counters; else with closed points, and the prices and counters of the configuration.
 pub record ConfigValue : Type 0 where
   pub tills : ℕ
   pub price_slot : ℕ

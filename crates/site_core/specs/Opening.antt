@@ -7,9 +7,9 @@ use Rattle.bpf_model.specs.Runs.{AreCounters}
 use Rattle.program_slots.specs.Value.{Version}
 use Rattle.program_slots.specs.Slots.{IsRule}
 
--- The state in which a day begins: the points, prices in thousandths, counters with their bounds, the total in cents of
--- all amounts that were ever cleared, and how many transactions were ever cleared. `versions` is how many versions were
--- ever loaded. `rules` has for each slot the version in force, if there is one.
+-- The state in which a day begins: the points, prices in thousandths of the currency per litre, counters with their
+-- bounds, the total in cents of all amounts that were ever cleared, and how many transactions were ever cleared.
+-- `versions` is how many versions were ever loaded. `rules` has for each slot the version in force, if there is one.
 pub record OpeningValue : Type 0 where
   pub points : List PointState
   pub prices : List ℕ
@@ -33,10 +33,10 @@ IsNewNumber rules number = AllByRecursion (λ n. (number == n) ≡ false) (rule_
 abbrev pub HaveOwnNumbers : List (Option Version) → Type 0
 HaveOwnNumbers rules = IsDistinct (λ a b. a == b) (rule_numbers rules)
 
--- A site with `count` points can begin with the opening. It has that many points, each price is at most 9,999,999, and
--- each counter's value is at most its bound. Each of the 16 slots has no version, or one that was loaded and that the
--- verifier accepts; no two have versions with the same number. The numbers that only grow are small enough for one more
--- day: those of the points' newest transactions, the total and count of what was cleared, and the count of versions.
+-- A site with `count` points can begin with the opening: it has that many points, no price over 9,999,999 thousandths,
+-- and no counter over its bound. Each of the 16 slots has no version, or one that was loaded and that the verifier
+-- accepts; no two have versions with the same number. The numbers that only grow are small enough for one more day:
+-- those of the points' newest transactions, the total and count of what was cleared, and the count of versions.
 pub record IsOpening (count : ℕ) (o : OpeningValue) : Type 0 where
   pub points : length o.points ≡ count
   pub prices : All (λ price. price ≤ 9999999) o.prices

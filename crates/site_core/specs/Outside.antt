@@ -1,11 +1,12 @@
 -- Promises: what the contracts of `begin` and `commit` say.
 --
--- For a caller: `run_now` is the run that the site's step would make now for a till's request, and `reply_now` is its
--- reply. `begin` returns Direct exactly if there is no such run or the history is full. If no program is run, the reply
--- is neither a grant nor S24. Otherwise `begin` returns a draft, and `IsFreshDraft` holds for it. `commit` returns Done
--- exactly if `IsFresh` holds: nothing that the draft's run depends on differs. The commit is then one step of the site
--- at the draft's moment, and the entry's run is the draft's. Otherwise `commit` returns Stale with the first
--- difference, and nothing has changed.
+-- For a caller: `run_now` is the run that the site's step would make now for a till's request, and `reply_now` is the
+-- step's reply. Without such a run the reply is neither a grant nor S24 (a denial by a program). If `begin` returns no
+-- error, it returns Direct exactly if there is no such run or the history is full. Otherwise it returns a draft, and
+-- `IsFreshDraft` holds for it. If `commit` returns no error, it returns Done exactly if `IsFresh` holds: nothing that
+-- the draft's run depends on differs. The commit is then one step of the site for the draft's request at the draft's
+-- moment, and the run of its entry has the draft's version and the answer that this version gave. Otherwise `commit`
+-- returns Stale with the first difference, and nothing has changed.
 use Rattle.std.specs.Prelude.{◌≡◌, ℕ, ◌<◌, ◌⊎◌, false, IsSome, length, reverse, Option, Some, None}
 use Rattle.decision_journal.specs.declared.entries.Run.{Run}
 use Rattle.till_request.specs.declared.act.Request.{Request}
@@ -35,8 +36,8 @@ run_now site till moment request = (effect site.config (reverse site.history) si
 abbrev pub reply_now : SiteValue → ℕ → ℕ → Request → Reply
 reply_now site till moment request = (effect site.config (reverse site.history) site.state moment (act.Till till request)).reply
 
--- The step would run a program for this request now, and the draft holds the request and all that this run would be
--- made on.
+-- The site's step for this till's request would run a program now, and the draft holds the request and all that this
+-- run would be made on.
 pub record IsFreshDraft (site : SiteValue) (till moment : ℕ) (request : Request) (draft : DraftValue) : Type 0 where
   pub till_is : draft.till ≡ till
   pub moment_is : draft.moment ≡ moment
@@ -50,8 +51,9 @@ abbrev pub drafted : Begin → Option DraftValue
 drafted begin.Direct = None
 drafted (begin.Run draft) = Some draft
 
--- The result of `begin` fits the site. Direct: the history is full, or the step would run no program now and its reply
--- is neither a grant nor S24. Run: the history has room, and `IsFreshDraft` holds for the draft.
+-- The result of `begin` fits the site. Direct: the history is full, or the site's step for the request would run no
+-- program now, and the reply would be neither a grant nor S24 (a denial by a program). Run: the history has room, and
+-- `IsFreshDraft` holds for the draft.
 abbrev pub Begins : SiteValue → ℕ → ℕ → Request → Begin → Type 0
 Begins site till moment request begin.Direct =
     (length site.history ≡ 1048576)

@@ -1,5 +1,5 @@
 -- Representation: how the fields of a site relate to each other, and what the contracts of the steps inside a call say.
--- A reader doesn't have to believe it.
+-- No reader has to believe it: the prover checks the code against it.
 use Rattle.std.specs.Prelude.{◌≡◌, ℕ, ◌≤◌, ◌==◌, if◌then◌else◌, List, ◌∷◌, length, reverse, Some, None, All}
 use Rattle.decision_journal.specs.declared.entries.Entry.{Entry}
 use Rattle.till_request.specs.declared.act.Act.{Act}
@@ -33,8 +33,8 @@ abbrev pub slots_at_first : ConfigValue → SlotsValue
 slots_at_first config = elim config.opening [ None ↦ no_versions | Some o ↦ opened_slots o.versions o.rules ]
 
 -- The invariant of a site. The history, oldest entry first, is legal, its loads are accepted and good, and its entries
--- can be written. The state is the one that the history leads to, within its bounds, and the slots have the versions
--- that the history has loaded.
+-- can be written. The state is the one that the history leads to, within its bounds, with as many points as the
+-- configuration. The slots agree with the history.
 pub record IsConsistent (config : ConfigValue) (history : List Entry) (state : SiteState) (slots : SlotsValue) : Type 0 where
   pub legal : Legal config (reverse history) state
   pub agrees : Agrees config slots (reverse history)
@@ -45,9 +45,10 @@ pub record IsConsistent (config : ConfigValue) (history : List Entry) (state : S
   pub points : length state.points ≡ length config.points
   pub bounded : Bounded (length history) state
 
--- An act was performed as the step defines, on the state `old` after the entries `past`: p has the act, moment, reply
--- and run of its entry, and `new` is the state after it. The slots agree with the history once an entry with the act
--- and the reply of p is added. If the act is a load, its program is accepted and good.
+-- An act was performed as `effect` defines, on the state `old` after the entries `past`: the entry p has the act, the
+-- moment that an entry of this act bears, and the reply and the run of the effect, and `new` is the state after it. The
+-- slots agree with the history once an entry with the act and the reply of p is added. If the act is a load, its
+-- program is accepted and good.
 pub record Performs (config : ConfigValue) (past : List Entry) (old : SiteState) (moment : ℕ) (act : Act) (p : Entry) (new : SiteState)
     (slots : SlotsValue) : Type 0 where
   pub act_is : p.act ≡ act
@@ -57,7 +58,7 @@ pub record Performs (config : ConfigValue) (past : List Entry) (old : SiteState)
   pub accepted : load_refusal p.act ≡ None
   pub good : GoodLoad p.act
 
--- A load was answered as the step defines, and the slots agree with the history once its entry is added.
+-- A load was answered as `load_reply` defines, and the slots agree with the history once its entry is added.
 pub record Loads (config : ConfigValue) (old : SlotsValue) (slot : ℕ) (program : ProgramText) (past : List Entry) (reply : Reply) (new : SlotsValue) : Type 0 where
   pub reply_is : load_reply config slot past ≡ reply
   pub agrees : (entry : Entry) → entry.act ≡ act.Load slot program.declared program.layout program.bytes → entry.reply ≡ reply → Agrees config new (entry ∷ past)

@@ -10,8 +10,8 @@ use Rattle.bpf_model.specs.Machine.{Counters, counter, no_point}
 use Rattle.site_core.specs.Opening.{OpeningValue}
 use Rattle.site_core.specs.Limits.{ConfigValue}
 
--- The state of a site. Points and products are numbered from 1, counters from 0. Prices are in thousandths. `cleared`
--- is the total of all cleared amounts in cents; `clears` is how many transactions were ever cleared.
+-- The state of a site. Points and products are numbered from 1, counters from 0. Prices are in thousandths of the
+-- currency per litre. `cleared` is the total in cents of all transactions ever cleared; `clears` is their number.
 pub record SiteState : Type 0 where
   pub points : List PointState
   pub prices : List ℕ

@@ -43,13 +43,13 @@ clears_by None = 0
 clears_by (Some amount) = 1
 
 -- The effect of a till's command, given what the point returned for it. The amount that a Clear cleared is added to the
--- total, and is counted.
+-- total of cleared amounts, and 1 to the count of cleared transactions.
 abbrev pub command_effect : SiteState → ℕ → StepResult (Option ℕ) → Effect
 command_effect s n (Err fault) = replied (fault_reply fault) s
 command_effect s n (Ok (point, cleared)) =
     replied reply.Done (record (with_point s n point) { cleared = s.cleared + unwrap_or cleared 0; clears = s.clears + clears_by cleared })
 
--- The effect of a till's command that needs no decision.
+-- The effect of a till's command that needs no decision. The reply is S20 if there is no point n.
 unfoldable pub till_command_effect : SiteState → ℕ → ℕ → Command → Effect
 till_command_effect s till n command =
     elim (at_number s.points n) [ None ↦ replied no_such_point s | Some p ↦ command_effect s n (command_step p till command) ]
@@ -67,7 +67,7 @@ abbrev pub event_effect : SiteState → ℕ → StepResult (Option Order) → Ef
 event_effect s n (Err fault) = replied (fault_reply fault) s
 event_effect s n (Ok (point, order)) = replied (order_reply order) (with_point s n point)
 
--- The effect of a dispenser's event.
+-- The effect of a dispenser's event. The reply is S20 if there is no point n.
 unfoldable pub dispenser_effect : SiteState → ℕ → DispenserEvent → Effect
 dispenser_effect s n event =
     elim (at_number s.points n) [ None ↦ replied no_such_point s | Some p ↦ event_effect s n (event_step p event) ]
@@ -82,13 +82,13 @@ effect_of config past s till moment (action.Show n) = replied (show_reply s n) s
 abbrev pub asked : ConfigValue → List Entry → SiteState → ℕ → ℕ → Request → Effect
 asked config past s till moment request = effect_of config past s till moment (request_action config request)
 
--- The reply to a load: S32 if there is no such slot, S30 if the history has 4,096 versions already, or else the next
--- version.
+-- The reply to a load: S32 if there is no such slot, S30 if the history has 4,096 versions already, or else the number
+-- of the next version.
 abbrev pub load_reply : ConfigValue → ℕ → List Entry → Reply
 load_reply config slot past =
     if nat_le slot 15 then if nat_lt (versions past) 4096 then reply.Version (versions_before config + versions past + 1) else refused 30 else refused 32
 
--- The effect of an event.
+-- The effect of an event. The reply to a request is S21 if the site has no till of this number.
 abbrev pub effect : ConfigValue → List Entry → SiteState → ℕ → Act → Effect
 effect config past s moment (act.Till till request) =
     if is_till config till then asked config past s till moment request else replied no_such_till s

@@ -24,7 +24,7 @@ pub fn first_byte(a: &[u8], b: &[u8]) -> Option<u32>
     requires small { length a.now < 2 ^ 32 }
     ensures { MatchOption result (a.now ≡ b.now) (FirstDiffers a.now b.now) }
 {
-    // If they are the same, `==` finds that faster than the loop: it compares several bytes at once.
+    // For equal slices, `==` is faster than the loop below: it compares several bytes at once.
     if a == b {
         return None;
     }
@@ -59,12 +59,12 @@ pub fn first_point(count: u32, a: &[PointView; 32], b: &[PointView; 32]) -> Opti
     None
 }
 
-/// Returns the place, counted from 0, of the first price that differs; `None` if no price does.
+/// Returns the place, counted from 0, of the first price in which `a` and `b` differ; `None` if no price differs.
 pub fn first_price(a: &[u32; 8], b: &[u32; 8]) -> Option<u32>
     ensures within { IfSome result (λ place. place < 8) }
     ensures first { MatchOption result (a.now ≡ b.now) (FirstDiffers a.now b.now) }
 {
-    // If they are the same, `==` finds that faster than the loop: it compares several prices at once.
+    // For equal arrays, `==` is faster than the loop below: it compares several prices at once.
     if a == b {
         return None;
     }

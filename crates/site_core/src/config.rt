@@ -16,10 +16,11 @@ use std::sync::Arc;
 /// The greatest bound of a counter: the greatest number that the text of a configuration can contain.
 const MOST_COUNTER: u64 = 9_223_372_036_854_775_807;
 
-/// The configuration that a site is started from: how many tills there are, the slot that decides price changes, the
-/// prices of products 1 to 8 in thousandths, for each point the slots that decide its releases and its presets, and the
-/// values and bounds of the counters. Every value is in its range. If there is an opening, the site begins with the
-/// opening's prices and counters instead, and with the points, totals and versions of the opening.
+/// The configuration that a site is started from: how many tills there are, the slot whose program decides price
+/// changes, the prices of products 1 to 8 in thousandths of the currency per litre, for each point the slots whose
+/// programs decide its releases and its presets, and the values and bounds of the counters. Each value is in the range
+/// that `Config::new` names. If there is an opening, the site begins with the opening's prices and counters instead,
+/// and with its points, its versions and its totals of cleared transactions.
 #[derive(Drop)]
 pub struct Config {
     tills: u32,
@@ -75,8 +76,9 @@ fn are_in_range(prices: &[u32; 8], points: &[(u32, u32)], counters: &[(u64, u64)
 impl Config {
     /// Makes a configuration without an opening. `points` has for each point the slot of its releases and the slot of
     /// its presets, and `counters` has for each counter its value and its bound. Returns `None` if a value is out of
-    /// its range: there are 1 to 64 tills and 1 to 32 points, slots are 0 to 15, a price is at most 9,999,999 (0 for
-    /// none), a counter's value is at most its bound, and a bound is at most 2^63 - 1. Allocates no memory.
+    /// its range: there are 1 to 64 tills and 1 to 32 points, slots are 0 to 15, a price is at most 9,999,999
+    /// thousandths (0 for none), a counter's value is at most its bound, and a bound is at most 2^63 - 1. Allocates no
+    /// memory.
     pub fn new(
         tills: u32,
         price_slot: u32,
@@ -119,8 +121,8 @@ impl Config {
         })
     }
 
-    /// Returns a copy of the configuration, which shares the opening. The error is that memory ran out, or that the
-    /// opening has too many owners.
+    /// Returns a copy of the configuration. The two share the opening. The error is that memory ran out, or that the
+    /// opening's `Arc` has too many owners.
     pub fn copied(&self, alloc: Global) -> Result<Config, AllocError>
         ensures { IfOk result (λ config. config ≡ self.now) }
     {
@@ -258,7 +260,7 @@ impl Config {
         }
     }
 
-    /// Returns for each point the slots that decide its releases and its presets: 1 to 32 pairs.
+    /// Returns for each point the slots whose programs decide its releases and its presets: 1 to 32 pairs.
     pub fn points(&self) -> &[(u32, u32)]
         ensures points { result.now ≡ self.now.points }
         ensures range { IsConfig self.now }
@@ -277,7 +279,8 @@ fn is_same_opening(a: &Option<Arc<Opening>>, b: &Option<Arc<Opening>>) -> bool
     }
 }
 
-// The contracts of this function and of the next give the prover that `==` decides whether two such lists are equal.
+// The contracts of `is_same_points` and `is_same_counters` give the prover that `==` decides whether two lists of pairs
+// are equal.
 fn is_same_points(a: &[(u32, u32)], b: &[(u32, u32)]) -> bool
     ensures { IsTrue result ↔ (a.now ≡ b.now) }
 {

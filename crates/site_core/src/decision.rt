@@ -33,9 +33,9 @@ fn has_room(kind: Kind, point: &Point) -> bool
     }
 }
 
-/// Checks the question of a release or a preset at its point, and returns it. The error is the reply that refuses the
-/// question before a program is run: S25 if the amount isn't 1 to 999,999,999 cents, else S22 if the point's state is
-/// neither `Idle` nor `Calling`, else S26 for a release at a point with two unpaid transactions.
+/// Checks the `question` of a release or a preset at its point, and returns it as it is. The error is the reply that
+/// refuses the question before a program is run: S25 if the amount isn't 1 to 999,999,999 cents, else S22 if the
+/// point's state is neither `Idle` nor `Calling`, else S26 for a release at a point with two unpaid transactions.
 pub fn asked_at(point: &Point, question: Question) -> Result<Question, Reply>
     ensures question { result ≡ asked_at point.now question }
     ensures same { IfOk result (λ q. q ≡ question) }
@@ -53,9 +53,10 @@ pub fn asked_at(point: &Point, question: Question) -> Result<Question, Reply>
     Ok(question)
 }
 
-/// Checks the question of a price change, and returns it. `busy` is the state of the first point with a delivery
-/// authorised or under way, if there is one. The error is the reply that refuses the question before a program is run:
-/// S25 if the product isn't 1 to 8 or the price isn't 1 to 9,999,999, else S22 if there is such a point.
+/// Checks the `question` of a price change, and returns it as it is. `busy` is the state of the first point with a
+/// delivery authorised or under way, if there is one. The error is the reply that refuses the question before a program
+/// is run: S25 if the product isn't 1 to 8 or the price isn't 1 to 9,999,999 thousandths, else S22 if `busy` isn't
+/// `None`.
 pub fn price_at(busy: Option<State>, question: Question) -> Result<Question, Reply>
     ensures question { result ≡ price_at busy question }
     ensures fits { IfOk result (λ q. (1 ≤ q.product) × (q.product ≤ PRODUCTS) × (q.asked ≤ GREATEST_PRICE)) }

@@ -1,5 +1,5 @@
-//! Decisions whose program is run outside the site. A draft is made while the site's lock is held, run while it isn't,
-//! and committed while it is held again.
+//! Decisions whose program is run on a draft, while the site can change. A draft is made while the site's lock is held,
+//! run while it isn't, and committed while it is held again.
 
 ghost use Rattle.std.specs.Prelude.{◌≡◌, ◌≤◌, IfOk, IsOk, OnErr, None, length};
 ghost use Rattle.std.specs.Arc.{arc_value};
@@ -86,7 +86,7 @@ impl Draft {
     /// Makes the draft for a request in the current state, or returns `Direct` if no program would be run for it. The
     /// draft is put into the memory in `draft_memory`, or into new memory if `draft_memory` is `None`. Afterwards
     /// `draft_memory` is `None`, also after an error; only `Direct` leaves it unchanged. The error is that memory ran
-    /// out, or that the program has too many owners.
+    /// out, or that the program's `Arc` has too many owners.
     pub(crate) fn begin(
         config: &Config,
         station: &Station,
@@ -145,8 +145,8 @@ impl Draft {
     }
 
     /// Compares what the draft's run depends on with what a run now would depend on: version, context, view and
-    /// declared counters. Returns the question if nothing has changed since the draft was made. Else the error is the
-    /// first change that was found.
+    /// declared counters. If nothing differs, returns the question of the draft's request: what is asked, and the slot
+    /// of the program that is asked. Else the error is the first difference.
     fn compare(&self, config: &Config, station: &Station, slots: &Slots) -> Result<Question, Why>
         requires { length station.now.points ≡ length config.now.points }
         ensures { Compares config.now station.now slots.now self.now result }
@@ -181,8 +181,8 @@ impl Draft {
 }
 
 /// The memory of a run that has ended, and the run's program, to be used for another draft. With this memory a draft is
-/// made without an allocation. If that draft is of the same program, the program's count of owners doesn't change
-/// either. If each draft changed this count, the threads would have to wait for one another.
+/// made without an allocation. If that draft is of the same program, the count of owners of the program's `Arc` doesn't
+/// change either. If each draft changed this count, the threads would have to wait for one another.
 #[derive(Drop)]
 pub struct DraftMemory {
     program: Arc<Program>,
@@ -193,7 +193,7 @@ pub struct DraftMemory {
 impl DraftMemory {
     /// Returns the memory for a draft of this program, with this context, and with the current view and counters. It is
     /// the memory in `draft_memory`, or new memory if `draft_memory` is `None`. Afterwards `draft_memory` is `None`.
-    /// The error is that memory ran out, or that the program has too many owners.
+    /// The error is that memory ran out, or that the program's `Arc` has too many owners.
     fn made(
         draft_memory: &mut Option<DraftMemory>,
         program: &Arc<Program>,
@@ -213,7 +213,7 @@ impl DraftMemory {
     }
 
     /// Allocates memory for a draft of this program, with this context, and with the current view and counters. The
-    /// error is that memory ran out, or that the program has too many owners.
+    /// error is that memory ran out, or that the program's `Arc` has too many owners.
     fn new(
         program: &Arc<Program>,
         context: Context,
@@ -244,7 +244,7 @@ impl DraftMemory {
     }
 
     /// Returns this memory, filled for a draft of this program, with this context, and with the current view and
-    /// counters. The error is that the program has too many owners.
+    /// counters. The error is that the program's `Arc` has too many owners.
     fn filled(
         self,
         program: &Arc<Program>,
@@ -323,14 +323,14 @@ impl Ready {
         }
     }
 
-    /// If nothing that the run depends on has changed since the draft was made, carries out what the program answered,
-    /// and returns the decision's entry, with this number and pass. Counters that the program doesn't declare keep
-    /// their current values. If the till asked to release fuel, it is granted at most the amount that is preset at the
-    /// point now, if one is. The station must have as many points as the configuration, and the site's history must
-    /// have room for the entry.
+    /// Carries out what the program answered, if all that the run depends on is now as in the draft, and returns the
+    /// decision's entry, with this number and pass. Counters that the program doesn't declare keep their current
+    /// values. If the till asked to release fuel and an amount is preset at the point now, at most this amount is
+    /// granted. The station must have as many points as the configuration, and the site's history must have room for
+    /// the entry.
     ///
-    /// The error is `Stale` with the first change that was found, or, if nothing has changed, `OutOfMemory`. After an
-    /// error the station is unchanged.
+    /// The error is `Stale` with the first difference, or, if nothing differs, `OutOfMemory`. After an error the
+    /// station is unchanged.
     pub(crate) fn apply_answer(
         &self,
         config: &Config,
@@ -395,8 +395,8 @@ pub enum Begin {
     Run(Draft),
 }
 
-/// The result of a commit: `Done`, the decision was entered; or `Stale`, something that its run depends on has changed
-/// since its draft was made, and nothing was entered.
+/// The result of a commit. `Done`: the decision was entered. `Stale`: the site now differs from the draft in something
+/// that the run depends on, and nothing was entered.
 #[derive(Clone, Copy)]
 pub enum Commit {
     Done(Answered),

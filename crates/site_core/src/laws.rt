@@ -14,7 +14,7 @@ ghost use Rattle.site_core.specs.Days.{BoundsStay, ClosingChangesOnlyNumbers, Ev
 ghost use Rattle.site_core.specs.declared.why.Why.{Why};
 
 /// Does nothing. Its contract is a law: if nothing that a draft's run depends on differs at the site now, there is no
-/// first difference. So a commit returns `Stale` only if something has changed.
+/// first difference. So a commit returns `Stale` only if something differs.
 pub fn fresh_differs_nowhere()
     ensures { (now : Basis) (draft : DraftValue) (why : Why) → IsFresh now draft → Differs now draft why → ⊥ }
 {}
@@ -36,9 +36,10 @@ pub fn audit_of_its_own_history()
     ensures { OwnAudit }
 {}
 
-/// Does nothing. Its contract is a law: closing a day changes nothing but the numbers of entries. The legal histories
-/// of the next day are those by which the closed day could have gone on, and they lead to the same states. The law
-/// holds while both days together have at most 1,048,576 entries and fewer than 4,096 versions.
+/// Does nothing. Its contract is a law: closing a day changes nothing but the numbers of entries. A list of entries is
+/// a legal history of the next day exactly if the closed day's history is still legal with these entries added, their
+/// numbers raised by the length of that history. Both lead to the same state. The law holds while both days together
+/// have at most 1,048,576 entries and fewer than 4,096 versions.
 pub fn closing_changes_only_numbers()
     ensures { ClosingChangesOnlyNumbers }
 {}

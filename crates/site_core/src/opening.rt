@@ -19,7 +19,7 @@ const MOST_TRANSACTIONS: u32 = 4_290_000_000;
 /// The greatest total of cleared amounts in an opening, in cents, and the greatest number of cleared transactions.
 const MOST_CLEARED: u64 = 1_000_000_000_000_000_000;
 
-/// The greatest number of versions that an opening counts.
+/// The greatest count of versions that an opening is allowed to have.
 const MOST_VERSIONS: u32 = 4_290_000_000;
 
 /// Why a site can't begin with an opening: the first fault that the opening has, in the order of these cases, or that
@@ -73,7 +73,7 @@ impl fmt::Display for OpeningFault {
 pub struct Opening {
     /// The points, in their order.
     pub points: Vec<Point>,
-    /// The prices of products 1 to 8 in thousandths, 0 for none.
+    /// The prices of products 1 to 8 in thousandths of the currency per litre, 0 for none.
     pub prices: [u32; 8],
     pub counters: Counters,
     /// The total of all amounts that were ever cleared, in cents.
@@ -171,9 +171,9 @@ impl Opening {
     }
 }
 
-/// Returns the first fault that these numbers would have in an opening, in the order of `OpeningFault`, or `None` if
-/// they have none. They are the numbers that only grow: those of the points' newest transactions, the total and the
-/// count of what was cleared, and the count of versions. Allocates no memory.
+/// An opening has these numbers, which only grow: those of the newest transactions of `points`, the total in cents and
+/// the count of what was cleared, and the count of versions. Returns the fault of the first of them that is too great,
+/// in the order of `OpeningFault`, or `None` if none of them is too great. Allocates no memory.
 pub(crate) fn first_limit_fault(
     points: &[Point],
     cleared: u64,

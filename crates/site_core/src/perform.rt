@@ -122,9 +122,9 @@ fn load(slots: &mut Slots, slot: u32, program: Arc<Program>) -> Result<Reply, Al
     }
 }
 
-/// Carries out a till's request, and returns the reply, and the run if a program is run. The station must have as many
-/// points as the configuration, and the site's history must have room for the entry. The error is that memory ran out;
-/// then the station is unchanged.
+/// Carries out a till's request. Returns the reply, and also the run if a program is run. The station must have as many
+/// points as the configuration. The site's history must have room for the request's entry, which is added later. The
+/// error is that memory ran out; then the station is unchanged.
 fn ask(
     config: &Config,
     station: &mut Station,
@@ -156,8 +156,8 @@ fn ask(
     }
 }
 
-/// Returns the question that a request asks a program; `None` if the request is refused before a program is looked for,
-/// or if it is of a kind that no program decides.
+/// Returns the question that a request asks a program (see `Question`); `None` if the request is refused before a
+/// program is looked for, or if it is of a kind that no program decides.
 pub fn asked_question(
     config: &Config,
     station: &Station,
@@ -176,8 +176,8 @@ pub fn asked_question(
     }
 }
 
-/// Returns the question that a request asks a program, even if the current state refuses it; `None` if there is no such
-/// till or point, or if the request is of a kind that no program decides.
+/// Returns the question that a request asks a program (see `Question`), even if the current state refuses it; `None` if
+/// there is no such till or point, or if the request is of a kind that no program decides.
 pub fn routed(config: &Config, station: &Station, till: u32, request: &Request) -> Option<Question>
     ensures { result ≡ routed config.now station.now till request.now }
 {
@@ -190,9 +190,9 @@ pub fn routed(config: &Config, station: &Station, till: u32, request: &Request) 
     }
 }
 
-/// Decides a question: checks it, runs the program in the question's slot, and carries out what the program answers.
-/// `till` must be at least 1, and the site's history must have room for the entry. Returns the reply, and the run if
-/// there is one. The error is that memory ran out; then the station is unchanged.
+/// Decides the `question` of a till's request: checks it, runs the program in the question's slot, and carries out what
+/// the program answers. `till` must be at least 1, and the site's history must have room for the entry. Returns the
+/// reply, and the run if there is one. The error is that memory ran out; then the station is unchanged.
 fn decide(
     station: &mut Station,
     slots: &Slots,

@@ -16,8 +16,8 @@ pub enum Kind {
 }
 
 /// The question that a request asks a program, and the slot of that program. `asked` is an amount in cents, or a price
-/// in thousandths of the currency per litre. Points and products are counted from 1. A price has point 0; releases and
-/// presets have product 0.
+/// in thousandths of the currency per litre. Points and products are counted from 1. A price change has point 0;
+/// releases and presets have product 0.
 #[derive(Clone, Copy)]
 pub struct Question {
     pub kind: Kind,
@@ -27,8 +27,8 @@ pub struct Question {
     pub slot: u32,
 }
 
-/// What a request leads to: a question to a program, a command to the point of this number, or a reply that shows the
-/// point of this number.
+/// What a request leads to: a question to a program, a command to a point, or a reply that shows a point. The number in
+/// `Command` and in `Show` is the number of the point.
 #[derive(Clone, Copy)]
 pub enum RequestAction {
     Decision(Question),

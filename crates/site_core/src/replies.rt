@@ -19,10 +19,10 @@ pub const BAD_AMOUNT: Reply = Reply::Refused(25, None);
 /// S26: two transactions of the point are unpaid, and a point can't have more.
 pub const TRANSACTIONS_FULL: Reply = Reply::Refused(26, None);
 
-/// S27: another till holds the transaction. S27 also refuses to unlock or to clear a transaction that no till holds.
+/// S27: another till holds the transaction; or, for an `Unlock` or a `Clear`, no till holds it.
 const NOT_YOUR_TRANSACTION: Reply = Reply::Refused(27, None);
 
-/// S28: there is no unpaid transaction of this number.
+/// S28: the point has no unpaid transaction of this number.
 const NO_SUCH_TRANSACTION: Reply = Reply::Refused(28, None);
 
 /// S30: 4,096 versions were installed since the site began, and a site can't install more.
@@ -37,7 +37,7 @@ const NO_ORDER: Reply = Reply::Refused(33, None);
 /// S34: the dispenser's event, or a number in it, doesn't fit the point as it is now.
 const UNEXPECTED: Reply = Reply::Refused(34, None);
 
-/// Returns S22 with the number of this state, 1 to 9: the request isn't possible while a point is in this state.
+/// Returns S22 with the number of this state, 1 to 9: the request isn't possible now, because of a point in this state.
 pub fn wrong_state(state: State) -> Reply
     ensures { result ≡ wrong_state state }
 {
@@ -70,8 +70,8 @@ pub fn event_reply(outcome: Result<Option<Order>, PointFault>) -> Reply
     }
 }
 
-/// Returns the refusal with which the site replies to a till's command or a dispenser's event, if the point refused it
-/// for this reason.
+/// Returns the refusal with which the site replies to a till's command or a dispenser's event that the point refused.
+/// `fault` is the point's reason.
 pub fn fault_reply(fault: PointFault) -> Reply
     ensures { result ≡ fault_reply fault }
 {

@@ -59,7 +59,8 @@ fn numbers_of(point: &Snapshot) -> (u32, u64, u64, u64, u64, u32, bool)
     )
 }
 
-// The contracts of the next two functions give the prover that `==` decides whether two states or two orders are equal.
+// The contracts of `is_same_state` and `is_same_order` give the prover that `==` decides whether two states or two
+// orders are equal.
 fn is_same_state(a: State, b: State) -> bool
     ensures { IsTrue result ↔ (a ≡ b) }
 {

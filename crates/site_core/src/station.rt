@@ -215,8 +215,8 @@ impl Station {
         self.points.get(n as usize - 1)
     }
 
-    /// Returns the question if a program can be asked it in the current state. Otherwise the error is the refusal: that
-    /// of `price_at` for a price change, that of `asked_at_point` for a release or a preset.
+    /// Returns `question` as it is, if the current state doesn't refuse it. Otherwise the error is the refusal: an
+    /// error of `price_at` for a price change, or of `asked_at_point` for a release or a preset.
     pub fn admitted(&self, question: Question) -> Result<Question, Reply>
         ensures question { result ≡ admitted self.now question }
         ensures asked { IfOk result (λ q. HasPointOrValidPrice self.now q) }
@@ -227,9 +227,9 @@ impl Station {
         }
     }
 
-    /// Checks the question of a release or a preset in the current state, and returns it. The error is the refusal: S20
-    /// if there is no such point, else S25 for an amount out of range, else S22 if the point isn't ready, else S26 for
-    /// a release at a point with two unpaid transactions.
+    /// Checks the `question` of a release or a preset in the current state, and returns it as it is. The error is the
+    /// refusal: S20 if there is no such point, else S25 for an amount out of range, else S22 if the point is neither
+    /// `Idle` nor `Calling`, else S26 for a release at a point with two unpaid transactions.
     fn asked_at_point(&self, question: Question) -> Result<Question, Reply>
         ensures question { result ≡ asked_at_point self.now question }
         ensures asked { IfOk result (λ q. HasPointOrValidPrice self.now q) }
@@ -240,8 +240,8 @@ impl Station {
         }
     }
 
-    /// Returns the question without checking whether the current state refuses it. Returns `None` for a release or a
-    /// preset at a point that the site doesn't have.
+    /// Returns `question` as it is, without checking whether the current state refuses it. Returns `None` for a release
+    /// or a preset at a point that the site doesn't have.
     #[tactic(auto, unfolding(crate::specs::Draft::at_point))]
     pub fn routed(&self, question: Question) -> Option<Question>
         ensures { result ≡ routed_to self.now (RequestAction.Decision question) }
@@ -439,9 +439,9 @@ impl Station {
     }
 
     /// Sets the declared counters to their values in `after`, and returns their values before and after the change.
-    /// `before` and `after` are the counters before and after a run that was made outside the site, on the context
-    /// `given`. The run must have been made on the current values of the declared counters and on the current view. The
-    /// error is that memory ran out; then the station is unchanged.
+    /// `before` and `after` are the counters before and after a run on a draft, whose context is `given`. This context
+    /// must have the program's layout. The run must have been made on the current values of the declared counters and
+    /// on the current view. The error is that memory ran out; then the station is unchanged.
     pub fn adopt(
         &mut self,
         program: &Program,
@@ -473,8 +473,8 @@ impl Station {
     /// Carries out the answer `r0` of a program to a question, and returns the reply. The answer 0 is a denial: the
     /// reply is S24, and nothing changes. For any other answer `grant` is called, and the reply is `Granted` with what
     /// was granted. `version` is the number of the program's version, which both replies name. The question's point
-    /// must exist, or its product must be 1 to 8 and its price at most 9,999,999. `till` must be at least 1. The site's
-    /// history must have room for the request's entry.
+    /// must exist, or its product must be 1 to 8 and its price at most 9,999,999 thousandths. `till` must be at least
+    /// 1. The site's history must have room for the request's entry.
     pub fn apply_answer(&mut self, till: u32, question: &Question, version: u32, r0: u64) -> Reply
         requires bounded { HasRoom self.old }
         requires till { 0 < till }
@@ -489,10 +489,16 @@ impl Station {
         Reply::Granted(self.grant(till, question, r0), version)
     }
 
-    /// Grants what is asked: gives the point its command, or sets the price if there is no such point. Of an amount it
-    /// grants at most `r0`, the program's answer, and for a release also at most the point's preset, if the point has
-    /// one. A price is granted as it is asked. Returns what was granted: cents, or thousandths for a price. The
-    /// arguments must be as for `apply_answer`.
+    /// Grants all that a question asks, or a part of it. `r0` is the program's answer. Returns what was granted: cents,
+    /// or thousandths for a price.
+    /// - If the question's point exists, gives it the command to release or to preset the granted amount. This is the
+    ///   amount that is asked, but at most `r0`, and for a release also at most the point's preset, if the point has
+    ///   one.
+    /// - If it doesn't exist, as in a question about a price, sets the price of the question's product to the price
+    ///   that is asked.
+    ///
+    /// The question's point must exist, or its product must be 1 to 8 and its price at most 9,999,999 thousandths.
+    /// `till` must be at least 1. The site's history must have room for the request's entry.
     fn grant(&mut self, till: u32, question: &Question, r0: u64) -> u64
         requires bounded { HasRoom self.old }
         requires till { 0 < till }

@@ -1,11 +1,12 @@
-//! Why the history gets no entry for a decision whose program was run outside the site.
+//! Reasons why the history gets no entry for a decision whose program was run on a draft: the site now differs from the
+//! draft, or memory ran out.
 
 /// Why a run can't be entered in the history: the first difference between the site as it is now and the draft (a copy
 /// of what the run read). The cases are in the order in which the differences are looked for.
 #[derive(Clone, Copy, PartialEq)]
 pub enum Why {
-    /// The slot has another version now, whose number is given. `None` if the slot has no version, or if the site
-    /// doesn't have the draft's till or point.
+    /// The slot whose program decides the draft's request now has another version, whose number is given; `None` if the
+    /// slot has no version, or if the site doesn't have the draft's till or point.
     Version(Option<u32>),
     /// The context differs; the number is that of the first byte that differs: 0 to 63, or 0 to 79 in the second
     /// layout.
@@ -19,8 +20,8 @@ pub enum Why {
     Counter(u32, u64),
 }
 
-/// Why no entry was made for a run. `Stale`: something that the run depends on has changed since its draft was made.
-/// `OutOfMemory`: nothing has changed, but memory ran out.
+/// Why no entry was made for a run. `Stale`: the site now differs from the draft in something that the run depends on;
+/// `Why` is the first difference. `OutOfMemory`: nothing differs, but memory ran out.
 #[derive(Drop)]
 pub enum CommitFault {
     Stale(Why),

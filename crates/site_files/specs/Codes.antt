@@ -1,5 +1,5 @@
 -- Definitions: the number that is printed for a fault, such as `K1`, and the words that are printed with it (this
--- profile). The fault that memory ran out has no number: None, or no bytes in `opening_words`.
+-- profile). The fault that memory ran out has no number: the result is None, or in `opening_words` an empty text.
 use Rattle.std.specs.Prelude.{ℕ, ◌==◌, List, [], codes, count_by, nat_le, Option, Some, None, if◌then◌else◌}
 use Rattle.site_config.specs.declared.fault.ConfigFault.{ConfigFault}
 use Rattle.site_config.specs.declared.fault.ConfigFault.TheVariants as config
@@ -46,7 +46,7 @@ bad_line text number =
     else codes "the opening ends before its line 'journal'"
 
 -- The words and the number that are printed for a flaw of an opening. Both are empty if memory ran out. For a refused
--- program, the words are empty: other words are printed.
+-- program only the words are empty: words about the verifier's refusal are printed instead, which aren't defined here.
 abbrev pub opening_words : List ℕ → OpeningFlaw → List ℕ × List ℕ
 opening_words text (opening.BadLine line) = (bad_line text line, codes "J1")
 opening_words text (opening.CutLine line) = (codes "the last line has no LF", codes "J2")

@@ -51,8 +51,10 @@ day_named name = if shows_day (after_first is_dot name) then day_of (before_firs
 
 -- The day with which a station goes on:
 -- - `This` day 1 if its folder has no day
--- - `After` the newest day if a new day is asked for (if the newest day has no entry, the station goes on with it)
+-- - or else `After` the newest day if a new day is asked for
 -- - or else `This` the newest day
+-- `This` means the given day. `After` means the day after the given day, if the given day has an entry, or else the
+-- given day itself.
 abbrev pub day_to_serve : Option Span → Bool → DayToServe
 day_to_serve None is_new = going.This 1
 day_to_serve (Some span) is_new = if is_new then going.After span.newest else going.This span.newest

@@ -2,7 +2,8 @@
 -- - 0: the job was done
 -- - 1: the input was refused
 -- - 2: the command line names no job that can be done
--- - 3: a file or another device couldn't be used, the next day had begun already, or memory or reads ran out
+-- - 3: a file or another device couldn't be used, the next day had begun already, memory ran out, or more reads were
+--   needed than are allowed
 use Rattle.std.specs.Prelude.{◌≡◌, ◌⊎◌, ℕ, ⊤, Bool, true, false, Result, Ok, Err, if◌then◌else◌}
 use Rattle.site_core.specs.declared.opening.OpeningFault.{OpeningFault}
 use Rattle.site_core.specs.declared.opening.OpeningFault.TheVariants as fault
@@ -20,7 +21,7 @@ abbrev pub once_printed : {T E : Type 0} → Result T E → ℕ → ℕ
 once_printed (Ok printed) status = status
 once_printed (Err error) status = 3
 
--- The second number, a job's exit status, is the first number, or 3, which stands for a failure.
+-- `EndsWith status actual`: the job's exit status is `actual`. It is `status`, or it is 3, which stands for a failure.
 abbrev pub EndsWith : ℕ → ℕ → Type 0
 EndsWith status actual = (actual ≡ status) ⊎ (actual ≡ 3)
 
@@ -57,7 +58,7 @@ is_out_of_memory _ = false
 abbrev pub opening_status : OpeningFault → ℕ
 opening_status fault = if is_out_of_memory fault then 3 else 1
 
--- the exit status if no site of a configuration can begin with an opening: 3 if memory ran out, or else 1
+-- the exit status if a site of a configuration can't begin with a given opening: 3 if memory ran out, or else 1
 abbrev pub unfit_status : Unfit → ℕ
 unfit_status (unfit.Misfit misfit) = 1
 unfit_status (unfit.Fault fault) = opening_status fault

@@ -23,7 +23,7 @@ pub struct Place<'a> {
 }
 
 impl<'a> Place<'a> {
-    /// Makes the place of a whole file. `word` is the argument that names the file.
+    /// Makes the place of a whole file. `word` is the argument that names the file; `-` names standard input.
     pub fn of(word: &'a str) -> Place<'a>
         ensures name { result.name.now ≡ name_of word.now }
         ensures line { result.line ≡ None }
@@ -85,17 +85,18 @@ impl Display for Place<'_> {
     }
 }
 
-/// Prints a message on standard error, after the name of the program.
+/// Prints the message `words` on standard error, after the name of the program.
 pub fn print_message<D: Display>(rt: &HostRuntime, words: &D) {
     let _ = eprintln!(rt; "fc: {words}");
 }
 
-/// Prints a message on standard error, after the names of the program and of the place.
+/// Prints the message `words` on standard error, after the name of the program and the place.
 pub fn print_message_at<D: Display>(rt: &HostRuntime, place: Place<'_>, words: &D) {
     let _ = eprintln!(rt; "fc: {place}: {words}");
 }
 
-/// Prints a message about a fault on standard error: the place, the words, and the fault's number, as in `K1`.
+/// Prints a message about a fault on standard error: the place, the message `words`, and the fault's number `code`, as
+/// in `K1`.
 pub fn print_fault<D: Display>(rt: &HostRuntime, place: Place<'_>, words: &D, code: &str) {
     let _ = eprintln!(rt; "fc: {place}: {words} ({code})");
 }
@@ -123,8 +124,8 @@ pub fn print_output(rt: &HostRuntime, text: &str, status: u8) -> u8
     once_printed(rt, print!(rt; "{text}"), status)
 }
 
-/// Prints a line with a fault's number, as in `K1`, on standard output, and returns `REFUSED`, or `FAILED` if the line
-/// can't be written.
+/// Prints `fault` as a line on standard output. `fault` is the number of a fault, such as `K1`. Returns `REFUSED`, or
+/// `FAILED` if the line can't be written.
 pub fn refuse(rt: &HostRuntime, fault: &str) -> u8
     ensures { EndsWith 1 result }
 {
@@ -150,16 +151,17 @@ pub fn print_any_write_error(rt: &HostRuntime, failure: Option<&io::Error>) {
     }
 }
 
-/// Prints that a file has over 65,536 bytes: the words and the number (L1) on standard error, and the number on
-/// standard output too. Returns the exit status. `word` is the argument that names the file.
+/// Prints that the file that the argument `word` names has over 65,536 bytes: a message with the fault's number (L1) on
+/// standard error, and the number on standard output too. Returns the exit status.
 pub fn refuse_length(rt: &HostRuntime, word: &str) -> u8
     ensures { EndsWith 1 result }
 {
     refuse_with(rt, Place::of(word), &ProgramFileFault::TooLong, "L1")
 }
 
-/// Prints why a file is refused: the place, the words and the fault's number on standard error, and the number on
-/// standard output too. Returns the exit status: `REFUSED`, or `FAILED` if standard output can't be written.
+/// Prints why a file is refused: the place, the message `words` and the fault's number `code` on standard error, and
+/// the number on standard output too. Returns the exit status: `REFUSED`, or `FAILED` if standard output can't be
+/// written.
 pub(crate) fn refuse_with<D: Display>(
     rt: &HostRuntime,
     place: Place<'_>,
@@ -172,8 +174,8 @@ pub(crate) fn refuse_with<D: Display>(
     refuse(rt, code)
 }
 
-/// Prints on standard error why a file can't be opened, read or written. If `error` is that memory ran out, prints only
-/// that. Returns the exit status, which is `FAILED`.
+/// Prints on standard error why the file that the argument `word` names can't be opened, read or written. If `error` is
+/// that the program's own memory ran out, prints only that. Returns the exit status, which is `FAILED`.
 pub fn report_file_error(rt: &HostRuntime, word: &str, error: &io::Error) -> u8
     ensures { result ≡ 3 }
 {
@@ -211,17 +213,17 @@ fn config_code(fault: ConfigFault) -> Option<&'static str>
     }
 }
 
-/// Prints why a configuration is refused: the words and the number (K1 to K3) on standard error, and the number on
-/// standard output too. If memory ran out, prints only that, on standard error. Returns the exit status. `word` is the
-/// argument that names the file.
+/// Prints why the configuration in the file that the argument `word` names is refused: a message with the fault's
+/// number (K1 to K3) on standard error, and the number on standard output too. If `flaw` is that memory ran out, prints
+/// only that, on standard error. Returns the exit status.
 pub(crate) fn refuse_config(rt: &HostRuntime, word: &str, flaw: &ConfigFlaw) -> u8
     ensures { EndsWith 1 result }
 {
     refuse_fault(rt, word, flaw, flaw.fault())
 }
 
-/// Prints why a configuration is refused, and returns the exit status, as `refuse_config` does. `fault` has to be the
-/// fault of `flaw`.
+/// Prints why the configuration in the file that `word` names is refused, and returns the exit status, as
+/// `refuse_config` does. `fault` must be the fault of `flaw`.
 fn refuse_fault(rt: &HostRuntime, word: &str, flaw: &ConfigFlaw, fault: ConfigFault) -> u8
     ensures refused { fault ≢ ConfigFault.OutOfMemory → EndsWith 1 result }
     ensures memory { fault ≡ ConfigFault.OutOfMemory → result ≡ 3 }
@@ -252,8 +254,8 @@ fn journal_code(flaw: &JournalFlaw) -> Option<&'static str>
     }
 }
 
-/// Prints on standard error why a journal is refused, with the number `line` of the faulty line if it is known. If the
-/// flaw is that memory ran out, prints only that.
+/// Prints on standard error why the journal in the file that the argument `word` names is refused, with the number
+/// `line` of the faulty line if it is known. If the flaw is that memory ran out, prints only that.
 pub(crate) fn print_journal_flaw(
     rt: &HostRuntime,
     word: &str,
@@ -268,8 +270,8 @@ pub(crate) fn print_journal_flaw(
     print_journal_flaw_at(rt, place, flaw, flaw);
 }
 
-/// Prints a message about a journal's flaw on standard error: the place, the words, and the flaw's number. If the flaw
-/// is that memory ran out, prints only that.
+/// Prints a message about a journal's flaw on standard error: the place, the message `words`, and the number of `flaw`.
+/// If the flaw is that memory ran out, prints only that.
 pub(crate) fn print_journal_flaw_at<D: Display>(
     rt: &HostRuntime,
     place: Place<'_>,

@@ -133,8 +133,8 @@ impl<'a> Folder<'a> {
     }
 }
 
-/// Writes `bytes` to the file `beside`, syncs this file, renames it to `path`, and syncs `folder`. The error is that of
-/// the first step that fails.
+/// Writes `bytes` to the file `beside`, syncs this file, renames it to `path`, and syncs `folder`. The error is the
+/// error of the first step that fails.
 fn put_synced(
     rt: &HostRuntime,
     folder: &str,
@@ -201,7 +201,7 @@ fn day_named(name: &str) -> Option<u32>
     day_of(digits.as_bytes())
 }
 
-/// Returns whether `ending` is that of a journal or of an opening.
+/// Returns whether `ending`, which follows the `.` in a file's name, is that of a journal or of an opening.
 fn shows_day(ending: &str) -> bool
     ensures { result ≡ shows_day ending.now }
 {

@@ -1,5 +1,5 @@
 //! Reads and checks the files of a site: its configuration, its opening, its journal and the folder of its days. Also
-//! opens the journal of a site to serve, closes a day, and prints why a file is refused.
+//! opens the journal to which a served site adds its entries, closes a day, and prints why a file is refused.
 #![tactic(auto)]
 
 mod cut_line;

@@ -55,8 +55,8 @@ pub fn read_given<'a>(rt: &HostRuntime, word: &'a str) -> Result<Given<'a>, JobE
 /// `is_new_day` and the newest day has an entry, closes that day and returns the next one.
 ///
 /// The configuration in `given` is used for a day that has none in the folder, or whose journal is missing or empty.
-/// Other days keep the folder's; if the returned day keeps one that differs from the one in `given`, prints this.
-/// `given` also says how the day is served.
+/// Any other day keeps the configuration that it has in the folder. If the returned day keeps a configuration that
+/// differs from that in `given`, prints this. `given` also says how the day is served.
 /// Errors:
 ///
 /// - `AlreadyReported`, with the exit status: a file can't be used or is refused, or the next day has begun already.
@@ -124,10 +124,11 @@ fn print_other_config(
     Ok(())
 }
 
-/// The day with which a station goes on:
+/// The day with which a station goes on. The number is that of a day:
 ///
-/// - `This`: the day of this number
-/// - `After`: the day after the day of this number, once this is closed, or the day of this number if it has no entry
+/// - `This`: the station goes on with this day.
+/// - `After`: if this day has an entry, it is closed, and the station goes on with the day after it. If it has none,
+///   the station goes on with this day.
 #[derive(Clone, Copy)]
 enum DayToServe {
     This(u32),
@@ -136,9 +137,9 @@ enum DayToServe {
 
 /// Returns the day with which a station goes on. `span` is `None` if the station's folder has no day.
 ///
-/// - `This` day 1 if `span` is `None`
-/// - `After` the newest day if `is_new_day`
-/// - or else `This` the newest day
+/// - `This(1)` if `span` is `None`
+/// - or else `After` with the number of the newest day, if `is_new_day`
+/// - or else `This` with the number of the newest day
 fn day_to_serve(span: Option<Span>, is_new_day: bool) -> DayToServe
     ensures { result ≡ day_to_serve span is_new_day }
 {
@@ -217,7 +218,8 @@ fn fixed_config(rt: &HostRuntime, folder: Folder<'_>, day: u32) -> Result<Option
     }
 }
 
-/// Returns `config` with the opening in it that the folder has for day `number`. Returns `config` as it is for day 1.
+/// Reads the opening that the folder has for day `number`, and returns `config` with this opening in it. For day 1,
+/// returns `config` as it is.
 /// Errors:
 ///
 /// - `AlreadyReported`, with the exit status: the opening is missing, can't be read, is refused, doesn't fit `config`

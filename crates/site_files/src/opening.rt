@@ -40,7 +40,8 @@ pub struct Day {
     pub number: u32,
 }
 
-/// The configuration of a site that begins a day, with the day's opening in it if there is one, and the day's number.
+/// What a day of a site begins with: the configuration (with the opening in it, if there is one), and the day's number,
+/// which is 1 without an opening.
 #[derive(Drop)]
 pub(crate) struct Begun {
     pub config: Config,
@@ -66,7 +67,7 @@ pub(crate) fn begin_with(rt: &HostRuntime, word: &str, config: Config) -> Result
     }
 }
 
-/// Returns the bytes of an opening in the file that an argument names. If they can't be read or are more than
+/// Returns the bytes of an opening in the file that `word` names. If they can't be read or are more than
 /// `MOST_OPENING`, prints why; the error has the exit status.
 pub fn opening_bytes(rt: &HostRuntime, word: &str) -> Result<Vec<u8>, JobError>
     ensures few { IfOk result (λ bytes. vec_len bytes ≤ MOST_OPENING) }
@@ -82,7 +83,7 @@ pub fn opening_bytes(rt: &HostRuntime, word: &str) -> Result<Vec<u8>, JobError>
     }
 }
 
-/// Reads the opening in the file that an argument names. If it can't be read or is refused, prints why; the error
+/// Reads the opening in the file that `word` names. If it can't be read or is refused, prints why; the error
 /// `AlreadyReported` has the exit status. The error `Failed` means that memory ran out, which isn't printed yet.
 fn opening_in(rt: &HostRuntime, word: &str) -> Result<OpeningFile, JobError>
     ensures good { IfOk result IsOpeningFile }
@@ -95,9 +96,10 @@ fn opening_in(rt: &HostRuntime, word: &str) -> Result<OpeningFile, JobError>
     }
 }
 
-/// Prints why the text of an opening is refused. On standard error: the line, the words and the fault's number (J1, J2
-/// or F2). On standard output: the fault's number, the line's number, and for F2 the program's V fault. If `flaw` is
-/// that memory ran out, prints only that, on standard error.
+/// Prints why `text`, the opening in the file that `word` names, is refused: a line is wrong or missing (J1), the last
+/// line has no LF (J2), or a program is refused (F2). On standard error: the line, the words and the fault's number. On
+/// standard output: the fault's number and the line's number. For a refused program, also the fault that the verifier
+/// found in it (V1 to V20). If `flaw` is that memory ran out, prints only that, on standard error.
 /// The result:
 ///
 /// - `AlreadyReported`, with the exit status: this was printed
@@ -149,9 +151,9 @@ fn refuse_line(rt: &HostRuntime, word: &str, line: u32, words: &str, code: &str)
     JobError::AlreadyReported(once_printed(rt, println!(rt; "{code} {line}"), REFUSED))
 }
 
-/// Prints why the verifier refuses the program in a line of an opening. `text` is the opening's text, and `line` is the
-/// line's number, counted from 1. The result `AlreadyReported` has the exit status. The result `Failed` means that
-/// memory ran out, which isn't printed yet.
+/// Prints why the verifier refuses the program in a line of an opening. `word` names the opening's file, `text` is the
+/// opening's text, and `line` is the line's number, counted from 1. The result `AlreadyReported` has the exit status.
+/// The result `Failed` means that memory ran out, which isn't printed yet.
 fn refuse_rule(rt: &HostRuntime, word: &str, text: &[u8], line: u32, refusal: Refusal) -> JobError
     ensures { IsReportedOrFailed 1 result }
 {
@@ -164,8 +166,9 @@ fn refuse_rule(rt: &HostRuntime, word: &str, text: &[u8], line: u32, refusal: Re
     }
 }
 
-/// Prints on standard error the slot of the program in a line of an opening, and why the verifier refuses it. `line` is
-/// the line's bytes, and `number` its number, counted from 1. The error is that memory ran out.
+/// Prints on standard error the slot of the program in a line of an opening, and why the verifier refuses it. `word`
+/// names the opening's file, `line` is the line's bytes, and `number` its number, counted from 1. The error is that
+/// memory ran out.
 fn explain_rule(
     rt: &HostRuntime,
     word: &str,
@@ -266,8 +269,8 @@ fn is_out_of_memory(fault: OpeningFault) -> bool
     }
 }
 
-/// Prints on standard error what is wrong with a file, without a fault's number. Prints nothing on standard output. The
-/// result has the exit status, which is `REFUSED`.
+/// Prints `words` on standard error, which say what is wrong with the file that `word` names, without a fault's number.
+/// Prints nothing on standard output. The result has the exit status, which is `REFUSED`.
 pub fn refuse_words<D: Display>(rt: &HostRuntime, word: &str, words: &D) -> JobError
     ensures { result ≡ JobError.AlreadyReported 1 }
 {

@@ -17,16 +17,16 @@ use site_core::{AuditFault, Config};
 use std::io;
 use till_request::devices::StreamIn;
 
-/// Opens and reads a journal again, and prints on standard error why it was refused, or why it can't be opened or read.
-/// Prints nothing if the file has changed and isn't refused any more.
+/// Opens the file that `word` names, and reads the journal in it again. Prints on standard error why it was refused, or
+/// why it can't be opened or read. Prints nothing if the file has changed and isn't refused any more.
 pub fn explain_journal(rt: &HostRuntime, word: &str, config: Config) {
     if let Ok(source) = source_of(rt, word) {
         explain_source(rt, word, config, &mut stream(source));
     }
 }
 
-/// Prints on standard error why the journal in `input` was refused, or why it can't be read. Prints nothing if it isn't
-/// refused any more.
+/// Prints on standard error why the journal in `input`, from the file that `word` names, was refused, or why it can't
+/// be read. Prints nothing if it isn't refused any more.
 fn explain_source(rt: &HostRuntime, word: &str, config: Config, input: &mut StreamIn<Source>) {
     match journal_flaw(rt.alloc(), config, input) {
         Ok(Some((line, flaw))) => print_journal_flaw(rt, word, line, &flaw),
@@ -36,8 +36,8 @@ fn explain_source(rt: &HostRuntime, word: &str, config: Config, input: &mut Stre
     }
 }
 
-/// Prints on standard error why a journal can't be read: the system's error `failure` if a read failed and the error is
-/// known, or else the words for `fault`.
+/// Prints on standard error why the journal in the file that `word` names can't be read: the system's error `failure`
+/// if a read failed and the error is known, or else the words for `fault`.
 fn print_journal_read_error(
     rt: &HostRuntime,
     word: &str,
@@ -72,8 +72,9 @@ fn line_in(fault: JournalFault) -> Option<u32>
     }
 }
 
-/// Prints on standard error why a journal can't be read. If a line is faulty or cut off, also prints `J1 LINE` or `J2`
-/// on standard output. `failure` is the system's error of the last failed read, if one failed.
+/// Prints on standard error why the journal in the file that `word` names can't be read. If a line is faulty or cut
+/// off, also prints `J1 LINE` or `J2` on standard output. `failure` is the system's error of the last failed read, if
+/// one failed.
 /// The result:
 ///
 /// - `AlreadyReported`, with the exit status: this was printed
@@ -100,8 +101,9 @@ pub fn report_journal_fault(
     }
 }
 
-/// Prints the line for a fault of an audit, such as `F3 5`, on standard output. The result has the exit status. If the
-/// fault is that memory ran out, or if memory runs out here, prints nothing, and returns `Failed`.
+/// Prints on standard output the line for a fault of an audit. It begins with the fault's number and the place of the
+/// entry that has the fault: `F3 5` means that the site makes another entry than entry 5, or none. The result has the
+/// exit status. If the fault is that memory ran out, or if memory runs out here, prints nothing, and returns `Failed`.
 pub fn refused(rt: &HostRuntime, fault: AuditFault) -> JobError
     ensures reported { IsReportedOrFailed 1 result }
     ensures memory { fault ≡ AuditFault.OutOfMemory → IsFailed result }

@@ -1,4 +1,5 @@
--- The result of a close, by the results of its checks.
+-- The checks that a close makes imply what is claimed of its result: `ClosesSince` if they find no reason against it,
+-- or `RefusesSince` for the reason that they find.
 use Rattle.std.proofs.Common.{◌≡◌, ℕ, List, [], ◌++◌, length, Bool, true, false, IsTrue, ◌↔◌, Option, sym, ap, ◌∙◌, subst}
 use Rattle.std.specs.Prelude.{sum_by, IfNone, IfSome, None, Some}
 use Rattle.decision_journal.specs.declared.entries.Entry.{Entry}
@@ -79,7 +80,7 @@ closed_none h base taken xs ys v config None all same is from took locked_site t
     closed h base taken xs ys v config all same is from took locked_site total good
 closed_none h base taken xs ys v config (Some w) all same is from took locked_site total good = tt
 
--- if the history at the start is empty, then the history is the entries since the start
+-- if the history at the start is empty, then the history consists of the entries since the start
 from_none : (base since history : List Entry) → base ≡ [] → history ≡ base ++ since → history ≡ since
 from_none base since history none is = is ∙ ap (λ (b : List Entry). b ++ since) none
 

@@ -1,14 +1,12 @@
--- A request is tried twice, and then decided under the lock.
-use Rattle.std.proofs.Common.{ℕ, ◌+◌, ◌≤◌, Result, Ok, Err, IfOk, IfErr, arith}
+-- How a gate's count of calls rises over the attempts at a request, and when `IfOk` and `IfErr` hold for a result.
+use Rattle.std.proofs.Common.{ℕ, ◌+◌, Result, Ok, Err, IfOk, IfErr, arith}
 use Rattle.till_request.proofs.Counts.{rose_more}
 use Rattle.site_lock.specs.Calls.{RoseWithin}
 
--- if a count rose by a to b, and then by c to d, then it rose by a + c to b + d in all
+-- if a count rose by at least a and at most b, and then by at least c and at most d, then it rose by at least a + c and
+-- at most b + d in all
 pub rose_both : (a b c d x y z : ℕ) → RoseWithin a b x y → RoseWithin c d y z → RoseWithin (a + c) (b + d) x z
 rose_both a b c d x y z h k = (h.0 + k.0, omega (arith, h.1, k.1), omega (arith, h.2, k.2), rose_more h.3 k.3)
-
-pub rose_wider : (a b c d x y : ℕ) → c ≤ a → b ≤ d → RoseWithin a b x y → RoseWithin c d x y
-rose_wider a b c d x y low high h = (h.0, omega (arith, h.1, low), omega (arith, h.2, high), h.3)
 
 pub if_ok_always : {T E : Type 0} (P : T → Type 0) (r : Result T E) → ((x : T) → P x) → IfOk r P
 if_ok_always P (Ok x) h = h x

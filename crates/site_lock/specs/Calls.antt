@@ -1,4 +1,5 @@
--- Definitions: the receipt of an answered call, which replies fit an event, and how a count of calls rose.
+-- Definitions: the receipt of an answered call, when an answer to an act fits in some legal history, and by how much a
+-- count of calls rose.
 use Rattle.std.specs.Prelude.{◌≡◌, ℕ, ◌+◌, ◌≤◌, List, [], ◌∷◌, ◌++◌, Result, Ok, Err}
 use Rattle.decision_journal.specs.declared.entries.Entry.{Entry}
 use Rattle.till_request.specs.Count.{RoseBy}
@@ -18,7 +19,7 @@ use Rattle.site_lock.specs.Passes.{PassView}
 abbrev pub receipt_of : ℕ → Act → Answered → Receipt
 receipt_of moment act a = record { number = a.number; moment = moment; act = act; reply = a.reply }
 
--- The pass counts one more call, and has one more receipt, that of this answer.
+-- The pass keeps its number, counts one more call, and has one more receipt, that of this answer.
 pub record Gains (before now : PassView) (moment : ℕ) (act : Act) (a : Answered) : Type 0 where
   pub id : now.id ≡ before.id
   pub amount : now.amount ≡ before.amount + 1
@@ -36,12 +37,12 @@ pub record FitsIn (config : ConfigValue) (pass moment : ℕ) (act : Act) (a : An
   pub does : last.act ≡ act
   pub answers : last.reply ≡ a.reply
 
--- a count of 64 bits, which wraps, rose by `least` to `most`
+-- a count of 64 bits, which wraps, rose by at least `least` and at most `most`
 abbrev pub RoseWithin : ℕ → ℕ → ℕ → ℕ → Type 0
 RoseWithin least most before now = (k : ℕ) × (least ≤ k) × (k ≤ most) × RoseBy k before now
 
--- the result of a call with its error as a CallFault, at a site whose journal can't fail; the error `Journal`, which
--- never comes there, becomes `OutOfMemory`
+-- The result of a call at a site whose journal can't fail: an error is changed to a `CallFault`. The error `Journal`
+-- never comes at such a site, and is changed to `OutOfMemory`.
 abbrev pub unjournalled_of : Result Answered EnterFault → Result Answered CallFault
 unjournalled_of (Ok a) = Ok a
 unjournalled_of (Err (Call fault)) = Err fault

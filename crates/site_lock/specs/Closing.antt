@@ -11,8 +11,8 @@ use Rattle.site_lock.specs.Passes.{PassView, Opened}
 use Rattle.site_lock.specs.LockedSites.{LockedSiteValue, IsWhole, MatchesJournal}
 use Rattle.site_lock.specs.Merge.{AreAll, IsFault, IsFaultSince, IsMerge, IsMergeSince}
 
--- The site has the configuration at the start. Its history is legal, is the merge of the passes' receipts, and has as
--- many entries as the passes count answered calls.
+-- These are all passes of the forecourt, each once. The site has the forecourt's configuration. Its history is legal,
+-- is the merge of the passes' receipts, and has as many entries as the passes count answered calls.
 pub record Closes (f : Opened) (passes : List PassView) (s : SiteValue) : Type 0 where
   pub all : AreAll f.passes passes
   pub config : s.config ≡ f.config
@@ -20,9 +20,9 @@ pub record Closes (f : Opened) (passes : List PassView) (s : SiteValue) : Type 0
   pub calls : length s.history ≡ sum_by (λ (p : PassView). p.amount) passes
   pub merge : IsMerge s.history passes
 
--- The site has the configuration at the start, and a legal history. This is the history at the start, followed by the
--- merge of the passes' receipts, which has as many entries as the passes count answered calls. The journal took exactly
--- the text of these entries.
+-- These are all passes of the forecourt, each once. The site has the forecourt's configuration, and a legal history:
+-- the history at the start, followed by the merge of the passes' receipts. This merge has as many entries as the passes
+-- count answered calls, and the journal took exactly the text of these entries.
 pub record ClosesSince (f : Opened) (passes : List PassView) (s : SiteValue) (written : Option (List ℕ)) : Type 0 where
   pub all : AreAll f.passes passes
   pub config : s.config ≡ f.config
@@ -38,9 +38,9 @@ pub record HaltedValue : Type 0 where
   pub opened : Opened
   pub locked_site : LockedSiteValue
 
--- What holds for a forecourt that couldn't be closed. It has the configuration at the start, and a legal history: the
--- one at the start, followed by the entries of the answered calls, whose text the journal took. If the journal failed,
--- there is one more entry, which wasn't answered.
+-- What holds for a forecourt that couldn't be closed. Its site has the forecourt's configuration, and a legal history:
+-- the history at the start, followed by the entries of the answered calls, whose text the journal took. If the journal
+-- failed, there is one more entry. It wasn't answered, and the journal took a beginning of its line.
 pub record IsHalted (may_fail : Type 0) (h : HaltedValue) : Type 0 where
   pub config : h.locked_site.site.config ≡ h.opened.config
   pub legal : Upholds h.locked_site.site
@@ -51,20 +51,25 @@ abbrev pub IsLast : List Entry → ℕ → ℕ → Type 0
 IsLast history id number =
     (last : Entry) × (slice_get history (length history - 1) ≡ Some last) × (last.pass ≡ id) × (last.number ≡ number)
 
--- The receipt or the entry with this number, of this pass, is wrong. If the journal failed, it is the last entry, which
--- wasn't answered.
+-- What the reason C2 (a wrong receipt, or an entry without a receipt) says of the pass `id` and this number. If the
+-- journal failed, the last entry has this pass and number. Otherwise either the pass's first wrong receipt has this
+-- number, or an entry after the first `base` ones has this pass and number, and has no receipt.
 abbrev pub IsWrong : Bool → ℕ → List Entry → List PassView → ℕ → ℕ → Type 0
 IsWrong false base history passes id number = IsFaultSince base history passes id number
 IsWrong true base history passes id number = IsLast history id number
 
--- Why a forecourt can't be closed although all its passes are given: a receipt or an entry is wrong.
+-- Why a forecourt can't be closed although all its passes are given. The reason is C2 (a wrong receipt, or an entry
+-- without a receipt) with a pass and a number, as `IsWrong` says.
 abbrev pub PreventsClose : ℕ → LockedSiteValue → List PassView → CloseRefusal → Type 0
 PreventsClose base v passes PassMissing = ⊥
 PreventsClose base v passes (NotInHistory id number) = IsWrong v.journal_failed base v.site.history passes id number
 PreventsClose base v passes OtherConfig = ⊥
 
--- Why a close was refused. Either these aren't all passes of the forecourt, each once. Or they are, and a receipt or an
--- entry is wrong; all passes together then have as many receipts as calls were answered.
+-- Why a close was refused.
+-- - C1: these aren't all passes of the forecourt, each once.
+-- - C2 (a wrong receipt, or an entry without a receipt): these are all passes of the forecourt, each once. Together
+--   they count as many calls as were answered. `IsWrong` holds for the pass and the number.
+-- The reason is never C3 (another configuration).
 abbrev pub RefusesSince : HaltedValue → List PassView → CloseRefusal → Type 0
 RefusesSince h passes PassMissing = ¬ AreAll h.opened.passes passes
 RefusesSince h passes (NotInHistory id number) =
@@ -73,7 +78,7 @@ RefusesSince h passes (NotInHistory id number) =
     × IsWrong h.locked_site.journal_failed (length h.opened.base) h.locked_site.site.history passes id number
 RefusesSince h passes OtherConfig = ⊥
 
--- why a close was refused, if the history at the start was empty and no journal can fail
+-- why a close was refused, if the history at the start was empty and the journal can't fail
 abbrev pub Refuses : HaltedValue → List PassView → CloseRefusal → Type 0
 Refuses h passes PassMissing = ¬ AreAll h.opened.passes passes
 Refuses h passes (NotInHistory id number) =
@@ -82,7 +87,8 @@ Refuses h passes (NotInHistory id number) =
     × IsFault h.locked_site.site.history passes id number
 Refuses h passes OtherConfig = ⊥
 
--- a forecourt with this site and journal under its lock can be closed with these passes
+-- a forecourt with this site and journal under its lock can be closed with these passes, if they are all its passes,
+-- each once
 pub record IsClosable (base : List Entry) (taken : Option (List ℕ)) (v : LockedSiteValue) (config : ConfigValue) (passes : List PassView) : Type 0 where
   pub config_is : v.site.config ≡ config
   pub legal : Upholds v.site

@@ -20,16 +20,19 @@ abbrev pub IsRunFor : ℕ → ℕ → Request → ReadyValue → Type 0
 IsRunFor till moment request run = (run.draft.till ≡ till) × (run.draft.moment ≡ moment) × (run.draft.request ≡ request)
 
 -- The answer `a` is that of the run: at some site of this configuration the run wasn't stale, and its commit made an
--- entry with the number and the reply of `a`, with the version of the run's draft, and with its program's answer.
+-- entry with the number and the reply of `a`. The entry has the version of the run's draft, and the answer that this
+-- version's program gave in the run.
 pub record IsAnswerOf (config : ConfigValue) (pass : ℕ) (run : ReadyValue) (a : Answered) : Type 0 where
   pub site : SiteValue
   pub after : SiteValue
   pub config_is : site.config ≡ config
   pub committed : Commits site pass run (Done a) after
 
--- The answer follows from these runs. If there was no run, the answer isn't a program's. If there was one, and the
--- answer is a program's, it is that of the run. If there were two, nothing is said about the answer. There are never
--- more.
+-- What these runs say about the answer:
+-- - If there was no run, the answer isn't a program's.
+-- - If there was one run, and the answer is a program's, it is that of the run.
+-- - If there were two runs, nothing is claimed of the answer.
+-- There are never more than two runs.
 abbrev pub DecidedAfter : ConfigValue → ℕ → List ReadyValue → Answered → Type 0
 DecidedAfter config pass [] a = is_decided a.reply ≡ false
 DecidedAfter config pass (run ∷ []) a = is_decided a.reply ≡ true → IsAnswerOf config pass run a

@@ -22,8 +22,10 @@ use Rattle.site_lock.specs.Passes.{PassView}
 use Rattle.site_lock.specs.Calls.{Gains, FitsIn, RoseWithin}
 use Rattle.site_lock.specs.Decisions.{DecidedBy}
 
--- The act was entered: the pass got the receipt of this number and reply, for the act at its moment (0 unless it is a
--- till's request). The reply fits, and the program of a load is good and accepted by the verifier.
+-- The act was entered. The pass got a receipt of the act with this number and reply, and now has at most `number`
+-- receipts. The receipt's moment is `moment` for a till's request, and 0 for any other act. Some legal history ends
+-- with an entry that agrees with this receipt and has this pass (`FitsIn`). The program of a load is good and accepted
+-- by the verifier.
 pub record DeskEnters (config : ConfigValue) (before now : PassView) (act : Act) (moment number : ℕ) (reply : Reply) : Type 0 where
   pub gains : Gains before now (entered_moment act moment) act (record { number = number; reply = reply })
   pub number_is : length now.receipts ≤ number
@@ -31,7 +33,8 @@ pub record DeskEnters (config : ConfigValue) (before now : PassView) (act : Act)
   pub good : IsGoodAct act
   pub accepted : load_refusal act ≡ None
 
--- The act is a load whose program the verifier refuses with these numbers, and the pass is unchanged.
+-- The act is a load whose program the verifier refuses. The refusal has this number, unit, and register or argument
+-- (`part`). The pass is unchanged.
 pub record DeskRefuses (before now : PassView) (act : Act) (number : ℕ) (unit part : Option ℕ) : Type 0 where
   pub refusal : Refusal
   pub refused : IsRefusedAct act refusal
@@ -39,8 +42,8 @@ pub record DeskRefuses (before now : PassView) (act : Act) (number : ℕ) (unit 
   pub shown : refusal_numbers refusal ≡ Some (number, unit, part)
   pub same : now ≡ before
 
--- What holds after each answer of the desk. After an answer without an entry the pass is unchanged. The answer that the
--- journal failed comes only if the journal can fail.
+-- What holds after each answer of the desk. After an answer without an entry the pass is unchanged. The desk answers
+-- `JournalFailed` only if the journal can fail, and never `Line`.
 abbrev pub DeskAnswers : ConfigValue → Type 0 → PassView → PassView → Act → ℕ → Answer → Type 0
 DeskAnswers config may_fail before now act moment (Entered number reply) = DeskEnters config before now act moment number reply
 DeskAnswers config may_fail before now act moment JournalFull = now ≡ before
@@ -49,7 +52,8 @@ DeskAnswers config may_fail before now act moment (Line fault) = ⊥
 DeskAnswers config may_fail before now act moment (Program number unit part) = DeskRefuses before now act number unit part
 DeskAnswers config may_fail before now act moment JournalFailed = (now ≡ before) × may_fail
 
--- the answer to a till's request can be a program's grant or denial (S24) only if the gate was called once or twice
+-- the answer to a till's request can be that a program granted it, or that a program denied it (S24), only if the gate
+-- was called once or twice
 abbrev pub CallsGate : ℕ → ℕ → Answer → Act → Type 0
 CallsGate before now (Entered number reply) (Till till request) = is_decided reply ≡ true → RoseWithin 1 2 before now
 CallsGate before now (Entered number reply) (Dispenser point event) = Unit {0}
@@ -60,7 +64,7 @@ CallsGate before now (Line fault) act = Unit {0}
 CallsGate before now (Program number unit part) act = Unit {0}
 CallsGate before now JournalFailed act = Unit {0}
 
--- the answer to a till's request follows from the runs that the gate made, as `DecidedBy` says
+-- if a till's request was entered, the answer follows from the runs that the gate made, as `DecidedBy` says
 abbrev pub DeskDecides : {G : Type 0} → (G → ReadyValue → G → Type 0) → ConfigValue → ℕ → ℕ → G → G → Answer → Act → Type 0
 DeskDecides makes config pass moment before now (Entered number reply) (Till till request) =
     DecidedBy makes config pass till moment request before now (record { number = number; reply = reply })

@@ -51,12 +51,14 @@ IsFault history passes id n =
     Any (λ p. (p.id ≡ id) × FailsFrom history p.id 0 p.receipts n) passes
     ⊎ Any (λ e. (e.pass ≡ id) × (e.number ≡ n) × ¬ Covered passes e) history
 
--- The history agrees with the receipts, if its first `base` entries are older than the passes: the receipts' numbers
--- are above `base`, and each later entry has a receipt in its pass.
+-- `IsMerge` for a history whose first `base` entries are older than the passes: the receipts' numbers are above `base`,
+-- and each later entry has a receipt in its pass.
 abbrev pub IsMergeSince : ℕ → List Entry → List PassView → Type 0
 IsMergeSince base history passes = All (λ p. AgreesFrom history p.id base p.receipts) passes × All (Covered passes) (drop base history)
 
--- `IsFault` for a history whose first `base` entries are older than the passes
+-- `IsFault` for a history whose first `base` entries are older than the passes. Either the first wrong receipt of this
+-- pass has this number; the first receipt is also wrong if its number isn't above `base`. Or an entry after the first
+-- `base` ones has this number and is one of this pass, and the pass has no receipt of it.
 abbrev pub IsFaultSince : ℕ → List Entry → List PassView → ℕ → ℕ → Type 0
 IsFaultSince base history passes id n =
     Any (λ p. (p.id ≡ id) × FailsFrom history p.id base p.receipts n) passes

@@ -4,13 +4,14 @@ use Rattle.decision_journal.specs.declared.entries.Entry.{Entry}
 use Rattle.site_core.specs.Limits.{ConfigValue}
 use Rattle.site_lock.specs.declared.pass.Receipt.{Receipt}
 
--- The number of a pass, what its share of the call ledger counts, and its receipts, the oldest first.
+-- The number of a pass, how many calls its share of the ledger counts, and its receipts, the oldest first.
 pub record PassView : Type 0 where
   pub id : ℕ
   pub amount : ℕ
   pub receipts : List Receipt
 
--- A forecourt's configuration, the number of its passes, and the history and the bytes of the journal at its start.
+-- A forecourt's configuration, the number of its passes, the history that it started from, and the bytes that the
+-- journal had taken before the start, if they are known.
 pub record Opened : Type 0 where
   pub config : ConfigValue
   pub passes : ℕ

@@ -68,7 +68,8 @@ fn has_number(receipts: &[Receipt], number: u32) -> bool
     receipts.iter().any(|receipt| receipt.number == number)
 }
 
-// Does what `has_number` does, faster, for receipts whose numbers rise. For other receipts it can wrongly return false.
+// Returns whether one of the receipts has this number, as `has_number` does, but faster. The numbers of the receipts
+// should rise: if they don't, it can wrongly return false.
 fn has_rising_number(receipts: &[Receipt], number: u32) -> bool
     ensures { IsTrue result → HasNumber receipts.now number }
 {
@@ -95,8 +96,8 @@ fn is_covered<L: SiteLedger>(passes: &[Pass<L>], entry: &Entry) -> bool
     false
 }
 
-// Does what `is_covered` does, faster, for passes whose receipts' numbers rise. For other passes it can wrongly return
-// false.
+// Returns whether one of the passes is that of the entry and has a receipt with the entry's number, as `is_covered`
+// does, but faster. The numbers of each pass's receipts should rise: if they don't, it can wrongly return false.
 fn is_covered_fast<L: SiteLedger>(passes: &[Pass<L>], entry: &Entry) -> bool
     ensures { IsTrue result → Covered passes.now entry.now }
 {
@@ -127,7 +128,7 @@ fn uncovered<L: SiteLedger>(history: &[Entry], passes: &[Pass<L>]) -> Option<(u3
     None
 }
 
-// Returns all entries but the first `base` ones.
+// Returns all entries but the first `base` ones. `base` must be at most the number of all entries.
 pub(super) fn behind(base: u32, history: &[Entry]) -> &[Entry]
     requires { base ≤ length history.now }
     ensures { result.now ≡ drop base history.now }
@@ -151,8 +152,8 @@ fn uncovered_since<L: SiteLedger>(
 /// Compares a history with the receipts of the passes. Returns `None` if they agree. Otherwise returns the number of a
 /// pass and the number of an entry, in one of two cases:
 ///
-/// - The pass's first wrong receipt has this entry number. A receipt is wrong if the history has no such entry, if the
-///   entry has another pass, moment, act or reply, or if its number isn't above that of the receipt before it.
+/// - The pass's first wrong receipt has this entry number. A receipt is wrong if no entry has its number, if the entry
+///   of its number has another pass, moment, act or reply, or if its number isn't above that of the receipt before it.
 /// - The entry is one of this pass, and the pass has no receipt of it.
 pub fn fault<L: SiteLedger>(history: &[Entry], passes: &[Pass<L>]) -> Option<(u32, u32)>
     ensures none { IfNone result (IsMerge history.now passes.now) }
@@ -161,9 +162,10 @@ pub fn fault<L: SiteLedger>(history: &[Entry], passes: &[Pass<L>]) -> Option<(u3
     fault_since(0, history, passes)
 }
 
-/// Does what `fault` does for a history whose first `base` entries are older than the passes. `base` must be at most
-/// the number of all entries. A receipt is also wrong if its number isn't above `base`, and only the entries after the
-/// first `base` ones need a receipt.
+/// Compares a history, whose first `base` entries are older than the passes, with the receipts of the passes. Returns
+/// `None` if they agree, or else the number of a pass and the number of an entry, as `fault` does, with two
+/// differences: a receipt is also wrong if its number isn't above `base`, and only the entries after the first `base`
+/// ones need a receipt. `base` must be at most the number of all entries.
 pub fn fault_since<L: SiteLedger>(
     base: u32,
     history: &[Entry],

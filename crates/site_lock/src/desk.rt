@@ -22,9 +22,9 @@ use std::sync::Wait;
 use till_request::{Act, Answer};
 
 /// A desk that calls a forecourt with one pass and one gate. A load's program is verified before the lock is taken. If
-/// the verifier refuses the program, the answer names the refusal, such as V11, and there is no event. Once the journal
-/// has failed, each event is answered with `JournalFailed`, unless memory runs out before the lock is taken. No line is
-/// written for `JournalFailed`, and the session ends.
+/// the verifier refuses the program, the answer names the refusal, such as V11 (a register isn't a number, or isn't
+/// set), and no event reaches the forecourt. Once the journal has failed, each event is answered with `JournalFailed`,
+/// unless memory runs out before the lock is taken. No line is written for `JournalFailed`, and the session ends.
 #[derive(Drop)]
 pub struct PassDesk<'a, L: SiteLedger, R: Wait, G: Gate + Drop, J: Journal = NoJournal> {
     rt: &'a R,
@@ -107,9 +107,9 @@ fn answer_of(called: Result<Answered, EnterFault>) -> Answer
     }
 }
 
-// Returns the answer to a load that makes no event, since its program was refused. The answer is `OutOfMemory` if
-// memory ran out. Otherwise it is `Program` with the refusal's number, and with the numbers of the unit and of the
-// register or argument that the refusal names, each `None` if it names none.
+// Returns the answer to a load whose program was refused. The answer is `OutOfMemory` if memory ran out. Otherwise it
+// is `Program` with three numbers: that of the refusal, that of the unit, and that of the register or argument. The
+// second is `None` if the refusal names no unit. The third is `None` if it names no register or argument.
 fn refused<G: Gate, J: Journal>(refusal: Refusal) -> Answer
     ensures answers { (config : ConfigValue) (pass : PassView) (act : Act) (moment : ℕ) → IsRefusedAct act refusal
         → IsRefusal (load_refusal act) refusal → DeskAnswers config J.may_fail pass pass act moment result }

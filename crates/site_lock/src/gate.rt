@@ -10,7 +10,7 @@ pub trait Gate {
     ghost use Rattle.till_request.specs.Count.{RoseBy};
     ghost use Rattle.site_core.specs.Draft.{ReadyValue};
 
-    /// For proofs: the number of calls of `run` so far.
+    /// For proofs: the gate's count of the calls of `run`, which wraps at 2^64.
     ghost calls: { Self → ℕ };
 
     /// For proofs: `run`, called on a gate in the first state, can return this `Ready` and leave the gate in the second

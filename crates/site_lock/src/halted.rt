@@ -52,7 +52,7 @@ impl<L: SiteLedger, J: Journal> Halted<L, J> {
         ensures some { IfSome result (λ why. RefusesSince self.old passes.old.items why) }
         ensures halted { IsHalted J.may_fail self.new }
     {
-        // This call gives the prover what holds under the lock.
+        // This call gives the prover that `IsHalted` holds.
         let _ = self.history();
         if !are_all(self.passes, passes.as_slice()) {
             return Some(CloseRefusal::PassMissing);

@@ -11,9 +11,9 @@ use till_request::{Act, Reply};
 /// site's configuration, the history that the forecourt starts from, and the bytes that the journal had taken before
 /// the start, if they are known.
 ///
-/// A forecourt is made, used and closed in one function that is generic over its ledger. So the passes of one forecourt
-/// have another type than those of another, and code that mixes them doesn't compile. At run time the ledger is
-/// `Brand`, which holds nothing.
+/// A forecourt is made, used and closed in one function that is generic over its ledger. So the passes of two
+/// forecourts have different types, and code that mixes them doesn't compile. At run time the ledger is `Brand`, which
+/// holds nothing.
 pub trait SiteLedger: Ledger {
     ghost use Rattle.std.specs.Prelude.{List, Option, ℕ};
     ghost use Rattle.decision_journal.specs.declared.entries.Entry.{Entry};
@@ -22,7 +22,7 @@ pub trait SiteLedger: Ledger {
     /// The configuration of the forecourt's site.
     ghost config: { ConfigValue };
 
-    /// The history that the forecourt starts from: that of an audited site, or an empty one.
+    /// The history that the forecourt starts from, the oldest entry first. For a new site it is empty.
     ghost base: { List Entry };
 
     /// The bytes that the journal had taken when the forecourt was started, if they are known.
@@ -84,7 +84,7 @@ impl<L: SiteLedger> Pass<L> {
         }
     }
 
-    /// Keeps the memory of a run for the next one.
+    /// Keeps the memory of a run that has ended, for the draft of the next run.
     pub(super) fn keep(&mut self, draft_memory: DraftMemory)
         ensures { self.new ≡ self.old }
     {

@@ -18,8 +18,9 @@ pub if_err_more : {T E : Type 0} (P Q : E → Type 0) (r : Result T E) → ((e :
 if_err_more P Q (Ok x) more h = h
 if_err_more P Q (Err e) more h = more e h
 
--- A forecourt started with `from`, as the plan says, and workers of the plan returned `passes`. Then a close with these
--- passes is tried.
+-- Let a forecourt start with `from`, as the plan says. Let workers of the plan return `passes`, and let `clean` of
+-- their connections, at all workers, end without a SessionFault. If a close with these passes succeeds, `IsServed`
+-- holds. If the close is refused, and `passes` has all passes of the forecourt, each once, then `ServingFails` holds.
 module _ (plan : Plan) (from : Opened) (same : from ≡ plan.from) (passes : List PassView) (clean : ℕ) (worked : HaveWorked plan passes clean) where
   pub leaves_so : (counted : ℕ) (site : SiteValue) (written : Option (List ℕ)) → counted ≡ clean → ClosesSince from passes site written
       → IsServed plan counted site written

@@ -78,7 +78,8 @@ module _ (may_fail : Type 0) (workers : List Worker) (connections : ℕ) (from :
     more,
   )
 
-  -- `WaitsAt tasks k n e`: the task at place k holds the worker at place n, and a new pass with the number n + 1
+  -- `WaitsAt tasks k n e`: the task at place k holds the worker at place n, and a new pass with the number n + 1. If
+  -- there is no place k, `e` is taken for the task.
   abbrev WaitsAt : List (Option (PassView × Worker)) → ℕ → ℕ → Option (PassView × Worker) → Type 0
   WaitsAt tasks k n e = (worker : Worker) × (slice_get workers n ≡ Some worker) × (slice_index_or tasks k e ≡ Some (new_pass (n + 1), worker))
 
@@ -95,8 +96,9 @@ module _ (may_fail : Type 0) (workers : List Worker) (connections : ℕ) (from :
       (subst (λ (z : Option (PassView × Worker)). RunsWorker own may_fail connections z (d y)) first.2 (manned 0 x (omega arith)))
       (all_back w d (b + 1) xs ys (omega arith) (λ k n e num lt. waiting (suc k) n e (omega arith) (omega arith)) (λ k e lt. manned (suc k) e (omega arith)))
 
-  -- `tasks` wait to be run, and `ys` are the same tasks after each worker has run. Then each of `ys` has the result of
-  -- its worker, and there is one for each worker.
+  -- Let `xs` be `tasks`, which wait to be run, and `ys` the same tasks, in the same order, after they have run. `w`
+  -- reads the pass and the worker that a task holds, and `d` reads its result. Then each task in `ys` has the result of
+  -- its worker, and there are as many tasks in `ys` as workers.
   pub all_done : {P : Type 0} (w : P → Option (PassView × Worker)) (d : P → Option (PassView × ℕ)) (tasks xs ys : List P)
       → tasks ≡ xs → length ys ≡ length xs → AreWaiting workers (map w tasks)
       → ((k : ℕ) (e : P) → k < length xs → RunsWorker own may_fail connections (w (slice_index_or xs k e)) (d (slice_index_or ys k e)))

@@ -1,5 +1,5 @@
--- What is proved of a worker's clock and desk, restated for what a caller sees of them: the moment that the clock gave
--- last, and the desk's pass.
+-- If a worker serves connections (`Serves`) with a clock and a desk, then `Serves` also holds with two values in place
+-- of these: the moment that the clock gave last, and the desk's pass.
 use Rattle.std.proofs.Common.{◌≡◌, ℕ, List, Option, Result}
 use Rattle.till_request.specs.declared.act.Act.{Act}
 use Rattle.till_request.specs.declared.act.Role.{Role}

@@ -18,8 +18,9 @@ AreWaiting workers tasks =
 abbrev pub HasCrew : List (Option (PassView × Worker)) → Type 0
 HasCrew tasks = (workers : List Worker) × IsCrew (length workers) × AreWaiting workers tasks
 
--- A task ran. If it held a pass and a worker before, then this number of connections was served with the pass, in the
--- worker's role, and the task now holds the pass, and how many of these connections ended without a SessionFault.
+-- A task ran. If it held a pass and a worker before:
+-- - `connections` connections were served with the pass, in the worker's role.
+-- - The task now holds the pass, and the number of these connections that ended without a SessionFault.
 abbrev pub RunsWorker : ConfigValue → Type 0 → ℕ → Option (PassView × Worker) → Option (PassView × ℕ) → Type 0
 RunsWorker config may_fail connections None after = Unit {0}
 RunsWorker config may_fail connections (Some w) None = ⊥

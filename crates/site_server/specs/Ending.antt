@@ -47,8 +47,9 @@ RunsAllTasks from may_fail connections tasks passes clean =
     → HaveWorked (record { from = from; may_fail = may_fail; roles = roles_of workers; connections = connections }) passes clean
     × AreAll (length workers) passes
 
--- A site was served and closed. Its history is the one at the start, followed by the entries that the passes have
--- receipts of. While it was served, the journal took exactly the text of the entries that have receipts.
+-- Workers of this plan served a site, and the site was closed. In all, `clean` of their connections ended without a
+-- SessionFault. The site's history is the one at the start, followed by the entries that the passes have receipts of.
+-- While the site was served, the journal took exactly the text of the entries that have receipts.
 pub record IsServed (plan : Plan) (clean : ℕ) (site : SiteValue) (written : Option (List ℕ)) : Type 0 where
   pub passes : List PassView
   pub closes : ClosesSince plan.from passes site written

@@ -25,7 +25,7 @@ gives_any_moment before moment now = now ≡ moment
 
 -- What happened between two states of a clock and a pass. One of:
 -- - nothing
--- - one more line was handled, but got no answer because memory ran out or the journal failed
+-- - one line was handled, but got no answer because memory ran out or the journal failed
 abbrev pub DropsOne : ConfigValue → Type 0 → Role → ℕ × PassView → ℕ × PassView → Type 0
 DropsOne config may_fail role s s' =
     (s' ≡ s) ⊎ ((why : HandlerError) × (line : List ℕ) × IsLine line × desk_drops (pass_answers config may_fail) gives_any_moment role why s line s')

@@ -174,7 +174,7 @@ struct Returned<L: SiteLedger> {
 
 /// Runs all tasks at once, moves their passes into `passes`, and then asks the watcher to stop looking at the site.
 /// `passes` must be empty and have room for one pass from each task. `tasks` must be those of a whole crew, and must
-/// not have run yet. The forecourt must have the configuration that `L` names.
+/// not have run yet. The configuration of the forecourt must be that of the ledger `L`.
 fn work_all<
     L: SiteLedger + Send + Sync,
     J: Journal + Send,
@@ -244,9 +244,9 @@ impl<J: Journal + Send> Serving<J> {
         self.run_on::<Brand, N, A, W, R>(rt, alloc, blank, outside)
     }
 
-    /// Serves the site like `run`, with the same errors. Makes the ledger from `blank`, which must have been made for
-    /// the ledger `L`, with one part for each worker. `L` must name the site's configuration, its history, and the
-    /// bytes that the journal has taken.
+    /// Serves the site like `run`, with the same errors. Makes the ledger `L` from `blank`, which must have been made
+    /// for `L`. `L` must have one part for each worker, the site's configuration, the site's history as the one to
+    /// start from, and the bytes that the journal has taken, if they are known.
     fn run_on<
         L: SiteLedger + Send + Sync,
         N: Notices + Sync,

@@ -51,7 +51,7 @@ marked_is (word ∷ words) p = elim (cases_lt p 64) [
       (λ h. same ∙ is.0 (sym there ∙ h), λ e. there ∙ is.1 (sym same ∙ e))
 ]
 
--- ---- masks
+-- ---- these lemmas say which bits are 1 in a mask, in words that are all 0, and in the OR and the AND of two words
 
 power_le : (lo hi : ℕ) → lo ≤ hi → 2 ^ lo ≤ 2 ^ hi
 power_le lo hi l = elim (cases_eq lo hi) [
@@ -73,14 +73,14 @@ mask_low lo hi i l below =
 mask_high : (lo hi i : ℕ) → lo ≤ hi → hi ≤ i → bit_at (2 ^ hi - 2 ^ lo) i ≡ 0
 mask_high lo hi i l above = let some = pow_pos lo in let most = power_le lo hi l in bit_at_above (2 ^ hi - 2 ^ lo) hi i (omega (arith, some, most)) above
 
--- the mask of the lowest hi bits minus that of the lowest lo bits is 2 ^ hi - 2 ^ lo
+-- if lo ≤ hi, the mask of the lowest lo bits is at most that of the lowest hi, and the difference is 2 ^ hi - 2 ^ lo
 pub mask_of_low : (lo hi low high : ℕ) → lo ≤ hi → high ≡ 2 ^ hi - 1 → low ≡ 2 ^ lo - 1 → (low ≤ high) × (high - low ≡ 2 ^ hi - 2 ^ lo)
 mask_of_low lo hi low high l h e = let some = pow_pos lo in let most = power_le lo hi l in (omega (arith, h, e, some, most), omega (arith, h, e, some, most))
 
 never_one : (n : ℕ) → n ≡ 0 → n ≡ 1 → ⊥
 never_one n z e = cc
 
--- in 2 ^ hi - 2 ^ lo the bits lo to hi - 1 are 1, and all others are 0
+-- if lo ≤ hi, then in 2 ^ hi - 2 ^ lo the bits lo to hi - 1 are 1, and all others are 0
 pub mask_is : (lo hi i : ℕ) → lo ≤ hi → (bit_at (2 ^ hi - 2 ^ lo) i ≡ 1) ↔ ((lo ≤ i) × (i < hi))
 mask_is lo hi i l =
     let low : bit_at (2 ^ hi - 2 ^ lo) i ≡ 1 → lo ≤ i = λ e. elim (cases_lt i lo) [ inl b ↦ absurd (never_one _ (mask_low lo hi i l b) e) | inr b ↦ b ] in
@@ -102,7 +102,7 @@ zero_word zero k = refl
 zero_word (suc n) zero = refl
 zero_word (suc n) (suc k) = zero_word n k
 
--- the set that words of 0 represent is empty
+-- words that are all 0 represent the empty set
 pub no_place : (n p : ℕ) → Has (places_of (no_words n)) p → ⊥
 no_place n p h = never_one _ (ap (λ word. bit_at word (p % 64)) (zero_word n (p / 64)) ∙ bit_at-zero (p % 64)) ((marked_is (no_words n) p).0 h)
 
@@ -116,7 +116,7 @@ and_is a b i =
     let is = below_one (bit_at a i) (bit_at b i) (bit_at-lt a i) (bit_at-lt b i) in
     (λ e. is.0 (sym (bit_at_and a b i) ∙ e), λ h. bit_at_and a b i ∙ is.1 h)
 
--- ---- one word changed
+-- ---- if word k of a set becomes v, the bits of v say which of its places are in the set, and no other place changes
 
 module _ (words : List ℕ) (k v : ℕ) where
   pub word_set : (p : ℕ) → p / 64 ≡ k → k < length words → IsMarked (slice_set words k v) p ↔ (bit_at v (p % 64) ≡ 1)
@@ -160,7 +160,7 @@ at_word words p k here =
     ap (λ j. bit_at (slice_index_or words j 0) (p % 64)) here in
     (λ e. sym same ∙ e, λ e. same ∙ e)
 
--- bit i of the mask is 1 exactly if bit i of word k is one of the `len` places from `at` on
+-- for each i below 64, bit i of word k's mask is 1 exactly if place 64 k + i is one of the `len` places from `at` on
 abbrev pub IsMask : ℕ → ℕ → ℕ → ℕ → Type 0
 IsMask mask k at len = (i : ℕ) → i < 64 → (bit_at mask i ≡ 1) ↔ Within at len (64 * k + i)
 
@@ -323,7 +323,7 @@ held_more words at len k mask is all held p w l = elim (cases_eq (p / 64) k) [
   | inr other ↦ held p w (omega (arith, l, other))
 ]
 
--- if all of `len` places from `at` on are in the set, then word k has all bits of its mask
+-- if all of the `len` places from `at` on are in the set, then word k has all bits that are 1 in its mask
 pub not_held : (words : List ℕ) (at len k mask : ℕ) → k < 8 → mask < 2 ^ 64 → IsMask mask k at len → ((p : ℕ) → Within at len p → Has (places_of words) p)
     → bit_and (slice_index_or words k 0) mask ≡ mask
 not_held words at len k mask small below is all =

@@ -116,11 +116,12 @@ IsBad-act_of_line role line = IsBad-act_within_role role (act_by_first_form role
 bad_along : {r s : Result Act LineFault} → r ≡ s → IsBad r → IsBad s
 bad_along e h = subst IsBad e h
 
--- a line of at most 8,400 bytes isn't too long, so it is read by its words
+-- for a line of at most 8,400 bytes, `line_read` gives the same as `act_of_line`, which reads lines of any length
 pub short_read : (role : Role) (line : List ℕ) → length line ≤ 8400 → line_read role line ≡ act_of_line role line
 short_read role line l = ap (λ b. cond b (Err TooLong) (act_of_line role line)) (le-ltb 8400 (length line) l)
 
--- if a line was read with its LF, and parsing it gave a fault, then `TakesFault` holds for this fault
+-- If `line` and its LF were read, and parsing `line` gave `fault`, then what was read is as `TakesFault` says for this
+-- fault. If `fault` is `OutOfMemory`, `line` must also have the form of a load that `role` may send.
 pub fault_taken : (fault : LineFault) (old new : Option (List ℕ)) (role : Role) (before after : ℕ) (line : List ℕ)
     → Consumes old new (line ++ 10 ∷ []) → IsLine line → Fails fault (line_read role line)
     → (fault ≡ OutOfMemory → IsLoad role (words line)) → TakesFault old new role before after (reading.Line fault)

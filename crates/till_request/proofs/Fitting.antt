@@ -14,7 +14,7 @@ use Rattle.till_request.specs.declared.form.Keyword.TheVariants.{Load}
 use Rattle.till_request.specs.Grammar.{text, template, part_fits, fits, suits, allows, sender, all_forms}
 use Rattle.till_request.specs.Spelling.{load_word}
 
--- words that fit a form's parts are as many as the parts
+-- if words fit a form's parts, there are as many words as parts
 pub fits_count : (ps : List Part) (ws : List (List ℕ)) → fits ps ws ≡ true → length ps ≡ length ws
 fits_count [] [] h = refl
 fits_count [] (w ∷ ws) h = absurd (cc)
@@ -77,7 +77,7 @@ other_count role ws a b c =
     let count : length ws ≡ length (template form) = suited_count role form ws h in
     omega (arith, count, between form, a, b, c)))
 
--- a slice of three words is the list of its words at the indices 0, 1 and 2
+-- if a slice has three words, they are those at its indices 0, 1 and 2
 pub in_three : (ws : List (Bor (List ℕ))) (d : Bor (List ℕ)) → length ws ≡ 3
     → map (λ w. w.now) ws ≡ (get_or ws 0 d).now ∷ (get_or ws 1 d).now ∷ (get_or ws 2 d).now ∷ []
 in_three (a ∷ b ∷ c ∷ []) d e = refl
@@ -93,7 +93,7 @@ pub in_five : (ws : List (Bor (List ℕ))) (d : Bor (List ℕ)) → length ws �
 in_five (a ∷ b ∷ c ∷ v ∷ w ∷ []) d e = refl
 in_five ws d e = absurd (omega (arith, e))
 
--- whether four tests all hold doesn't depend on which is made first, the first or the third
+-- moving the third of four tests to the front doesn't change whether all of them hold
 pub third_first : (a b c d : Bool) → (a && (b && (c && d))) ≡ (c && (a && (b && d)))
 third_first true true c d = refl
 third_first true false true d = refl

@@ -22,8 +22,8 @@ and_false false c h = refl
 not_below : (m n : ℕ) → ¬ (m < n) → nat_lt m n ≡ false
 not_below m n h = search (rules, common_steps)
 
--- if the first i bytes are digits, and the next byte is one, then the first i + 1 bytes are digits, and `m` is their
--- number
+-- if the first i bytes are digits of the number `v`, and the next byte is a digit, then the first i + 1 bytes are
+-- digits, and their number is `m`, which is v * 10 plus the digit
 pub digits_more : (w : List ℕ) (i v m : ℕ) → i < length w → list_all is_ascii_digit (take i w) ≡ true → v ≡ digits_value 10 (take i w)
     → is_ascii_digit (get_or w i 0) ≡ true → m ≡ v * 10 + digit_value (get_or w i 0)
     → (list_all is_ascii_digit (take (i + 1) w) ≡ true) × (m ≡ digits_value 10 (take (i + 1) w))
@@ -32,7 +32,8 @@ digits_more w i v m lt digits value digit more = (
   more ∙ ap (λ n. n * 10 + digit_value (get_or w i 0)) value ∙ sym (digits_value_more 10 w i lt),
 )
 
--- a word isn't a number below 2^64 if one of its bytes isn't a digit, or if its digits up to one byte are 2^64 or more
+-- if a byte of a word isn't a digit, or the bytes up to and including it spell 2^64 or more, then the word isn't the
+-- digits of a number below 2^64
 pub no_value : (w : List ℕ) (i v : ℕ) → i < length w → v ≡ digits_value 10 (take i w)
     → (is_ascii_digit (get_or w i 0) ≡ false) ⊎ (2 ^ 64 ≤ v * 10 + digit_value (get_or w i 0))
     → (list_all is_ascii_digit w && nat_lt (digits_value 10 w) (2 ^ 64)) ≡ false

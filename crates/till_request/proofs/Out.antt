@@ -1,4 +1,4 @@
--- If the first i bytes of a text were written, and then n more of them, then its first i + n bytes were written.
+-- If the first i bytes of a text were written, and then its next n bytes, then its first i + n bytes were written.
 use Rattle.std.proofs.Common.{◌≡◌, ℕ, ◌≤◌, ◌+◌, ◌-◌, List, length, take, drop, Option, arith, ap, length-drop}
 use Rattle.std.proofs.Math.Seq.{take-add}
 use Rattle.std.proofs.lemmas.Grind.{common_steps}

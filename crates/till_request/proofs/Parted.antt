@@ -45,7 +45,8 @@ cut_nowhere p xs e = none_before p xs (by_no_place (ltb (position_or_len p xs) (
 pub rest_behind : (xs : List ℕ) (n : ℕ) → take (length xs - n) (drop n xs) ≡ drop n xs
 rest_behind xs n = grind (arith, common_steps)
 
--- if a text has n parts and then those of a rest, it has more than n parts
+-- if the parts of a text are n parts and then those of `rest`, the text has more than n parts, since even an empty
+-- `rest` has one part
 pub parts_and_more : (p : ℕ → Bool) (xs rest : List ℕ) (parts : List (Bor (List ℕ))) (n : ℕ) → map (λ w. w.now) parts ++ slice_split p rest ≡ slice_split p xs
     → eqb (length parts) n ≡ true → n < length (slice_split p xs)
 parts_and_more p xs rest parts n all full =
@@ -63,8 +64,9 @@ none_ahead : (sep : ℕ) (xs : List ℕ) (start at : ℕ) → start ≤ at → N
 none_ahead sep xs start at l none k h =
     ne_eqb _ _ (λ e. none (start + k) (omega arith) (omega (arith, l, h)) (sym (get_or-drop start xs k 0) ∙ e))
 
--- If the first separator from `start` on is at place `at`, the first part is the bytes before it. The other parts are
--- those of the bytes after it.
+-- The bytes from place `start` on are split at the separators. If the first separator among them is at place `at`,
+-- their first part is the bytes from `start` up to but not including `at`, and their other parts are the parts of the
+-- bytes after `at`.
 part_up_to : (sep : ℕ) (xs : List ℕ) (start at : ℕ) → start ≤ at → at < length xs → NoneFrom sep xs start at → get_or xs at 0 ≡ sep
     → slice_split (λ b. eqb b sep) (drop start xs) ≡ take (at - start) (drop start xs) ∷ slice_split (λ b. eqb b sep) (drop (at + 1) xs)
 part_up_to sep xs start at l h none found =
@@ -95,8 +97,9 @@ pushed : (parts more : List (Bor (List ℕ))) (part : Bor (List ℕ)) → more �
     → map (λ w. w.now) more ≡ map (λ w. w.now) parts ++ part.now ∷ []
 pushed parts more part e = ap (λ t. map (λ w. w.now) t) e ∙ map-append (λ w. w.now) parts (part ∷ [])
 
--- after a part that ends at a separator, all parts are the parts so far, this part, and those of the bytes after the
--- separator
+-- `more` is `parts` followed by `part`, the bytes from `start` up to but not including the next separator, which is at
+-- place `at`. If `all` is `parts` followed by the parts of the bytes from `start` on, it is also `more` followed by the
+-- parts of the bytes after the separator.
 pub part_more : (sep : ℕ) (all : List (List ℕ)) (xs : List ℕ) (start at : ℕ) (parts more : List (Bor (List ℕ))) (part : Bor (List ℕ))
     → map (λ w. w.now) parts ++ slice_split (λ b. eqb b sep) (drop start xs) ≡ all → more ≡ parts ++ part ∷ []
     → part.now ≡ take (at - start) (drop start xs) → start ≤ at → at < length xs → NoneFrom sep xs start at → get_or xs at 0 ≡ sep
@@ -107,7 +110,8 @@ part_more sep all xs start at parts more part so e is l h none found =
     ∙ append_assoc (map (λ w. w.now) parts) (part.now ∷ []) (slice_split p (drop (at + 1) xs))
     ∙ ap (λ t. map (λ w. w.now) parts ++ t) (ap (λ t. t ∷ slice_split p (drop (at + 1) xs)) is ∙ sym (part_up_to sep xs start at l h none found)) ∙ so
 
--- if no separator follows, all parts are the parts so far and the rest of the text
+-- `more` is `parts` followed by `part`, the bytes from `start` to the end, none of which is the separator. If `all` is
+-- `parts` followed by the parts of these bytes, then `all` is `more`.
 pub part_last : (sep : ℕ) (all : List (List ℕ)) (xs : List ℕ) (start at : ℕ) (parts more : List (Bor (List ℕ))) (part : Bor (List ℕ))
     → map (λ w. w.now) parts ++ slice_split (λ b. eqb b sep) (drop start xs) ≡ all → more ≡ parts ++ part ∷ []
     → part.now ≡ drop start xs → start ≤ at → at ≡ length xs → NoneFrom sep xs start at
@@ -116,7 +120,8 @@ part_last sep all xs start at parts more part so e is l h none =
     pushed parts more part e
     ∙ ap (λ t. map (λ w. w.now) parts ++ t) (ap (λ t. t ∷ []) is ∙ sym (part_to_the_end sep xs start at l h none)) ∙ so
 
--- if the byte at place `at` isn't the separator either, then no byte before place `at + 1` is
+-- if `NoneFrom` holds up to place `at`, and the byte at place `at` isn't the separator, then `NoneFrom` holds up to
+-- place `at + 1`
 pub none_further : (sep : ℕ) (xs : List ℕ) (start at : ℕ) → NoneFrom sep xs start at → get_or xs at 0 ≢ sep → NoneFrom sep xs start (at + 1)
 none_further sep xs start at none f k low high = by_last (eqb_tells k at) where
   by_last : ((eqb k at ≡ true) × (k ≡ at)) ⊎ ((eqb k at ≡ false) × (k ≢ at)) → get_or xs k 0 ≢ sep

@@ -1,4 +1,4 @@
--- The pieces that are removed from a block add up to a line.
+-- The bytes that are removed piece by piece from a block, a buffer in front of a device, add up to a line.
 use Rattle.std.proofs.Common.{◌≡◌, ◌≤◌, ◌<◌, ◌+◌, ◌-◌, ℕ, zero, suc, List, [], ◌∷◌, ◌++◌, Option, Some, None, MatchOption}
 use Rattle.std.proofs.Common.{false, refl, sym, ap, subst, ◌∙◌, arith, append_assoc, append-nil, length, length-append, length-take}
 use Rattle.std.proofs.Common.{length-take-le, take, take-append-drop, drop, drop-drop, slice_range, slice_set}
@@ -33,7 +33,8 @@ ends_behind bytes (Some k) h = (
       ∙ ap (λ l. take k bytes ++ l) (drop_more bytes k 0 h.0.high ∙ ap (λ b. b ∷ drop (k + 1) bytes) (eqb-true _ 10 h.1)),
 )
 
--- a range that begins `count` bytes later is the range without its first `count` bytes
+-- if a range has at least `count` bytes, then the range that begins `count` bytes later is that range without its first
+-- `count` bytes
 pub moved_on : (bytes : List ℕ) (at end count : ℕ) → count ≤ length (slice_range bytes at end)
     → slice_range bytes (at + count) end ≡ drop count (slice_range bytes at end)
 moved_on bytes at end count l =
@@ -41,7 +42,7 @@ moved_on bytes at end count l =
     sym (ap (λ n. drop count (take n (drop at bytes))) e ∙ drop-take count (end - (at + count)) (drop at bytes)
     ∙ ap (λ l. take (end - (at + count)) l) (drop-drop count at bytes))
 
--- a byte that is written to the beginning of a buffer is the buffer's first byte
+-- if a buffer isn't empty, a byte that is written to its beginning is its first byte
 pub put_alone : (byte : ℕ) (buffer rest : List ℕ) → 1 ≤ length buffer → byte ∷ rest ≡ take 1 (slice_set buffer 0 byte) ++ rest
 put_alone byte [] rest l = absurd (omega (arith, l))
 put_alone byte (b ∷ bs) rest l = refl
@@ -65,21 +66,26 @@ beyond there line room l e o h = (
   omega (arith, e, l.1, length-append line (take (room + 1) there), length-take-le (room + 1) there o),
 )
 
--- a line is too long if more bytes come before its LF in the block than the line has room for
+-- `room` is how many more bytes the line can have. If more than that come before the block's first LF, and the first
+-- `room` + 1 of them are removed, then `LineGrows` holds for `TooLong`: the line and the removed bytes are 8,401 bytes
+-- without an LF, one more than a line can have.
 pub ends_too_late : (there line : List ℕ) (room count : ℕ) → IsLine line → room ≡ 8400 - length line → HasFirstLfAt count there → room < count
     → LineGrows there line (drop (room + 1) there) [] TooLong
 ends_too_late there line room count l e h o =
     beyond there line room l e (omega (arith, o, h.0)) (no_lf_less count (room + 1) there (omega (arith, o)) h.1)
 
--- a line is too long if the block has no LF, and has more bytes than the line has room for
+-- `room` is how many more bytes the line can have. If the block has no LF and more bytes than that, and the first
+-- `room` + 1 of them are removed, then `LineGrows` holds for `TooLong`: the line and the removed bytes are 8,401 bytes
+-- without an LF, one more than a line can have.
 pub ends_nowhere : (there line : List ℕ) (room : ℕ) → IsLine line → room ≡ 8400 - length line → HasNoLf there → room < length there
     → LineGrows there line (drop (room + 1) there) [] TooLong
 ends_nowhere there line room l e h o =
     beyond there line room l e (omega (arith, o))
     (no_lf_less (length there) (room + 1) there (omega (arith, o)) (subst (λ l. HasNoLf l) (sym (take_all (length there) there (omega arith))) h))
 
--- if at least one byte and no LF was removed from the block, and the line with the removed bytes has more than `place`
--- bytes but at most 8,400, `LosesPart` holds
+-- `place` is how many bytes the line has room for. `LosesPart` holds if at least one byte was removed from the front of
+-- the block, if no LF was removed, and if the line with the removed bytes has more than `place` bytes, but at most
+-- 8,400. It says that the removed bytes belong to the line, which has no room for them.
 pub part_lost : (there line left : List ℕ) (count place : ℕ) → IsLine line → HasNoLf (take count there) → count ≤ length there
     → count ≤ 8400 - length line → 0 < count → place < length line + count → left ≡ drop count there → LosesPart there line place left
 part_lost there line left count place l h long room some full rest = (
@@ -90,8 +96,9 @@ part_lost there line left count place l h long room some full rest = (
   omega (arith, length-append line (take count there), length-take-le count there long, full),
 )
 
--- if the bytes before the LF were appended to the line, which has room for them, and the LF was removed, the line has
--- ended
+-- If the bytes before the block's first LF were moved to the end of the line, if the LF was removed, and if the line
+-- has at most 8,400 bytes now, then `LineGrows` holds for `Ended`: the line is whole, and the bytes after its LF are
+-- left in the block.
 pub line_ended : (there line left grown : List ℕ) (count : ℕ) → IsLine line → HasFirstLfAt count there → count ≤ 8400 - length line
     → grown ≡ line ++ take count there → left ≡ drop 1 (drop count there) → LineGrows there line left grown Ended
 line_ended there line left grown count l h room is rest =
@@ -104,7 +111,8 @@ line_ended there line left grown count l h room is rest =
       subst (λ w. IsLine w) (sym is) whole,
     )
 
--- if the block's first bytes are taken after the line so far, then what was taken is the line and these bytes
+-- After `line` was taken from the input, the block has the bytes `there`, and the device has `ahead`. If the block's
+-- first bytes, `piece`, are taken too, then `line` followed by `piece` was taken in all.
 pub piece_taken : (a b ahead : Option (List ℕ)) (line there left piece : List ℕ) → Consumes a b line → Keeps b (prepend_known there ahead)
     → there ≡ piece ++ left → Consumes a (prepend_known left ahead) (line ++ piece)
 piece_taken None b ahead line there left piece h k e = tt
@@ -113,13 +121,13 @@ piece_taken (Some ps) (Some qs) None line there left piece h k e = absurd k
 piece_taken (Some ps) (Some qs) (Some rs) line there left piece h k e =
     h ∙ ap (λ t. line ++ t) (sym k ∙ ap (λ t. t ++ rs) e ∙ append_assoc piece left rs) ∙ sym (append_assoc line piece (left ++ rs))
 
--- if all bytes of the block are taken after the line so far, then what was taken is the line and these bytes
+-- if all bytes of the block were taken after `line`, then `line` followed by these bytes was taken in all
 pub all_taken : (a b ahead : Option (List ℕ)) (line there left : List ℕ) → Consumes a b line → Keeps b (prepend_known there ahead)
     → left ≡ [] → Consumes a (prepend_known left ahead) (line ++ there)
 all_taken a b ahead line there left h k e =
     piece_taken a b ahead line there left there h k (sym (append-nil there) ∙ ap (λ l. there ++ l) (sym e))
 
--- what was taken of a line stays the same while bytes are only moved from the device into the block
+-- if `line` was taken, and then bytes were only moved from the device into the block, what was taken is still `line`
 pub still_taken : (a b c : Option (List ℕ)) (line : List ℕ) → Consumes a b line → Keeps b c → Consumes a c line
 still_taken None b c line h k = tt
 still_taken (Some ps) None c line h k = absurd h
@@ -153,8 +161,8 @@ end_by a b ahead (x ∷ xs) h l k z =
     subst (λ e. Takes a (prepend_known [] ahead) (if e then End else Cut)) (sym some)
     (x ∷ xs, still_taken a b (prepend_known [] ahead) (x ∷ xs) h k, l, omega arith, at_end_too ahead z)
 
--- if the input has ended after the bytes `line`, and `found` is `End` if there are none or else `Cut`, then `Takes`
--- holds for `found`
+-- `found` is `End` if `line` is empty, else `Cut`. If the input has ended after `line` was taken, then `Takes` holds
+-- for `found`: nothing was taken (`End`), or at least one byte and no LF (`Cut`), and the input has ended.
 pub end_taken : (a b ahead : Option (List ℕ)) (line there : List ℕ) (found : NextLine) → Consumes a b line → IsLine line
     → Keeps b (prepend_known there ahead) → there ≡ [] → IsAtEnd ahead → found ≡ (if length line == 0 then End else Cut)
     → Takes a (prepend_known there ahead) found
@@ -162,7 +170,8 @@ end_taken a b ahead line there found h l k none z is =
     subst (λ t. Takes a (prepend_known t ahead) found) (sym none)
     (subst (λ f. Takes a (prepend_known [] ahead) f) (sym is) (end_by a b ahead line h l (subst (λ t. Keeps b (prepend_known t ahead)) none k) z))
 
--- if `count` bytes, of those that belong to the line, were moved to its end, then `MovesIntoLine` holds
+-- if the block's first `count` bytes, which belong to the line, were moved to the end of the line, then `MovesIntoLine`
+-- holds: the line with these bytes has no LF and at most 8,400 bytes
 pub buffered_moved : (there line grown left : List ℕ) (room n count : ℕ) → IsLine line → room ≡ 8400 - length line → Belongs there room n → count ≤ n
     → grown ≡ line ++ take count there → left ≡ drop count there → MovesIntoLine there line left grown count
 buffered_moved there line grown left room n count l e belongs within_limit is rest =
@@ -174,7 +183,10 @@ buffered_moved there line grown left room n count l e belongs within_limit is re
     ) in
     (bytes, sym (ap (λ r. bytes ++ r) rest ∙ take-append-drop count there), is, subst (λ w. IsLine w) (sym is) whole, long)
 
--- if the line has no room for `count` bytes that belong to it, then `LacksRoom` holds for the bytes of the block
+-- The block's first `count` bytes belong to the line. `count` is at most `most`, the number of bytes that may be moved.
+-- `free` is how many more bytes the line can have, and `place` is how many bytes it has room for. If this is enough for
+-- the line, but not for the line with the `count` bytes, then `LacksRoom` holds for the bytes of the block: bytes come
+-- next for which the line has no room.
 pub buffered_lacks_room : (there line : List ℕ) (free n count place most : ℕ) → IsLine line → free ≡ 8400 - length line → Belongs there free n
     → count ≤ n → count ≤ most → length line ≤ place → place < length line + count → LacksRoom (Some there) line place most most
 buffered_lacks_room there line free n count place most l e belongs within_limit within fits full =
@@ -196,14 +208,16 @@ consumes_ahead : (there rest bytes : List ℕ) (left : Option (List ℕ)) → Co
 consumes_ahead there rest bytes None h = absurd h
 consumes_ahead there rest bytes (Some left) h = ap (λ t. t ++ rest) h ∙ append_assoc bytes left rest
 
--- if `LacksRoom` holds for the bytes of a block, it also holds for the bytes of the block and the device together
+-- if `LacksRoom` says that the line has no room for bytes that come next in a block, it says the same for the block and
+-- the device together
 pub lacks_ahead : (ahead : Option (List ℕ)) (there line : List ℕ) (place most : ℕ) → LacksRoom (Some there) line place most most
     → LacksRoom (prepend_known there ahead) line place most most
 lacks_ahead None there line place most h = (h.0, None, tt, h.3, h.4, h.5, h.6, h.7)
 lacks_ahead (Some rest) there line place most h =
     (h.0, append_known h.1 rest, consumes_ahead there rest h.0 h.1 h.2, h.3, h.4, h.5, h.6, h.7)
 
--- bytes that were moved from a block to a line were taken from the bytes of the block and the device together
+-- if bytes were moved from a block to the end of the line, as `MovesIntoLine` says, then `ReadsIntoLine` holds for the
+-- input, which is the block and the device together: these bytes were read from it and appended to the line
 pub buffered_with_device : (ahead : Option (List ℕ)) (there line left grown : List ℕ) (count : ℕ) → MovesIntoLine there line left grown count
     → ReadsIntoLine (prepend_known there ahead) (prepend_known left ahead) line grown
 buffered_with_device None there line left grown count h = (h.0, tt, h.2, h.3)

@@ -1,4 +1,4 @@
--- Words that are appended to a text with a space before each are the words joined by spaces.
+-- Appending one or more words to a text, with a space before each, appends a space and the words joined by spaces.
 use Rattle.std.proofs.Common.{◌≡◌, ◌≢◌, ℕ, List, [], ◌∷◌, ◌++◌, codes, Option, Some, None, MatchOption, Bor, refl, sym, ◌∙◌, append_assoc, map}
 use Rattle.std.specs.Fmt.{decimal}
 use Rattle.std.specs.List.{join_with_byte}
@@ -33,7 +33,7 @@ refused number None (Some part) = words_joined (codes "V" ++ decimal number) (de
 refused number (Some unit) None = words_joined (codes "V" ++ decimal number) (decimal unit) []
 refused number (Some unit) (Some part) = words_joined (codes "V" ++ decimal number) (decimal unit) (decimal part ∷ [])
 
--- a reply's words, with a space before each, are a space and the reply's text
+-- a reply's words, with a space before each, are a space and then the reply's text
 pub replied : (reply : Reply) → with_words [] (reply_words reply) ≡ 32 ∷ reply_text reply
 replied replies.Done = words_joined [] (codes "done") []
 replied (replies.Granted amount version) = words_joined [] (codes "granted") (decimal amount ∷ codes "by" ∷ decimal version ∷ [])

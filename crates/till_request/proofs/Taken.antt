@@ -31,8 +31,8 @@ pub part_given : {T E : Type 0} (r : Result T E) (a c : Option (List ℕ)) (xs :
 part_given (Ok x) a c xs h l = tt
 part_given (Err e) a c xs h l = (xs, h, l)
 
--- if a line was read, and then bytes that were appended to it and one more byte, then the grown line and that byte were
--- read
+-- If `line` was read, next the bytes that were appended to it and made it `grown`, and last `byte`, then what was read
+-- in all is `grown` followed by `byte`.
 pub byte_behind : (a b c : Option (List ℕ)) (line grown : List ℕ) (byte : ℕ) → Consumes a b line → ReadsIntoLineThenByte b c line grown (Some byte)
     → Consumes a c (grown ++ byte ∷ [])
 byte_behind a b c line grown byte h on =
@@ -42,22 +42,25 @@ byte_behind a b c line grown byte h on =
 nothing_more : (a b c : Option (List ℕ)) (xs : List ℕ) → Consumes a b xs → Consumes b c [] → Consumes a c xs
 nothing_more a b c xs h k = subst (Consumes a c) (append-nil xs) (consumes_more a b c xs [] h k)
 
--- if bytes were appended to a line, and then one more byte was read or the input had ended, then
--- `ReadsIntoLineThenByte` holds
+-- Bytes were read and appended to a line, and after that one more byte was to be read. If this gave a byte, or found
+-- that the input had ended, what was read in both steps is as `ReadsIntoLineThenByte` says.
 pub goes_on : {E : Type 0} (a b c : Option (List ℕ)) (line grown : List ℕ) (r : Result (Option ℕ) E) → ReadsIntoLine a b line grown
     → IfOk r (λ found. MatchOption found (Consumes b c [] × IsAtEnd c) (λ byte. Consumes b c (byte ∷ []))) → IfOk r (ReadsIntoLineThenByte a c line grown)
 goes_on a b c line grown (Err e) h k = tt
 goes_on a b c line grown (Ok None) h k = ((h.0, nothing_more a b c h.0 h.1 k.0, h.2, h.3), k.1)
 goes_on a b c line grown (Ok (Some byte)) h k = (h.0, consumes_more a b c h.0 (byte ∷ []) h.1 k, h.2, h.3)
 
--- if bytes were appended to a line, and then the read of one more byte failed, then `ReadsBytesOfLine` holds
+-- Bytes were read and appended to a line, and after that one more byte was to be read. If this failed and took no byte,
+-- `ReadsBytesOfLine` holds for both steps together: all bytes that were read belong to the line.
 pub goes_part : {T E : Type 0} (a b c : Option (List ℕ)) (line grown : List ℕ) (r : Result T E) → ReadsIntoLine a b line grown
     → OnErr r (Consumes b c []) → OnErr r (ReadsBytesOfLine a c line)
 goes_part a b c line grown (Ok x) h k = tt
 goes_part a b c line grown (Err e) h k = (h.0, nothing_more a b c h.0 h.1 k, subst (λ l. IsLine l) h.2 h.3)
 
--- if a line was read, and `LacksRoom` holds for it and the bytes after it, then `LacksRoom` holds for all these bytes
--- together
+-- If `line` was read and has no room for bytes that come next, as `LacksRoom` says, then `LacksRoom` also holds for an
+-- empty line at the time before `line` was read: `line` and these bytes came next, and a room of `least` bytes was too
+-- small for them. `least` must be at most `room`, which is the room of `line`. `all`, the number of reads that were
+-- allowed at that time, must be `length line` + `before`.
 pub lacks_behind : (a b : Option (List ℕ)) (line : List ℕ) (least room all before after : ℕ) → Consumes a b line → least ≤ room
     → length line + before ≡ all → LacksRoom b line room before after → LacksRoom a [] least all after
 lacks_behind a b line least room all before after h fits counted l =
@@ -72,8 +75,10 @@ lacks_behind a b line least room all before after h fits counted l =
       omega (arith, long, counted, l.7),
     )
 
--- if a line and one more byte were read, and the line has no room for the byte, then `LacksRoom` holds for all these
--- bytes together
+-- `line` was read, and after it `byte`, which belongs to the same line. If `line` has no room for `byte`, then
+-- `LacksRoom` holds for an empty line at the time before `line` was read: `line` and `byte` came next, and a room of
+-- `room` bytes was too small for them. `all`, the number of reads that were allowed at that time, must be
+-- `length line` + `after` + 1.
 pub lacks_byte : (a c : Option (List ℕ)) (line : List ℕ) (byte room all after : ℕ) → Consumes a c (line ++ byte ∷ []) → IsLine (line ++ byte ∷ [])
     → room ≤ length line → length line + after + 1 ≡ all → LacksRoom a [] room all after
 lacks_byte a c line byte room all after h whole full counted =

@@ -1,6 +1,6 @@
 -- Definitions: the texts of answers (this profile). An entry's number comes before the reply. A refusal or a fault is a
 -- letter and a number: S for the site's, L for a line's, V for a program's. The numbers that it names, such as a
--- slot's, come after that.
+-- slot's, come last.
 use Rattle.std.specs.Prelude.{ℕ, List, [], ◌∷◌, ◌++◌, codes, Option, Some, None}
 use Rattle.std.specs.Fmt.{decimal}
 use Rattle.std.specs.List.{join_with_byte}
@@ -13,14 +13,14 @@ use Rattle.till_request.specs.declared.act.Reply.TheVariants as replies
 use Rattle.till_request.specs.declared.act.Answer.{Answer}
 use Rattle.till_request.specs.declared.act.Answer.TheVariants.{Entered, JournalFull, OutOfMemory, Line, Program, JournalFailed}
 
--- the words of an order
+-- the words of an order; the number of `authorise` is an amount in cents
 abbrev pub order_words : Order → List (List ℕ)
 order_words (orders.Authorise amount) = codes "authorise" ∷ decimal amount ∷ []
 order_words orders.Suspend = codes "suspend" ∷ []
 order_words orders.Resume = codes "resume" ∷ []
 order_words orders.Stop = codes "stop" ∷ []
 
--- the words of a reply
+-- the words of a reply; `unpaid` is how many transactions of the point are unpaid
 abbrev pub reply_words : Reply → List (List ℕ)
 reply_words replies.Done = codes "done" ∷ []
 reply_words (replies.Granted amount version) = codes "granted" ∷ decimal amount ∷ codes "by" ∷ decimal version ∷ []
@@ -35,7 +35,7 @@ reply_words (replies.Refused number (Some value)) = (codes "S" ++ decimal number
 abbrev pub reply_text : Reply → List ℕ
 reply_text reply = join_with_byte 32 (reply_words reply)
 
--- the text of a line's fault
+-- the text of a line's fault: `L1` to `L4`, or `S31` if memory ran out
 abbrev pub fault_text : LineFault → List ℕ
 fault_text faults.TooLong = codes "L1"
 fault_text faults.BadLine = codes "L2"
@@ -44,7 +44,7 @@ fault_text faults.CutLine = codes "L4"
 fault_text faults.OutOfMemory = codes "S31"
 
 -- the words of a program's refusal: V with the refusal's number, the unit that it names, and the register or argument
--- that it names
+-- that it names; each of these two is left out if the refusal names none
 abbrev pub program_words : ℕ → Option ℕ → Option ℕ → List (List ℕ)
 program_words number None None = (codes "V" ++ decimal number) ∷ []
 program_words number None (Some part) = (codes "V" ++ decimal number) ∷ decimal part ∷ []

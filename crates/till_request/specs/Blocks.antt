@@ -1,5 +1,5 @@
--- Promises: which bytes are removed from a block, a buffer in front of a device. What is still unread is the bytes in
--- the block, and then those that the device has.
+-- Promises: which bytes are removed from a block, a buffer in front of a device. The unread bytes are those in the
+-- block, and then those that the device still has.
 use Rattle.std.specs.Prelude.{◌≡◌, ◌⊎◌, ℕ, ◌+◌, ◌*◌, ◌<◌, ◌≤◌, List, [], ◌∷◌, ◌++◌, length, take, drop}
 use Rattle.till_request.specs.Line.{HasNoLf, IsLine}
 use Rattle.till_request.specs.declared.block.Piece.{Piece}
@@ -17,20 +17,21 @@ IsEmptyAfterInputFault Read unread = unread ≡ []
 IsEmptyAfterInputFault ReadsSpent unread = unread ≡ []
 IsEmptyAfterInputFault OutOfMemory unread = Unit {0}
 
--- the first LF comes after `count` bytes
+-- the first LF in `bytes` comes after `count` bytes
 abbrev pub HasFirstLfAt : ℕ → List ℕ → Type 0
 HasFirstLfAt count bytes = (count < length bytes) × HasNoLf (take count bytes) × (bytes ≡ take count bytes ++ 10 ∷ drop (count + 1) bytes)
 
--- The block had the bytes `there` and has the bytes `left` now. `grown` is `line` with what was appended. Ended: the
--- bytes before the first LF were appended, and they and the LF were removed from the block. More: all bytes were
--- appended. TooLong: as many bytes were removed as make the line 8,401 bytes long, one more than a line can have.
+-- The block had the bytes `there` and has the bytes `left` now. `line` has become `grown`. Ended: the bytes before the
+-- first LF were moved to the end of the line, and the LF was removed. More: all bytes were moved to the end of the
+-- line. In both cases `grown` has no LF and at most 8,400 bytes. TooLong: as many bytes were removed as make the line
+-- 8,401 bytes long, one more than a line can have; `grown` can be any bytes.
 abbrev pub LineGrows : List ℕ → List ℕ → List ℕ → List ℕ → Piece → Type 0
 LineGrows there line left grown Ended = (bytes : List ℕ) × (there ≡ bytes ++ 10 ∷ left) × (grown ≡ line ++ bytes) × IsLine grown
 LineGrows there line left grown TooLong = (bytes : List ℕ) × (there ≡ bytes ++ left) × HasNoLf (line ++ bytes) × (length (line ++ bytes) ≡ 8401)
 LineGrows there line left grown More = (left ≡ []) × (grown ≡ line ++ there) × IsLine grown
 
--- At least one byte was removed from the block and is lost. The removed bytes belong to the line, and the line with
--- them is longer than `room`.
+-- At least one byte was removed from the block, and the removed bytes are lost. They belong to the line, and the line
+-- with them is longer than `room`.
 abbrev pub LosesPart : List ℕ → List ℕ → ℕ → List ℕ → Type 0
 LosesPart there line room left =
     (bytes : List ℕ) × (there ≡ bytes ++ left) × IsLine (line ++ bytes) × (0 < length bytes) × (room < length (line ++ bytes))

@@ -78,7 +78,7 @@ template forms.Up = Word keywords.Disp ∷ Value ∷ Word keywords.Up ∷ Value 
 template forms.Flow = Word keywords.Disp ∷ Value ∷ Word keywords.Flow ∷ Value ∷ Value ∷ []
 template (forms.Load layout) = Word (keywords.Load layout) ∷ Value ∷ Value ∷ Value ∷ []
 
--- all forms
+-- all forms that a line can have
 unfoldable pub all_forms : List Form
 all_forms =
     forms.Amount amounts.Release ∷ forms.Amount amounts.Preset ∷ forms.Amount amounts.Price
@@ -153,7 +153,8 @@ abbrev pub ◌>>=◌ : {A B : Type 0} → Result A LineFault → (A → Result B
 (Ok x) >>= f = f x
 (Err e) >>= f = Err e
 
--- the request with this verb and these numbers; `report_event` is the event of a dispenser's verb
+-- the request with this verb and these numbers; `point_request` and `transaction_request` are the same for other verbs,
+-- and `report_event` is the event of a dispenser's verb
 abbrev pub amount_request : AmountVerb → ℕ → ℕ → Request
 amount_request amounts.Release point amount = requests.Release point amount
 amount_request amounts.Preset point amount = requests.Preset point amount
@@ -179,7 +180,9 @@ report_event reports.Fault = events.Fault
 report_event reports.Repaired = events.Repaired
 report_event reports.Order = events.TakeOrder
 
--- Reads the values of each form as its act. Amounts, prices and volumes must be below 2^64, other numbers below 2^32.
+-- Reads the values T, P and A of a line `till T verb P A`, and gives the line's act. The definitions up to `load_of` do
+-- the same for lines of the other forms. An amount, price or volume of 2^64 or more is a bad number, and so is any
+-- other number of 2^32 or more.
 unfoldable pub amount_of : AmountVerb → List ℕ → List ℕ → List ℕ → Result Act LineFault
 amount_of verb till point amount = do
   till' ← number 32 till
@@ -226,7 +229,7 @@ load_of layout slot mask hex = do
   Ok (acts.Load slot' mask' layout bytes')
 
 -- Reads the words of a line as the act of this form. If they aren't as many as the form has, they are a bad line. The
--- fixed words aren't compared here.
+-- fixed words aren't compared.
 abbrev pub act_in : Form → List (List ℕ) → Result Act LineFault
 act_in (forms.Amount verb) (k0 ∷ till ∷ k1 ∷ point ∷ amount ∷ []) = amount_of verb till point amount
 act_in (forms.Point verb) (k0 ∷ till ∷ k1 ∷ point ∷ []) = point_of verb till point
@@ -251,20 +254,20 @@ abbrev pub names_till : ℕ → Act → Bool
 names_till number (acts.Till till request) = till == number
 names_till number act = false
 
--- the act is a dispenser's event at one of these points: bit p - 1 is set for point p, which is 1 to 32
+-- the act is a dispenser's event at one of `points`: bit p - 1 is set for point p, which is 1 to 32
 abbrev pub names_point : ℕ → Act → Bool
 names_point points (acts.Dispenser point event) = nat_le 1 point && (nat_le point 32 && (points / 2 ^ (point - 1) % 2 == 1))
 names_point points act = false
 
 -- the act is from the till, or from one of the points, to which the role is limited; true if the role isn't limited to
--- any
+-- any till or points
 abbrev pub is_within_role : Role → Act → Bool
 is_within_role (roles.OneTill number) act = names_till number act
 is_within_role (roles.SomePoints points) act = names_point points act
 is_within_role role act = true
 
--- The parsed act or fault. But if the role is limited to one till or to some points, an act that isn't from these is a
--- bad line.
+-- A parsed fault stays as it is. A parsed act stays as it is if the role isn't limited to any till or points, or if the
+-- act is from the till, or from one of the points, to which the role is limited. Any other act is a bad line.
 abbrev pub act_within_role : Role → Result Act LineFault → Result Act LineFault
 act_within_role (roles.OneTill number) parsed_act = parsed_act >>= (λ act. if names_till number act then Ok act else Err BadLine)
 act_within_role (roles.SomePoints points) parsed_act = parsed_act >>= (λ act. if names_point points act then Ok act else Err BadLine)

@@ -1,7 +1,8 @@
--- Promises: which bytes are read from an input that is read line by line: it had the bytes `old`, and then has `new`.
--- None stands for bytes that aren't known. IsLine and Takes are also definitions. A line has no LF and at most 8,400
--- bytes. With one byte more it is too long. If the input ends after at least one byte and without an LF, the line is
--- cut.
+-- Promises: which bytes are read from an input that is read line by line. Before they are read, the input has the bytes
+-- `old` left, and after that the bytes `new`; each is None if the bytes aren't known. Two of the promises are at the
+-- same time definitions, which a reader must believe: `IsLine` says what a line is, and `Takes` says what was read for
+-- each result of reading a line. A line has no LF and at most 8,400 bytes. With one byte more it is too long. If the
+-- input ends after at least one byte and without an LF, the line is cut.
 use Rattle.std.specs.Prelude.{◌≡◌, ◌≢◌, ◌⊎◌, ℕ, ◌+◌, ◌<◌, ◌≤◌, List, [], ◌∷◌, ◌++◌, length, Option, Some, None, Result, Ok, Err, Bool, true, false}
 use Rattle.std.specs.List.{AllByRecursion}
 use Rattle.std.specs.Io.KnownBytes.{Consumes, IsAtEnd}
@@ -43,16 +44,18 @@ TakesPart old new = (bytes : List ℕ) × Consumes old new bytes × IsLine bytes
 abbrev pub TakesBytes : Option (List ℕ) → Option (List ℕ) → Type 0
 TakesBytes old new = (bytes : List ℕ) × Consumes old new bytes × IsLine bytes × (0 < length bytes)
 
--- One or more bytes that belong to the line come next in the input `old`, and the line with these bytes is longer than
--- `room`. `before` reads of one byte were allowed, and `after` of them are left. The bytes are at most as many as the
--- reads that were allowed, and at least as many as the reads that were made.
+-- `old` is the input before the reads. One or more bytes that belong to `line` come next in it, and `line` with these
+-- bytes is longer than `room`. `before` reads of one byte were allowed at that time, and `after` of them are left now.
+-- The number of these bytes is at most `before`, and at least `before` - `after`, the number of reads that were made.
 abbrev pub LacksRoom : Option (List ℕ) → List ℕ → ℕ → ℕ → ℕ → Type 0
 LacksRoom old line room before after =
     (bytes : List ℕ) × (rest : Option (List ℕ)) × Consumes old rest bytes × IsLine (line ++ bytes) × (0 < length bytes)
     × (room < length (line ++ bytes)) × (before ≤ after + length bytes) × (length bytes ≤ before)
 
--- What was read until memory ran out. Either it is zero or more bytes of a line, for which there was no memory. Or it
--- is a whole line with its LF that has the form of a load, and there was no memory for the load's program.
+-- What was read until memory ran out. `before` reads of one byte were allowed at first, and `after` of them are left.
+-- Either zero or more bytes of a line were read, and there was no memory for one or more of its bytes, as `LacksRoom`
+-- says. Or a whole line with its LF was read that has the form of a load, and there was no memory for the load's
+-- program.
 abbrev pub ReadsUntilOutOfMemory : Option (List ℕ) → Option (List ℕ) → Role → ℕ → ℕ → Type 0
 ReadsUntilOutOfMemory old new role before after =
     (TakesPart old new × LacksRoom old [] 0 before after)

@@ -1,4 +1,4 @@
--- Promises: a text to which words were appended.
+-- Promises: how words are appended to a text, each with a space before it.
 use Rattle.std.specs.Prelude.{ℕ, List, [], ◌∷◌, ◌++◌}
 
 -- the text, and then the words, with a space before each

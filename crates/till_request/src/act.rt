@@ -10,8 +10,8 @@ use fuelling_point::{DispenserEvent, Order};
 use std::alloc::{AllocError, Global};
 use std::marker::Model;
 
-/// A list of bytes, such as a program's. Contracts see it as a list of numbers. The bytes lie behind a pointer, so that
-/// an act is small: few acts have bytes.
+/// A list of bytes, such as a program's. Contracts see it as a list of numbers. The vector is in a `Box`, so that the
+/// type `Act` is small: few acts have bytes.
 #[derive(Drop)]
 pub struct Bytes {
     items: Option<Box<Vec<u8>>>,
@@ -79,7 +79,7 @@ impl PartialEq for Bytes {
     }
 }
 
-/// A till's request. If a variant has only one number, it is a point's. The numbers of points, of products and of a
+/// A till's request. If a variant has only one number, that is the point's. The numbers of points, of products and of a
 /// point's transactions begin at 1.
 #[derive(Clone, Copy, PartialEq)]
 pub enum Request {
@@ -158,9 +158,9 @@ pub enum Reply {
 /// Who sends the lines, and so which lines are accepted. A well-formed line that isn't accepted is a `BadLine`.
 #[derive(Clone, Copy)]
 pub enum Role {
-    /// Some tills: a till's line is accepted, whichever till it names.
+    /// Any till: a till's line is accepted, whichever till it names.
     Till,
-    /// Some dispensers: a dispenser's line is accepted, whichever point it names.
+    /// Any dispenser: a dispenser's line is accepted, whichever point it names.
     Dispenser,
     /// The owner: a line that loads a program is accepted.
     Owner,
@@ -178,7 +178,7 @@ pub enum Role {
 pub enum LineFault {
     /// `L1`: the line has more than 8,400 bytes before its LF, or before the end of the input.
     TooLong,
-    /// `L2`: the words don't have the form of a line, or the sender isn't allowed to send this line.
+    /// `L2`: the words have none of the forms of a line, or the sender isn't allowed to send this line.
     BadLine,
     /// `L3`: a number isn't in decimal digits without leading zeros, or is too large for its type; or hexadecimal is
     /// malformed.

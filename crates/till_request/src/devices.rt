@@ -69,8 +69,8 @@ fn size_at(sizes: &[usize], each: usize, call: u64) -> usize
     }
 }
 
-/// Returns how many calls still succeed after one more call: one less than `successes_left`, but 0 stays 0. `None`,
-/// which means that no call is made to fail, stays `None`.
+/// Returns `successes_left` after one more call: one less, but 0 stays 0. `None`, which means that no call is made to
+/// fail, stays `None`.
 fn after_one(successes_left: Option<u64>) -> Option<u64>
     ensures { result ≡ one_less successes_left }
 {
@@ -133,7 +133,7 @@ impl LineIn for MemoryIn {
 }
 
 /// A source that reads from a reader of `std`, such as standard input, a file or a socket. Lines are read byte by byte,
-/// so use a buffered reader, or an `Ahead` in front of this.
+/// so the reader should be buffered, or an `Ahead` should read from the `StreamIn`.
 #[derive(Drop)]
 pub struct StreamIn<R: Read> {
     pub reader: R,
@@ -169,7 +169,8 @@ impl<R: Read + Drop> LineIn for StreamIn<R> {
 const AHEAD_BYTES: usize = 4096;
 
 /// A source that reads ahead from another source, `input`, in blocks of 4,096 bytes. So a read of one byte, which is
-/// how lines are read, costs few instructions. The counters count the reads from this source, not those from `input`.
+/// how lines are read, costs few instructions. The counters `calls`, `failures` and `asked` are about the reads from
+/// the `Ahead`, not about those from `input`.
 #[derive(Drop)]
 pub struct Ahead<I: LineIn> {
     pub input: I,
@@ -238,8 +239,8 @@ impl<I: LineIn + Drop> LineIn for Ahead<I> {
 /// A sink that appends what is written to a list in memory.
 ///
 /// Write n, counted from 0, accepts at most `sizes[n]` bytes, or `each` if `sizes` has no index n. A size of 0 counts
-/// as size 1. If `successes_left` is `Some(k)`, the next k writes succeed, and every later one fails. If it is `None`,
-/// no write is made to fail. A write also fails if memory runs out.
+/// as size 1. If `successes_left` is `Some(k)`, every write after the next k fails. If it is `None`, no write is made
+/// to fail. A write also fails if memory runs out.
 #[derive(Drop)]
 pub struct MemoryOut {
     pub bytes: Vec<u8>,

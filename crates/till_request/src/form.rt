@@ -148,9 +148,9 @@ pub fn text_of(keyword: Keyword) -> &'static str
     }
 }
 
-/// Returns whether a sender of this role is allowed to send lines of `by`, which is `Till`, `Dispenser` or `Owner`.
-/// `OneTill` is allowed to send lines of `Till`, and `SomePoints` lines of `Dispenser`, whatever till or point a line
-/// names. The till or the point is checked later, when the line is parsed.
+/// Returns whether a sender of this role is allowed to send lines of `by` (`Till`, `Dispenser` or `Owner`). `OneTill`
+/// is allowed to send lines of `Till`, and `SomePoints` lines of `Dispenser`, whatever till or point a line names.
+/// `is_within_role` checks the till or the point of the parsed line.
 #[inline(always)]
 pub fn may_send(role: Role, by: Role) -> bool
     ensures { result ≡ allows role by }
@@ -175,7 +175,7 @@ pub fn sender_of(form: Form) -> Role
     }
 }
 
-/// Returns whether a word is this fixed word.
+/// Returns whether `word` is the spelling of `keyword`.
 #[inline(always)]
 fn is_word(word: &[u8], keyword: Keyword) -> bool
     ensures { result ≡ part_fits (Word keyword) word.now }
@@ -183,7 +183,7 @@ fn is_word(word: &[u8], keyword: Keyword) -> bool
     word == text_of(keyword).as_bytes()
 }
 
-/// Returns whether a word can be a value, which is any word that isn't empty.
+/// Returns whether a word can be a value: whether it isn't empty.
 #[inline(always)]
 fn is_value(word: &[u8]) -> bool
     ensures { result ≡ part_fits Value word.now }
@@ -243,7 +243,7 @@ fn load_fits(layout: Layout, words: &[&[u8]]) -> bool
     }
 }
 
-/// Returns whether the words have this form.
+/// Returns whether the words have this form: as many words, the same fixed words, and values that aren't empty.
 #[inline(always)]
 fn has_form(form: Form, words: &[&[u8]]) -> bool
     ensures { result ≡ fits (template form) (map (λ w. w.now) words.now) }

@@ -137,8 +137,8 @@ pub(crate) fn fault_word(fault: LineFault) -> &'static str
     }
 }
 
-/// Appends a space and a number that a program's refusal names, such as a unit's, to `text`; nothing for `None`. The
-/// text must have room for 21 more bytes.
+/// Appends a space and `part` to `text`, or nothing if `part` is `None`. `part` is the number of the unit, register or
+/// argument that the answer to a refused program names. `text` must have room for 21 more bytes.
 fn put_part(text: &mut ShortText, part: Option<u32>)
     requires { length text.old.bytes + 21 ≤ SHORT }
     ensures text { text.new.bytes ≡ with_words text.old.bytes (map decimal (option_to_list part)) }
@@ -149,9 +149,9 @@ fn put_part(text: &mut ShortText, part: Option<u32>)
     }
 }
 
-/// Writes the answer to a refused program, without an LF, into `text`, which must be empty. It is the refusal's number
-/// with a V before it; then `unit`, the unit that the refusal names; then `part`, the register or the argument that the
-/// refusal names. `unit` and `part` have a space before them, and each is left out if it is `None`.
+/// Writes the answer to a refused program, without an LF, into `text`, which must be empty. The answer is the refusal's
+/// number with a V before it; then `unit`, the unit that the refusal names; then `part`, the register or the argument
+/// that the refusal names. `unit` and `part` have a space before them, and each is left out if it is `None`.
 fn put_program(text: &mut ShortText, number: u32, unit: Option<u32>, part: Option<u32>)
     requires { text.old.bytes ≡ [] }
     ensures text { text.new.bytes ≡ answer_text (Answer.Program number unit part) }

@@ -82,7 +82,7 @@ pub fn put_till_line(text: &mut ShortText, till: u32, request: Request)
     put_request(text, request);
 }
 
-/// Returns the verb of a dispenser's event.
+/// Returns the verb of a dispenser's event: the word after `disp P` in its line.
 fn verb_of(event: DispenserEvent) -> Keyword
     ensures { slice_get (event_words event) 0 ≡ Some (text result) }
 {

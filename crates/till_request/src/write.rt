@@ -33,8 +33,8 @@ pub fn write_all<O: LineOut>(output: &mut O, bytes: &[u8]) -> Result<(), DeviceF
     Ok(())
 }
 
-/// Writes an answer with its LF. The error is `Write`: the device failed, and only a beginning of the line was written.
-/// Allocates no memory.
+/// Writes an answer with its LF. The error is `Write`: the device failed, perhaps after some of the line's first bytes
+/// were written. Allocates no memory.
 pub fn write_answer<O: LineOut>(
     alloc: Global,
     output: &mut O,

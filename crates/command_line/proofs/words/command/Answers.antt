@@ -35,8 +35,9 @@ simple = refl
 simple_and_free : (a : App) → a ≡ fc_app → is_simple_and_free a ≡ true
 simple_and_free a e = subst (λ (b : App). is_simple_and_free b ≡ true) (sym e) refl
 
--- The arguments that `clap` gets (`lent`) equal the program's arguments (`words`). So the subcommand in `clap`'s
--- matches `m` of `lent` is the one in `words`.
+-- The arguments that `clap` gets (`lent`) equal the program's arguments (`words`), and `m` is what `clap` finds in
+-- `lent`. So `m` has the subcommand and the values that `subcommand_of` finds in `words`, or no subcommand if it finds
+-- none.
 found : (a : App) → a ≡ fc_app → (lent words : List (String Global)) → lent ≡ words → (m : ArgMatches) → HasMatchesOf a (map (λ w. string_bytes w) lent) m
     → subcommand_rows_of m ≡ subcommand_of fc_app (map (λ w. string_bytes w) words)
 found a e lent words same m h =

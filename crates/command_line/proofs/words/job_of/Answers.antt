@@ -9,8 +9,8 @@ use Rattle.command_line.specs.Refusing.{Finds, IsJobOfLine}
 use Rattle.command_line.specs.declared.job.Job.{Job}
 use Rattle.command_line.proofs.words.job_of.Goals as goal
 
--- If `p` is the pair of `name` and `rows`, and `found` is the job that this subcommand asks for, then `found` is the
--- job of a command line that has the subcommand `p`.
+-- Let `p` be a subcommand with the name `name` and the values `rows`. If `found` is the job that a subcommand with this
+-- name and these values asks for (`Finds`), then `found` is the job of a command line with the subcommand `p`.
 finds_in : (p : Text × List Row) (name : Text) (rows : List Row) → p.0 ≡ name → p.1 ≡ rows → (found : Option Job) → Finds name rows found
     → IsJobOfLine (Some p) found
 finds_in p name rows n r (Some job) h =

@@ -9,7 +9,8 @@ use Rattle.command_line.proofs.words.mask_of.Goals as goal
 abbrev IsMask : Text → Type 0
 IsMask t = IsNumeral 10 (without_leading_plus t) × (digits_value 10 (without_leading_plus t) < 2 ^ 32)
 
--- The text is parsed to this number. It is None only if the text isn't that of a number from 0 to 2^32 - 1.
+-- `IsRead t r`: reading the text `t` as a number gives `r`. `r` is None only if `t` isn't the text of a number from 0
+-- to 2^32 - 1.
 abbrev IsRead : Text → Option ℕ → Type 0
 IsRead t (Some n) = n ≡ digits_value 10 (without_leading_plus t)
 IsRead t None = ¬ IsMask t

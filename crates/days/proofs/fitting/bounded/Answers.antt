@@ -4,7 +4,8 @@ use Rattle.std.proofs.lemmas.Bool.{cases_lt}
 use Rattle.bpf_model.specs.Machine.{Counters, counter}
 use Rattle.days.proofs.fitting.bounded.Goals as goal
 
--- if the counters before c are as `f` says, and c is set as `f` says, then the counters up to c are
+-- if each counter before c is what `f` gives, and counter c is set to `f c`, then each counter up to and including c is
+-- what `f` gives
 one_more : (cells : Counters) (c : ℕ) (x : ℕ × ℕ) (f : ℕ → ℕ × ℕ) → c < length cells → x ≡ f c
     → ((k : ℕ) → k < c → counter cells k ≡ f k) → (k : ℕ) → k < c + 1 → counter (set cells c x) k ≡ f k
 one_more cells c x f lt e before k within = elim (cases_lt k c) [

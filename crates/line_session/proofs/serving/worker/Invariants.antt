@@ -2,7 +2,7 @@ use Rattle.std.proofs.Common.{◌≤◌}
 use Rattle.line_session.specs.Serving.{Serves, RunsDeskSession, ServesConnection}
 use Rattle.line_session.proofs.serving.worker.Given as goal
 
--- the worker has served `counter` connections, and `clean` of them ended without fault
+-- the worker has served `counter` connections, and `clean` of them ended without a SessionFault
 abbrev pub invariant-loop : goal.invariant-loop
 invariant-loop g l = record {
   serves : Serves

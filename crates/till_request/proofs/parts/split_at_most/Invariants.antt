@@ -3,7 +3,7 @@ use Rattle.std.specs.List.{slice_split}
 use Rattle.till_request.proofs.Parted.{NoneFrom}
 use Rattle.till_request.proofs.parts.split_at_most.Given as goal
 
--- the parts so far, followed by those of the text after the last separator, are all parts of the text
+-- the parts so far, followed by those of the text from `start` on, are all parts of the text
 abbrev pub invariant-bytes : goal.invariant-bytes
 invariant-bytes g l = record {
   within : l.start ≤ l.at;

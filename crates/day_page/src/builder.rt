@@ -1,22 +1,22 @@
-//! A builder of the text of a page.
+//! A builder of texts: of a page in HTML, and of metrics.
 use crate::names::refusal_name;
 use crate::texts::{Date, Text, date_of};
 use html_text::Escaped;
 use std::alloc::{AllocError, Global};
 
-/// Builds a text of HTML. If memory runs out, the functions that add to the text don't report it: `finish` returns the
-/// error.
+/// Builds a text, such as a page in HTML. If memory runs out, the functions that add to the text don't report it:
+/// `finish` returns the error.
 #[derive(Drop)]
-pub struct HtmlBuilder {
+pub struct TextBuilder {
     text: String,
     /// Whether memory ran out when something was added to the text.
     ran_out_of_memory: bool,
 }
 
-impl HtmlBuilder {
+impl TextBuilder {
     /// Returns a builder whose text is empty.
-    pub fn new(alloc: Global) -> HtmlBuilder {
-        HtmlBuilder {
+    pub fn new(alloc: Global) -> TextBuilder {
+        TextBuilder {
             text: String::new(alloc),
             ran_out_of_memory: false,
         }
@@ -24,7 +24,7 @@ impl HtmlBuilder {
 
     /// Returns the whole text. The error is that memory ran out when something was added to it.
     pub fn finish(self) -> Result<String, AllocError> {
-        let HtmlBuilder {
+        let TextBuilder {
             text,
             ran_out_of_memory,
         } = self;
@@ -42,13 +42,13 @@ impl HtmlBuilder {
         }
     }
 
-    /// Adds a piece of HTML as it is.
+    /// Adds a piece of text as it is.
     pub fn add(&mut self, piece: &str) {
         let written = self.text.push_str(piece);
         self.note(written);
     }
 
-    /// Adds `form`, a template of HTML, in which `texts` replace the `{}`, in order.
+    /// Adds `form`, a template, in which `texts` replace the `{}`, in order.
     ///
     /// - If there are too few texts, the remaining `{}` are left out.
     /// - If there are too many texts, the first that has no `{}` is added at the end, and the others are ignored.
