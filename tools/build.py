@@ -22,7 +22,7 @@ from concurrent.futures import FIRST_COMPLETED, ThreadPoolExecutor, wait
 
 FEW = 2  # crates that can begin: where no more can, the one that begins the longest chain of all gets CHAIN_JOBS
 CHAIN_JOBS = 2  # processes
-LAST_JOBS = 2  # processes for the program's own crate, beside which no other is left
+LAST_JOBS = 3  # processes for the program's own crate, beside which no other is left
 MEMORY = 4_500_000_000  # bytes for each process
 TARGET = "x86_64-unknown-linux-gnu"
 C_LIBRARIES = ("libos_c.a", "liblibc_c.a")  # what the kit's libraries of the system are linked with
