@@ -6,9 +6,9 @@ usage: tools/build.py SOURCES NAME FOLDER    SOURCES: has crates.txt and crates/
                                              FOLDER: for what is proved, and for the program, FOLDER/NAME
 
 Each crate is proved by the toolchain's `rattle build`, over what the crates below it state: --statements leaves out
-their proofs, which nobody above reads. As many processes run at the same time as there are processors, or as memory
-allows; FC_JOBS sets another number. Of the crates that can begin, the one with the longest chain up to the program
-comes first. Where few can begin, it gets more than one process: two take a quarter of its time more.
+their proofs, which nobody above reads. A crate is begun where a processor is idle, and memory allows it; FC_JOBS sets
+another number of processes. Of the crates that can begin, the one with the longest chain up to the program comes first.
+If all would wait for it, it gets more than one process, although two take at least a fifth of its time more.
 What the toolchain prints goes to standard output, with a line 'build: NAME proved' at the end of each crate.
 The exit status is 0 if all was proved and the program was built.
 """
@@ -20,8 +20,8 @@ import threading
 import time
 from concurrent.futures import FIRST_COMPLETED, ThreadPoolExecutor, wait
 
-FEW = 2  # crates that can begin: where no more can, the one that begins the longest chain of all gets CHAIN_JOBS
-CHAIN_JOBS = 2  # processes
+FEW = 2  # crates that can begin: if no more can, all would wait for the one that begins the longest chain
+CHAIN_JOBS = 2  # processes for this crate
 LAST_JOBS = 3  # processes for the program's own crate, beside which no other is left
 MEMORY = 4_500_000_000  # bytes for each process
 TARGET = "x86_64-unknown-linux-gnu"
@@ -133,8 +133,8 @@ class Build:
         return is_proved
 
     def run(self, most):
-        """Proves all crates, by at most `most` processes at the same time, up to the first that can't be proved. Returns
-        whether all were proved."""
+        """Proves all crates, by some `most` processes at a time, up to the first that can't be proved. Returns whether
+        all were proved."""
         left = sorted(self.crates.values(), key=lambda it: -it.chain)
         done, running = set(), {}
         with ThreadPoolExecutor(len(left)) as pool:

@@ -4,9 +4,9 @@
 usage: tools/report.py PROGRAM
 
 The journals are an empty one, that of a day with two tills, two rules, unpaid deliveries and refusals, one of price
-changes, of which one has no moment, one of price changes without moments, and a long one of bench/script.awk. If tidy is installed, it must find no fault in
-a page. If Chromium is installed, it must open each page and show the headline. If one isn't installed, that is printed.
-The last line is 'N passed, M failed'.
+changes, of which one has no moment, one of price changes without moments, and a long one of bench/script.awk. If tidy
+is installed, it must find no fault in a page. If Chromium is installed, it must open each page and show the headline.
+If one isn't installed, that is printed. The last line is 'N passed, M failed'.
 """
 import html.parser
 import os
