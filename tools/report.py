@@ -4,9 +4,9 @@
 usage: tools/report.py PROGRAM
 
 The journals are an empty one, that of a day with two tills, two rules, unpaid deliveries and refusals, one of price
-changes, of which one has no moment, one of price changes without moments, and a long one of bench/script.awk. If tidy
-is installed, it must find no fault in a page. If Chromium is installed, it must open each page and show the headline.
-If one isn't installed, that is printed. The last line is 'N passed, M failed'.
+changes, of which one has no moment, one of price changes without moments, one of two moments, and a long one of
+bench/script.awk. If tidy is installed, it must find no fault in a page. If Chromium is installed, it must open each
+page and show the headline. If one isn't installed, that is printed. The last line is 'N passed, M failed'.
 """
 import html.parser
 import os
@@ -67,6 +67,14 @@ till 1 price 1 1799
 till 1 show 1
 """
 STEPS_AT = [90, 270, 630, 990]
+# The axis is time, from 14:14:01 to 14:25:00. Its labels are a quarter of it apart.
+TIMES = """moment 1790000041
+till 1 show 1
+moment 1790000700
+till 1 show 1
+"""
+TIMES_ARE = ["14:14", "14:16", "14:19", "14:22", "14:25"]
+AXIS_LABEL = re.compile(r'<text class="soft" x="\d+" y="78" text-anchor="\w+">([^<]*)</text>')
 # A line of a chart of prices: its path, which has H before the place to which it goes.
 PRICE_LINE = re.compile(r'<path class="price[^"]*" d="M(\d+)([^"]*)"')
 
@@ -223,6 +231,7 @@ def main():
             ("day", day),
             ("prices", journal_of(program, two, PRICES)),
             ("steps", journal_of(program, two, STEPS)),
+            ("times", journal_of(program, two, TIMES)),
         ):
             show(checks, program, work, name, two, lines)
         show(checks, program, work, "long", station, long)
@@ -244,6 +253,8 @@ def show(checks, program, work, name, site, lines):
         checks.same(f"{name}: as many lines as products", len(PRICE_LINE.findall(done.stdout)), 2)
     if name == "steps":
         checks.same(f"{name}: where prices change", price_lines(done.stdout)[0], STEPS_AT)
+    if name == "times":
+        checks.same(f"{name}: labels of the axis", AXIS_LABEL.findall(done.stdout), TIMES_ARE)
     compare(checks, name, Page(done.stdout), lines)
     if shutil.which("tidy"):
         said = subprocess.run(["tidy", "-q", "-e", path], capture_output=True, text=True).stderr

@@ -75,7 +75,7 @@ const ROWS: [Row; 8] = [
         between: &[Does::Till(2, Request::Show(1))],
         commit_result: Ok((4, Reply::Granted(8000, 1))),
     },
-    // The preset at the time of the commit bounds the release.
+    // A preset of 3000 is set between the draft and the commit. The commit grants no more than this preset.
     Row {
         before: OPENED,
         asked: RELEASE,
@@ -174,8 +174,8 @@ fn decide(site: &Site, request: Request) -> Option<Ready> {
     }
 }
 
-/// Commits a decision with pass 2, and returns the entry's number and reply, or why the decision is stale. Returns
-/// `None` if the commit fails.
+/// Commits a decision under pass number 2, and returns the entry's number and reply, or why the decision is stale.
+/// Returns `None` if the commit fails.
 fn commit(site: &mut Site, ready: Ready) -> Option<Result<(u32, Reply), Why>> {
     match site.commit(2, ready).ok()? {
         Commit::Done(answered) => Some(Ok((answered.number, answered.reply))),

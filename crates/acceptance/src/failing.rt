@@ -210,8 +210,8 @@ fn seen_after_writes<R: Wait>(rt: &R, alloc: Global, good: u64) -> Result<Sessio
 }
 
 /// Runs sessions in which only the first k writes succeed, for k = 0, 1, 2 and so on, until one ends without a fault.
-/// Returns the first k at which the outcome is wrong, or `None`. If a write fails, the number of entered events must be
-/// 1 greater than that of whole answers written. A session must take 15 to 99 writes; if 99 are too few, returns 100.
+/// Returns the first k at which the outcome is wrong, or `None`. If a write fails, the session must have entered one
+/// event more than it has written whole answers. A session must take 15 to 99 writes; if 99 are too few, returns 100.
 fn unlike_after_writes<R: Wait>(rt: &R, alloc: Global) -> Result<Option<u64>, Fail> {
     for good in 0..100u64 {
         let seen = seen_after_writes(rt, alloc, good)?;

@@ -44,7 +44,7 @@ use Rattle.bpf_asm.specs.Program.{place_of, jump_inst, statement_units, line_uni
 use Rattle.bpf_asm.specs.Program.{rows_fault, fault_of, assembled_with, assembled, cut, IsFault}
 use Rattle.bpf_asm.specs.Sound.{IsNarrowForm, IsSoundForm, IsJump, IsSound, AreSound}
 
--- ---- rows whose numbers are in range
+-- ---- if no line of a text has a fault by itself, the numbers of its rows are in range
 
 by_fits : (n : ℕ) (r : Row) (rows : List Row) (b : Bool) → line_fits r.parsed ≡ b → (rest : Option AsmFault) → or_fault (cond b None (Some (OutOfRange n))) rest
     ≡ None → (rest ≡ None → AreInRange rows) → AreInRange (r ∷ rows)
@@ -176,7 +176,7 @@ is_instruction f i op h fields registers offset imm =
           ∙ passes (has_valid_fields f i) (has_valid_registers f i) (half_wide f false) fields registers (not_half f);
     }
 
--- ---- numbers that fit 16 or 32 bits
+-- ---- numbers in range fit 16 or 32 bits, and so does the distance of a jump between places from 0 to 512
 
 signed16 : (negative : Bool) (size : Option ℕ) → fits_size (2 ^ 15) negative size ≡ true → FitsSigned w16 (signed negative (size_or_zero size))
 signed16 negative None h = absurd (cc)
@@ -236,9 +236,9 @@ jump_units f p z rest h offset imm more = (
 zero16 : FitsSigned w16 (pos 0)
 zero16 = search rules
 
--- The instruction of a jump holds the distance z: as its immediate if the form is `Ja32`, as its offset otherwise. If z
--- fits 16 bits and 32 bits, and the parsed immediate fits 32 bits, then the instruction's offset fits 16 bits and its
--- immediate fits 32 bits.
+-- If the distance z fits 16 and 32 bits, and the parsed immediate fits 32 bits, then the offset of a jump's instruction
+-- fits its field of 16 bits, and the immediate fits its field of 32 bits. A `Ja32` has the distance in its immediate,
+-- and any other jump has it in its offset.
 jump_fits : (f : Form) (p : Fields) (z : ℤ) → FitsSigned w16 z → FitsSigned w32 z → FitsSigned w32 (int_of p.imm)
     → FitsSigned w16 (jump_inst f p z).offset × FitsSigned w32 (jump_inst f p z).imm
 jump_fits form.Ja32 p z a b d = (zero16, b)
@@ -321,9 +321,8 @@ module _ (labels : List Definition) (within : AreWithin 512 labels) where
   units_are at (r ∷ rows) l fit h = line_is at r.label r.parsed (units_from labels (at + line_len_of r.parsed) rows) (omega arith) fit.0 h.0
       (units_are (at + line_len_of r.parsed) rows (omega arith) fit.1 h.1)
 
--- If the rows have at most 512 units in all, if the numbers of each row are in range, and if each instruction in a row
--- is one of this profile, then the units of the rows are instructions without a fault, each wide load followed by its
--- second unit.
+-- If rows have at most 512 units in all, numbers in range, and only instructions of this profile, then their units are
+-- instructions without a fault, each wide load followed by its second unit.
 pub spelled_units : (rows : List Row) → units_in rows ≤ 512 → AreInRange rows → AreSound rows → AreUnits true (spelled rows)
 spelled_units rows l fit h = units_are (labels_from 0 rows) (places_within rows l) 0 rows (omega arith) fit h
 

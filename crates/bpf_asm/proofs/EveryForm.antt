@@ -404,7 +404,7 @@ module _ (i : Inst) (high : ℤ) (off : FitsSigned w16 i.offset) (imm : FitsSign
       (λ k. ParsesBack form.Exit k high) (same form.Exit i 0 0 (pos 0) (pos 0) g.op (zero_dst g.parts.dst) (zero_src g.parts.src) (int_is i.offset 0 g.parts.offset)
       (int_is i.imm 0 g.parts.imm)) (exit_line high)
 
--- ---- the form that is read from an opcode has this opcode again
+-- ---- if `form_of` gives a form for an opcode, then `opcode_of` gives this opcode for the form
 
 is_its_opcode : Option Form → ℕ → Bool
 is_its_opcode None n = true

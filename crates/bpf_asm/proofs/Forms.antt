@@ -205,7 +205,7 @@ condition_written condition.Jslt =
 condition_written condition.Jsle =
     record { front = λ u. lit (condition_text condition.Jsle) (32 ∷ u) (omega arith) refl refl; plain_text = refl; kind = refl }
 
--- ---- lines of three tokens and more
+-- ---- the line of an operator with two operands, as in `r1 += 5` or `r1 += r2`, is parsed as this instruction
 
 pub line_by : (ts ts' : Tokens) (x : Option Line) → ts ≡ ts' → line_of ts' ≡ x → line_of ts ≡ x
 line_by ts ts' x e h = ap line_of e ∙ h
@@ -365,7 +365,7 @@ negation_line w d high l =
       units = λ ls at name. refl;
     }
 
--- ---- swaps of bytes in 16, 32 or 64 bits
+-- ---- the line of END (a swap of bytes), as in `r1 = le16 r1`, is parsed as this instruction
 
 pub decimal16 : decimal 16 ≡ codes "16"
 decimal16 = rw (decimal_step 16 (omega arith) (omega arith), decimal_digit 1 (omega arith)) refl
@@ -586,7 +586,7 @@ wide_line d imm high f g l =
           (λ z. First (inst_of form.Wide d 0 (pos 0) imm) ∷ Second z ∷ []) top;
     }
 
--- ---- places in memory, and loads from them
+-- ---- the line of a load, as in `r1 = *(u8 *)(r2 + 8)`, is parsed as this instruction
 
 abbrev pub sign_tokens : ℤ → Tokens → Tokens
 sign_tokens (pos n) rest = Plus ∷ Number (Some n) ∷ rest

@@ -1,5 +1,6 @@
--- A piece is the text of a token, with or without a blank before it. If `AreGood` holds for a list of pieces, then the
--- text of the list is one line, and is split into the tokens of these pieces again.
+-- A piece is the text of a token, with or without a blank before it. The pieces of a list are good (`AreGood`) if each
+-- token is `clean` (so it is ASCII without an LF or a comment) and is the first token of the text from it on. The text
+-- of good pieces is one line, and is split into the tokens of these pieces again.
 use Rattle.std.proofs.Common.{◌≡◌, ◌<◌, ◌^◌, ℕ, suc, List, [], ◌∷◌, ◌++◌, length, take, take_all, map, Some, None, Bool, true, false, refl, ap, sym, ◌∙◌}
 use Rattle.std.proofs.Common.{append_assoc, arith}
 use Rattle.std.specs.Prelude.{◌&&◌, ◌||◌, ◌==◌, not, nat_lt, cond, slice_index, ⊤}
@@ -16,7 +17,7 @@ use Rattle.bpf_asm.specs.Program.{row, row_of, row_by, row_with, words_of, label
 use Rattle.bpf_asm.specs.Text.{Piece, Next, After, token_of, line_text}
 use Rattle.bpf_asm.proofs.Again.{body, IsFront, AreCut, cut_again, decimal_digits}
 
--- ---- texts without an end of line and without a comment
+-- ---- a clean text has no LF and no comment
 
 -- The text is clean: each byte is ASCII and above LF (10), and a slash comes only before `=`.
 abbrev pub clean : Text → Bool
@@ -102,10 +103,9 @@ digits_clean (d ∷ t) all =
 pub decimal_clean : (n : ℕ) → n < 2 ^ 64 → clean (decimal n) ≡ true
 decimal_clean n small = digits_clean (decimal n) (decimal_digits n small)
 
--- ---- lines of pieces: a piece is the text of a token, with or without a blank before it
+-- ---- the text of good pieces is clean, and is parsed as the line that their tokens are parsed as
 
--- For each piece: its token t is clean, and t is the first token of the text that consists of t and then all pieces
--- after this one.
+-- For each piece: its token is clean, and is the first token of the text that the token and all later pieces make.
 abbrev pub AreGood : List Piece → Type 0
 AreGood [] = ⊤
 AreGood (Next t ∷ ps) = IsFront t (body ps) × (clean t ≡ true) × AreGood ps

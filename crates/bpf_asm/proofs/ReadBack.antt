@@ -26,7 +26,7 @@ abbrev pub units_by : Bool → Inst → ℤ → List ProgramUnit
 units_by true i high = First i ∷ Second high ∷ []
 units_by false i high = First i ∷ []
 
--- The text of these pieces is parsed as an instruction that has the units of i, has its numbers in range and doesn't
+-- The text of these pieces is parsed as an instruction with the units of i. Its numbers are in range, and it doesn't
 -- jump to a label. If `wide`, i is a wide load, and its second unit has the number `high`.
 pub record ParsesAs (ps : List Piece) (wide : Bool) (i : Inst) (high : ℤ) : Type 0 where
   pub parsed : Statement

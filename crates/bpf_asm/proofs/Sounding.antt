@@ -35,7 +35,7 @@ use Rattle.bpf_asm.specs.Grammar.{no_fields, statement, is_word, line_of}
 use Rattle.bpf_asm.specs.Program.{Row, row_with, row_by, row_of, words_of, with_row, rows_of, opcode_of, inst_of, int_of}
 use Rattle.bpf_asm.specs.Sound.{IsSoundForm, IsJump, IsSound, AreSound}
 
--- ---- the decoder reads back the form of each opcode
+-- ---- the decoder reads the opcode of a form as this form, if this profile has the form
 
 arithmetic_opcode : (op : Operator) (w : Width) (s : Source) → has_form op w s ≡ true
     → form_of (opcode_of (form.Arithmetic op w s)) ≡ Some (form.Arithmetic op w s)
@@ -162,9 +162,9 @@ register_store_opcode Double = refl
 
 -- ---- a token is sound if its register, operator, size or swap is one of this profile
 
--- Whether an instruction of this profile can have this operator and the number n in its offset field. Only instructions
--- count whose second operand is just a register, as in `r1 += r2`, or just a number, as in `r1 += 5`; the result is the
--- same for both.
+-- Whether this profile has an instruction with this operator, the number n in its offset field, and just a register or
+-- a number as its second operand, as in `r1 += r2` or `r1 += 5`. So the result is false for NEG and END, and for the
+-- offset of a MOV that extends a sign.
 abbrev takes : Operator → ℕ → Bool
 takes operator.Add n = n == 0
 takes operator.Sub n = n == 0

@@ -1,4 +1,4 @@
--- Definitions: the line or the label that the message of an assembler fault shows (this profile).
+-- Definitions: the line or the label that the message of an assembler fault shows (source: this project).
 use Rattle.std.specs.Prelude.{◌≡◌, ℕ, ◌-◌, ◌&&◌, nat_eq, Bool, true, false, [], ◌∷◌, Option, Some, None, slice_get, unwrap_or, ⊤}
 use Rattle.std.specs.List.{starts_with, ends_with}
 use Rattle.bpf_asm.specs.declared.AsmFault.{AsmFault}
@@ -26,7 +26,7 @@ ends_with_return text = ends_with nat_eq text (13 ∷ [])
 abbrev pub is_marked : Text → ℕ → Bool
 is_marked text number = nat_eq number 1 && begins_with_mark text
 
--- The line can't be parsed (None), or it is empty. So it neither defines a label nor jumps to one.
+-- The line can't be parsed (None), or it is empty. Such a line neither defines a label nor jumps to one.
 abbrev pub HasNoLabel : Option Row → Type 0
 HasNoLabel None = ⊤
 HasNoLabel (Some r) = r.parsed ≡ line.Empty

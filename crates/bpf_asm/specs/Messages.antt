@@ -1,4 +1,4 @@
--- Definitions: the messages for a flaw of an assembler text and for a fault of a program file (this profile).
+-- Definitions: the messages for a flaw of an assembler text and for a fault of a program file (source: this project).
 use Rattle.std.specs.Prelude.{ℕ, ◌/◌, ◌%◌, ◌&&◌, nat_lt, nat_le, false, List, [], ◌∷◌, ◌++◌, length, take, codes, if◌then◌else◌}
 use Rattle.std.specs.List.{flat_map}
 use Rattle.std.specs.Fmt.{digit_glyph}

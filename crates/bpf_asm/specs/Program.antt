@@ -331,9 +331,11 @@ units_from labels at (r ∷ rows) = line_units labels at r.label r.parsed ++ uni
 abbrev pub length_fault : ℕ → Option AsmFault
 length_fault n = if nat_le 1 n && nat_le n 512 then None else Some Length
 
--- The fault of rows whose numbers are in range. It is `Length` if all rows together don't have 1 to 512 units.
--- Otherwise it is `BadLabel` for the first row that defines a label which an earlier row defines too, or that jumps to
--- a label which no row defines; None if there is no such row.
+-- The fault of rows whose numbers are in range:
+-- - `Length`, if all rows together don't have 1 to 512 units
+-- - otherwise `BadLabel` for the first row with a wrong label: the row defines a label that an earlier row defines too,
+--   or it jumps to a label that no row defines
+-- - otherwise None
 abbrev pub rows_fault : List Row → Option AsmFault
 rows_fault rows = or_fault (length_fault (units_in rows)) (label_fault (labels_from 0 rows) 1 [] rows)
 
@@ -354,7 +356,9 @@ assembled text = assembled_with (cut text) (fault_of (cut text))
 abbrev pub AssemblesTo : Text → List ProgramUnit → Type 0
 AssemblesTo text units = assembled text ≡ Ok units
 
--- The returned fault is `found` (None if there is no fault), or that memory ran out, which can happen for every text.
+-- The first argument is what a definition such as `fault_of` gives: a fault, or None if there is none. The second is
+-- the fault that a function returned. It is the fault in the first argument, or that memory ran out. The latter is
+-- allowed for every first argument, even None.
 abbrev pub IsFault : Option AsmFault → AsmFault → Type 0
 IsFault found OutOfMemory = ⊤
 IsFault found (BadLine n) = found ≡ Some (BadLine n)
@@ -362,7 +366,7 @@ IsFault found (BadLabel n) = found ≡ Some (BadLabel n)
 IsFault found (OutOfRange n) = found ≡ Some (OutOfRange n)
 IsFault found Length = found ≡ Some Length
 
--- the returned fault is that of the text, or that memory ran out
+-- the returned fault is the one that the text has (`fault_of`), or that memory ran out
 abbrev pub IsRefused : Text → AsmFault → Type 0
 IsRefused text fault = IsFault (fault_of (cut text)) fault
 
@@ -371,6 +375,6 @@ abbrev pub AreInRange : List Row → Type 0
 AreInRange [] = ⊤
 AreInRange (r ∷ rows) = (line_fits r.parsed ≡ true) × AreInRange rows
 
--- Each label names a unit from 0 to n.
+-- Each label names a unit from 0 to n. A name that isn't in the list counts as a label of unit 0.
 abbrev pub AreWithin : ℕ → List Definition → Type 0
 AreWithin n labels = (name : Text) → place_of labels name ≤ n

@@ -1,4 +1,4 @@
--- Definitions: the text of a program file (this profile).
+-- Definitions: the text of a program file (source: this project).
 use Rattle.std.specs.Prelude.{◌≡◌, ℕ, zero, suc, ◌*◌, ◌/◌, ◌==◌, ◌||◌, Bool, not, nat_le, if◌then◌else◌, List, [], ◌∷◌, ◌++◌, length, filter, take, drop}
 use Rattle.std.specs.Prelude.{Result, Ok, Err, ⊤}
 use Rattle.hex.specs.Hex.{decode_of, encode_lower}
@@ -19,8 +19,8 @@ unfoldable pub program_in : List ℕ → Result (List ℕ) ProgramFileFault
 program_in text =
     if nat_le (length text) 65536 then bytes_or_fault (decode_of (filter (λ b. not (is_blank b)) text)) else Err TooLong
 
--- The first argument is the fault that a function returned, and `said` is what a definition such as `program_in` gives.
--- The fault is that memory ran out, or `said` is the same fault.
+-- The first argument is the fault that a function returned, and `said` is the result that a definition such as
+-- `program_in` gives for the same input. The returned fault is that memory ran out, or it is the fault in `said`.
 abbrev pub Fails : {B : Type 0} → ProgramFileFault → Result B ProgramFileFault → Type 0
 Fails OutOfMemory said = ⊤
 Fails fault said = said ≡ Err fault

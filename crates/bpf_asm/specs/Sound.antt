@@ -21,7 +21,7 @@ pub record IsSoundForm (f : Form) (p : Fields) : Type 0 where
   pub fields : has_valid_fields f (inst_of f p.dst p.src (int_of p.offset) (int_of p.imm)) ≡ true
   pub registers : has_valid_registers f (inst_of f p.dst p.src (int_of p.offset) (int_of p.imm)) ≡ true
 
--- The jump of this form and with these fields is an instruction of this profile, whatever its distance is.
+-- For every distance, the jump of this form with these fields is an instruction of this profile.
 pub record IsJump (f : Form) (p : Fields) : Type 0 where
   pub is_of : IsNarrowForm f p.dst p.src
   pub fields : (z : ℤ) → has_valid_fields f (jump_inst f p z) ≡ true

@@ -1,4 +1,4 @@
-// Flaws: the faults of an assembler text, each with the line or the label that its message shows, if it shows one.
+// The faults of an assembler text, and the messages that describe them.
 
 ghost use Rattle.std.specs.Prelude.{◌≡◌, ◌-◌, ℕ, [], true, IfOk, IsOk, slice_get, unwrap_or, take};
 ghost use Rattle.bpf_asm.specs.Program as spec;
@@ -18,12 +18,12 @@ use std::fmt;
 pub enum AsmFlaw<'a> {
     /// A1: the text begins with a byte order mark, so its first line can't be parsed.
     ByteOrderMark,
-    /// A1: this line can't be parsed, and without its LF it ends with a CR.
+    /// A1: the line can't be parsed, and without its LF it ends with a CR.
     CarriageReturn,
-    /// `explain` returns this flaw for two faults:
-    /// - A1: this line can't be parsed. It isn't the first line of a text that begins with a byte order mark, and
-    ///   without its LF it doesn't end with a CR.
-    /// - A2 (a wrong label), if this line is empty or can't be parsed. `assemble` never reports A2 for such a line.
+    /// A1: this line can't be parsed, and neither `ByteOrderMark` nor `CarriageReturn` applies.
+    ///
+    /// `explain` also returns this flaw if its caller passes the fault A2 (a wrong label) for a line that is empty or
+    /// can't be parsed. `assemble` never finds A2 in such a line.
     NoForm(&'a [u8]),
     /// A2: an earlier line defines this label too.
     DuplicateLabel(&'a [u8]),
@@ -31,7 +31,7 @@ pub enum AsmFlaw<'a> {
     UndefinedLabel(&'a [u8]),
     /// A3: a number in this line is out of range.
     OutOfRange(&'a [u8]),
-    /// A4: the program doesn't have 1 to 512 units.
+    /// A4: the program doesn't have 1 to 512 units. A unit is an instruction slot of eight bytes.
     Length,
 }
 
@@ -110,8 +110,8 @@ fn write_byte<W: fmt::Write>(f: &mut fmt::Formatter<W>, byte: u8) -> fmt::Result
     }
 }
 
-/// Returns line `number` of a text, counted from 1 (0 also gives line 1), without its LF. Returns an empty line if the
-/// text has fewer lines. The error is that memory ran out.
+/// Returns line `number` of a text, without its LF. Lines count from 1, and 0 also gives line 1. Returns an empty line
+/// if the text has fewer lines. The error is that memory ran out.
 fn line_of(alloc: Global, text: &[u8], number: u64) -> Result<&[u8], AllocError>
     ensures { IfOk result (λ line. line.now ≡ line_at text.now number) }
 {
@@ -134,9 +134,9 @@ fn has_return(line: &[u8]) -> bool
     line.ends_with(b"\r")
 }
 
-/// Returns the flaw for the fault that line `number` can't be parsed (A1). It is `ByteOrderMark` for line 1 of a text
-/// that begins with a byte order mark, else `CarriageReturn` if the line ends with a CR, else `NoForm`. The error is
-/// that memory ran out. `ByteOrderMark` needs no memory, so there is no error for it.
+/// Returns the flaw for the fault `BadLine(number)`: line `number` can't be parsed (A1). The flaw is `ByteOrderMark`
+/// for line 1 of a text that begins with a byte order mark, else `CarriageReturn` if the line without its LF ends with
+/// a CR, else `NoForm`. The error is that memory ran out. `ByteOrderMark` needs no memory, so there is no error for it.
 fn formless<'a>(alloc: Global, text: &'a [u8], number: u64) -> Result<AsmFlaw<'a>, AllocError>
     ensures flaw { IfOk result (Explains text.now (AsmFault.BadLine number)) }
     ensures mark { is_marked text.now number ≡ true → IsOk result }
@@ -152,9 +152,10 @@ fn formless<'a>(alloc: Global, text: &'a [u8], number: u64) -> Result<AsmFlaw<'a
     }
 }
 
-/// Returns the flaw for the fault that line `number` has a wrong label (A2). It is `DuplicateLabel` if the line defines
-/// a label, and `UndefinedLabel` if it is an instruction, each with the label that `line::row_of` returns. If the line
-/// is empty or can't be parsed, it is `NoForm`. The error is that memory ran out.
+/// Returns the flaw for the fault `BadLabel(number)`: line `number` has a wrong label (A2). If the line defines a
+/// label, the flaw is `DuplicateLabel` with this label. If the line is an instruction, the flaw is `UndefinedLabel`
+/// with the text of the line's last token. In a jump to a label, this text is the label. If the line is empty or can't
+/// be parsed, the flaw is `NoForm` with the line. The error is that memory ran out.
 fn label_of<'a>(alloc: Global, text: &'a [u8], number: u64) -> Result<AsmFlaw<'a>, AllocError>
     ensures { IfOk result (Explains text.now (AsmFault.BadLabel number)) }
 {
@@ -175,7 +176,7 @@ fn out_of_range<'a>(alloc: Global, text: &'a [u8], number: u64) -> Result<AsmFla
 
 /// Returns the flaw for `fault`: the fault with the line or the label that its message shows. Callers pass a fault that
 /// `assemble` found in this text. The error is that memory ran out in this call, or that `fault` is `OutOfMemory`.
-/// There is no error for `Length`, nor for a line 1 that can't be parsed and begins with a byte order mark.
+/// There is no error for `Length`, and none for `BadLine(1)` if the text begins with a byte order mark.
 pub fn explain<'a>(
     alloc: Global,
     text: &'a [u8],

@@ -30,9 +30,9 @@ pub enum Target {
     Distance(Value),
 }
 
-/// A parsed instruction. `Wide` is the load of a 64-bit number: the register's number, and the loaded number, or `None`
-/// if that is above 2^64 - 1. `Jump` is a jump, whose distance is in its target and not in its fields. `Plain` is any
-/// other instruction.
+/// A parsed instruction. `Wide` is the load of a 64-bit number. Its first value is the register's number. Its second
+/// value is the number to load, or `None` if that is above 2^64 - 1. `Jump` is a jump. Its distance is in its target
+/// and not in its fields. `Plain` is any other instruction.
 #[derive(Clone, Copy)]
 pub enum Statement {
     Plain(Form, Fields),
@@ -118,7 +118,7 @@ fn is_word(token: Token) -> bool
 
 // Parses the tokens after `r1 OPERATOR=`, or after `r1 =` for MOV, and returns the instruction. Returns `None` unless
 // they are one register of the same width as r1, or one number, with or without a `-` before it. `width` and `dst` are
-// the width and the number of r1. `offset` is the instruction's offset field, as in `Token::Assign`.
+// the width and the number of r1. `offset` is the value of the instruction's offset field.
 fn operand(
     operator: Operator,
     offset: u64,
@@ -226,8 +226,8 @@ fn load(dst: u8, tokens: &[Token]) -> Option<Statement>
     }
 }
 
-// Returns the number of bits of a sign extension from this size: 8, 16 or 32. Returns `None` if no instruction of this
-// width extends from this size.
+// Returns how many bits this size has (8, 16 or 32), if a MOV of this width can extend the sign of that many bits.
+// Returns `None` if there is no such MOV.
 fn extension(width: Width, size: Size) -> Option<u64>
     ensures { result ≡ spec.extension width size }
 {
@@ -284,11 +284,7 @@ fn is_full(width: Width) -> bool
 }
 
 // Parses the tokens after `r1 = -`, where r1 can be any register, as NEG. Returns `None` unless they are one token, the
-// same register again. `width` and `dst` are the register's width and number, here and in the next three functions.
-// Each of these three parses its tokens as one instruction, and returns `None` if they aren't that instruction:
-// - `extended` parses the tokens after `r1 = (` as a sign extension.
-// - `swapped` parses the tokens after `r1 = le16` and the like as END (a swap of bytes).
-// - `wide` parses the tokens after `r1 = N` as a wide load (of a 64-bit number).
+// same register again. `width` and `dst` are the width and the number of r1.
 fn negated(width: Width, dst: u8, tokens: &[Token]) -> Option<Statement>
     ensures { result ≡ spec.only_assigned width dst (Token.Minus ∷ tokens.now) }
 {
@@ -301,6 +297,8 @@ fn negated(width: Width, dst: u8, tokens: &[Token]) -> Option<Statement>
     }
 }
 
+// Parses the tokens after `r1 = (`, where r1 can be any register, as a sign extension, as in `r1 = (s8)r2`. Returns
+// `None` if they aren't one. `width` and `dst` are the width and the number of r1.
 fn extended(width: Width, dst: u8, tokens: &[Token]) -> Option<Statement>
     ensures { result ≡ spec.only_assigned width dst (Token.Open ∷ tokens.now) }
 {
@@ -320,6 +318,9 @@ fn extended(width: Width, dst: u8, tokens: &[Token]) -> Option<Statement>
     }
 }
 
+// Parses the tokens after `r1 = le16` and the like, where r1 can be any register, as END (a swap of bytes). Returns
+// `None` unless they are one token, the same register again, and the register has 64 bits. `order`, `source` and `bits`
+// are the width, the source and the immediate of the instruction. `width` and `dst` are the width and the number of r1.
 fn swapped(
     order: Width,
     source: Source,
@@ -339,6 +340,9 @@ fn swapped(
     }
 }
 
+// Parses the tokens after `r1 = N`, where r1 can be any register, as a wide load (of a 64-bit number). Returns `None`
+// unless they are one token, `ll`, and r1 is a 64-bit register. `n` is N, or `None` if N is above 2^64 - 1. `width` and
+// `dst` are the width and the number of r1.
 fn wide(n: Option<u64>, width: Width, dst: u8, tokens: &[Token]) -> Option<Statement>
     ensures { result ≡ spec.only_assigned width dst (Token.Number n ∷ tokens.now) }
 {
@@ -348,8 +352,9 @@ fn wide(n: Option<u64>, width: Width, dst: u8, tokens: &[Token]) -> Option<State
     }
 }
 
-// Parses the tokens after `r1 =` as an instruction that exists only with `=`: NEG, a sign extension, END (a swap of
-// bytes), a wide load (of a 64-bit number) or a load. Returns `None` if they are none of these.
+// Parses the tokens after `r1 =` as NEG, a sign extension, END (a swap of bytes), a wide load (of a 64-bit number) or a
+// load. Returns `None` if they are none of these, as in a MOV of a register or a number. `width` and `dst` are the
+// width and the number of r1, which can be any register.
 fn only_assigned(width: Width, dst: u8, tokens: &[Token]) -> Option<Statement>
     ensures { result ≡ spec.only_assigned width dst tokens.now }
 {
@@ -376,8 +381,8 @@ fn assigned(width: Width, dst: u8, tokens: &[Token]) -> Option<Statement>
 }
 
 // Parses the tokens after the address of a store: `=`, then a 64-bit register or a number, with or without a `-` before
-// the number. Returns the store to the address that is the value of register `base` plus `offset`. Returns `None` if
-// they can't be parsed.
+// the number. Returns the store, whose address is the value of register `base` plus `offset`. Returns `None` if they
+// can't be parsed.
 fn stored(size: Size, base: u8, offset: Value, tokens: &[Token]) -> Option<Statement>
     ensures { result ≡ spec.stored size base offset tokens.now }
 {
@@ -446,8 +451,8 @@ fn register_branch(
     }
 }
 
-// Returns the instruction for the tokens after `if r1 CMP N`: `goto` and a target; `None` if they can't be parsed. `n`
-// is N, or `None` if N is above 2^64 - 1.
+// Returns the instruction for the tokens after `if r1 CMP N`: `goto` and a target. Returns `None` if they can't be
+// parsed. `width` and `dst` are the width and the number of `r1`. `n` is N, or `None` if N is above 2^64 - 1.
 fn number_branch(
     condition: Condition,
     width: Width,
@@ -468,8 +473,8 @@ fn number_branch(
     }
 }
 
-// Returns the instruction for the tokens after `if r1 CMP -`: a number, `goto` and a target; `None` if they can't be
-// parsed.
+// Returns the instruction for the tokens after `if r1 CMP -`: a number, `goto` and a target. Returns `None` if they
+// can't be parsed. `width` and `dst` are the width and the number of `r1`.
 fn minus_branch(condition: Condition, width: Width, dst: u8, tokens: &[Token]) -> Option<Statement>
     ensures { result ≡ spec.branch condition width dst (Token.Minus ∷ tokens.now) }
 {
@@ -530,8 +535,8 @@ fn conditional(tokens: &[Token]) -> Option<Statement>
     }
 }
 
-// Returns the instruction for the tokens after `call`; `None` if they aren't one number, which can have a `-` before
-// it.
+// Returns the instruction for the tokens after `call`. Returns `None` unless they are one number, with or without a `-`
+// before it.
 fn call(tokens: &[Token]) -> Option<Statement>
     ensures { result ≡ spec.statement (Token.Call ∷ tokens.now) }
 {

@@ -1,5 +1,6 @@
-// Labels, and the units that they name. A unit is 8 bytes of a program; units count from 0. A label names the next unit
-// after it. A row is a parsed line with a label, as `line::row_of` returns it.
+// Labels, and the units that they name. A unit is 8 bytes of a program, and units count from 0. A label names the first
+// unit of the next instruction, or the end of the program if no instruction follows. A row is a parsed line with a
+// label, as `line::row_of` returns it.
 
 ghost use Rattle.std.specs.Prelude.{◌≡◌, ◌≤◌, ◌++◌, [], ℕ, List, map, IfOk, OnOk, Some, is_some};
 ghost use Rattle.bpf_asm.specs.Program as spec;
@@ -8,7 +9,8 @@ use crate::AsmFault;
 use crate::grammar::{Line, Statement, Target};
 use std::alloc::{AllocError, Global};
 
-// Returns how many units (of 8 bytes) a line takes: 2 for a wide load, 1 for any other instruction, and else 0.
+// Returns how many units (of 8 bytes) a line takes: 2 for a wide load, 1 for any other instruction, and 0 for a line
+// without an instruction.
 pub fn len_of(line: Line) -> u64
     ensures value { result ≡ spec.line_len_of line }
     ensures small { result ≤ 2 }
@@ -35,8 +37,8 @@ pub fn units_in(rows: &[(Line, &[u8])]) -> u64
     units
 }
 
-// Adds the label that a row defines, if it defines one, to `labels`, with `at` as the unit that it names. `parsed` is
-// the row's parsed line, and `name` is its label. The error is that memory ran out.
+// If a row defines a label, adds this label to `labels` as the name of unit `at`. `parsed` is the row's parsed line,
+// and `name` is its label. The error is that memory ran out.
 fn define<'a>(
     labels: &mut Vec<(&'a [u8], u64)>,
     parsed: Line,
@@ -53,9 +55,9 @@ fn define<'a>(
     }
 }
 
-/// Returns the labels that the rows define, in their order, each with the unit that it names. For a label after the
-/// last unit, this is the number of all units. A label that is defined twice is in the result twice. The error is that
-/// memory ran out.
+/// Returns the labels that the rows define, in their order, each with the number of the unit that it names. If no
+/// instruction follows a label, this number is the count of all units. A label that is defined twice is in the result
+/// twice. The error is that memory ran out.
 pub fn labels_of<'a>(
     alloc: Global,
     rows: &[(Line, &'a [u8])],
@@ -76,7 +78,7 @@ pub fn labels_of<'a>(
 }
 
 /// Returns the unit that the label `name` names, or `None` if this label isn't in `labels`. `labels` has labels with
-/// their units, as `labels_of` returns them. If the label is in it more than once, the unit is that of the first.
+/// their units, as `labels_of` returns them. If `labels` has this label more than once, returns the first one's unit.
 pub fn place_of(mut labels: &[(&[u8], u64)], name: &[u8]) -> Option<u64>
     ensures { result ≡ spec.place_found (map (λ d. spec.definition d.0.now d.1) labels.entry.now) name.now }
 {
@@ -121,8 +123,8 @@ fn is_wrong(labels: &[(&[u8], u64)], seen: &[&[u8]], parsed: Line, name: &[u8]) 
     }
 }
 
-// Adds the label that a row defines, if it defines one, to `seen`. `parsed` is the row's parsed line, and `name` is its
-// label. The error is that memory ran out.
+// If a row defines a label, adds this label to `seen`. `parsed` is the row's parsed line, and `name` is its label. The
+// error is that memory ran out.
 fn note<'a>(seen: &mut Vec<&'a [u8]>, parsed: Line, name: &'a [u8]) -> Result<(), AllocError>
     ensures { OnOk result (map (λ t. t.now) seen.new.items
         ≡ spec.with_name parsed name.now (map (λ t. t.now) seen.old.items)) }
@@ -134,9 +136,10 @@ fn note<'a>(seen: &mut Vec<&'a [u8]>, parsed: Line, name: &'a [u8]) -> Result<()
     }
 }
 
-/// Returns the fault of the first row that defines a label that an earlier row defines too, or that jumps to a label
-/// that isn't in `labels`; `None` if there is no such row. Callers pass as `labels` what `labels_of` returns for these
-/// rows. The fault has the number of the row, counted from 1. The error is that memory ran out.
+/// Returns the fault `BadLabel` for the first row with a wrong label, or `None` if there is no such row. A row has a
+/// wrong label if it defines a label that an earlier row defines too, or if it jumps to a label that isn't in `labels`.
+/// Callers pass as `labels` what `labels_of` returns for these rows. The number in the fault is the number of the row,
+/// counted from 1. The error is that memory ran out.
 pub fn label_fault(
     alloc: Global,
     labels: &[(&[u8], u64)],

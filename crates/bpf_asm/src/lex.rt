@@ -136,8 +136,8 @@ fn lookup(mut table: &[(&[u8], Token)], text: &[u8], other: Token) -> Token
     other
 }
 
-// Returns the register of this width whose number follows the first byte of `text`. Returns `Name` unless only a number
-// from 0 to 10, without leading zeros, follows that byte.
+// If the bytes of `text` after the first one are a number from 0 to 10 without leading zeros, returns the register of
+// this width and with this number. Returns `Name` for any other text. The first byte can be any byte.
 fn numbered(width: Width, text: &[u8]) -> Token
     ensures { result ≡ spec.numbered width text.now }
 {
@@ -259,8 +259,8 @@ fn number(text: &[u8]) -> Option<u64>
     }
 }
 
-/// Returns the token that a text means: a number, a symbol, a word that has a token of its own, or a register. Returns
-/// `Name` for any other text.
+/// Returns the token that a text stands for: a number, a symbol, a word that has a token of its own, or a register.
+/// Returns `Name` for any other text.
 pub fn kind_of(text: &[u8]) -> Token
     ensures { result ≡ spec.kind_of text.now }
 {

@@ -1,4 +1,4 @@
-//! The assembler: programs from text and back, and files of programs as hexadecimal digits.
+//! Assembles and disassembles programs, and reads and writes them as hexadecimal digits.
 #![tactic(auto)]
 
 ghost use Rattle.std.specs.Prelude.{◌≡◌, ◌++◌, IfOk, IfErr, OnOk, map, None, ◌&&◌, nat_le, string_bytes, option_map};
@@ -17,7 +17,7 @@ use grammar::Line;
 use std::alloc::{AllocError, Global};
 use std::fmt::Write;
 
-/// Why a text can't be assembled. The number in a variant is that of the line with the fault, counted from 1.
+/// Why a text can't be assembled. The number in a variant is the number of the line at fault, counted from 1.
 /// `flaw::explain` returns the `AsmFlaw` that writes the message about a fault.
 #[derive(Clone, Copy)]
 pub enum AsmFault {
@@ -27,7 +27,7 @@ pub enum AsmFault {
     BadLabel(u64),
     /// A3: a number in the line is out of range.
     OutOfRange(u64),
-    /// A4: the program doesn't have 1 to 512 units.
+    /// A4: the program doesn't have 1 to 512 units. A unit is an instruction slot of eight bytes.
     Length,
     OutOfMemory,
 }
@@ -119,9 +119,9 @@ pub fn disassemble_numbered(alloc: Global, code: &Code) -> Result<String, AllocE
     Ok(out)
 }
 
-/// Appends `number`, `: `, and the line of the instruction `inst` with its LF. `number` is that of the instruction's
-/// first unit. `high` is the upper 32 bits of a wide load's number, and isn't used for other instructions. The error is
-/// that memory ran out.
+/// Appends `number`, `: `, and the line of the instruction `inst` with its LF. Callers pass as `number` the number of
+/// the instruction's first unit. `high` is the upper 32 bits of a wide load's number, and isn't used for other
+/// instructions. The error is that memory ran out.
 fn write_numbered(out: &mut String, number: u64, inst: Inst, high: i32) -> Result<(), AllocError>
     ensures { OnOk result (string_bytes out.new ≡ string_bytes out.old ++ decimal number ++ codes ": "
         ++ instruction_text (form_of inst.opcode) inst high) }
@@ -137,9 +137,9 @@ fn is_length(count: u64) -> bool
 }
 
 // Returns the program of the rows, which are parsed lines. The numbers of each row must be in range, and an instruction
-// in a row must be one of this profile. Both are true of the rows that `line::rows_of` returns. The error is `Length`
-// if the program doesn't have 1 to 512 units. Otherwise it is `BadLabel` for the first row with a wrong label (A2), or
-// that memory ran out. `Length` is found before any memory is taken.
+// in a row must be one of this profile. The rows that `line::rows_of` returns fulfil both conditions. The error is
+// always `Length` if the program doesn't have 1 to 512 units. Otherwise it is `BadLabel` for the first row with a wrong
+// label (A2), or that memory ran out.
 fn assemble_rows(alloc: Global, rows: &[(Line, &[u8])]) -> Result<Code, AsmFault>
     requires fits { spec.AreInRange (map (λ p. spec.row p.0 p.1.now) rows.now) }
     requires sound { AreSound (map (λ p. spec.row p.0 p.1.now) rows.now) }

@@ -59,8 +59,9 @@ fn label_of<'a>(line: Line, words: &[&'a [u8]]) -> &'a [u8]
     }
 }
 
-// Parses the tokens of a line, and returns the parsed line with the label that `row_of` describes. Returns `None` if
-// they can't be parsed. `words` are the texts of the tokens.
+// Parses the tokens of a line. `words` are the texts of the tokens. Returns the parsed line and a text: the first
+// token's text if the line defines a label (this is the label), the last token's text if the line is an instruction, or
+// an empty text if the line is empty. Returns `None` if the tokens can't be parsed.
 fn row_with<'a>(tokens: &[Token], words: &[&'a [u8]]) -> Option<(Line, &'a [u8])>
     ensures { option_map (λ p. spec.row p.0 p.1.now) result
         ≡ spec.row_with (parsed_line tokens.now) (map (λ t. t.now) words.now) }
@@ -69,8 +70,9 @@ fn row_with<'a>(tokens: &[Token], words: &[&'a [u8]]) -> Option<(Line, &'a [u8])
     Some((parsed, label_of(parsed, words)))
 }
 
-// Parses a line, given the texts of its tokens, and returns the parsed line with the label that `row_of` describes.
-// Returns `None` if it can't be parsed. The error is that memory ran out.
+// Parses a line, given the texts of its tokens. Returns the parsed line and a text: the label if the line defines one,
+// the last token's text if the line is an instruction, or an empty text if the line is empty. Returns `None` if the
+// line can't be parsed. The error is that memory ran out.
 fn row_by<'a>(alloc: Global, words: &[&'a [u8]]) -> Result<Option<(Line, &'a [u8])>, AllocError>
     ensures { IfOk result (λ found. option_map (λ p. spec.row p.0 p.1.now) found
         ≡ spec.row_by (Some (map (λ t. t.now) words.now))) }
@@ -79,9 +81,9 @@ fn row_by<'a>(alloc: Global, words: &[&'a [u8]]) -> Result<Option<(Line, &'a [u8
     Ok(row_with(tokens.as_slice(), words))
 }
 
-/// Parses a line, given without its LF, and returns the parsed line with a label: the label that the line defines, or
-/// for an instruction the text of its last token. If the instruction jumps to a label, this text is that label. For an
-/// empty line the label is empty. Returns `None` if the line can't be parsed. The error is that memory ran out. A line
+/// Parses a line, given without its LF. Returns the parsed line and a text: the label if the line defines one, the last
+/// token's text if the line is an instruction, or an empty text if the line is empty. If an instruction jumps to a
+/// label, its text is this label. Returns `None` if the line can't be parsed. The error is that memory ran out. A line
 /// with a byte that isn't ASCII, even in its comment, gives `None` and no error.
 pub fn row_of<'a>(alloc: Global, line: &'a [u8]) -> Result<Option<(Line, &'a [u8])>, AllocError>
     ensures found { IfOk result (λ found. option_map (λ p. spec.row p.0 p.1.now) found ≡ spec.row_of line.now) }
@@ -93,7 +95,8 @@ pub fn row_of<'a>(alloc: Global, line: &'a [u8]) -> Result<Option<(Line, &'a [u8
     }
 }
 
-// Returns whether a number is in the range from minus `half` to `half` - 1. A number whose `size` is `None` isn't.
+// Returns whether a number is in the range from minus `half` to `half` - 1. If its `size` is `None` (the absolute value
+// is 2^64 or more), the result is `false`.
 fn fits(half: u64, value: Value) -> bool
     ensures { result ≡ spec.fits half value }
 {
@@ -176,9 +179,9 @@ pub fn cut<'a>(alloc: Global, text: &'a [u8]) -> Result<Vec<&'a [u8]>, AllocErro
     Ok(lines)
 }
 
-/// Parses `line`, whose number in the text is `number`, and returns the parsed line with the label that `row_of`
-/// describes. The error is that the line can't be parsed (A1), that a number in it is out of range (A3), or that memory
-/// ran out. A line with a byte that isn't ASCII always gives A1.
+/// Parses `line`, whose number in the text is `number`. Returns the parsed line with a label, as `row_of` does. The
+/// error is that the line can't be parsed (A1), that a number in it is out of range (A3), or that memory ran out. A
+/// line with a byte that isn't ASCII always gives A1.
 fn row_at<'a>(alloc: Global, number: u64, line: &'a [u8]) -> Result<(Line, &'a [u8]), AsmFault>
     ensures ok { IfOk result (λ p. spec.row_of line.now ≡ Some (spec.row p.0 p.1.now)) }
     ensures none { IfOk result (λ p. spec.row_fault number (spec.row_of line.now) ≡ None) }
@@ -198,8 +201,9 @@ fn row_at<'a>(alloc: Global, number: u64, line: &'a [u8]) -> Result<(Line, &'a [
     }
 }
 
-/// Parses all lines, and returns each parsed line with the label that `row_of` describes. The error is the fault of the
-/// first line that can't be parsed (A1) or has a number out of range (A3). It can also be that memory ran out.
+/// Parses all lines, and returns the parsed lines in their order, each with a label. The label is the one that the line
+/// defines or, for an instruction, the text of its last token. For an empty line it is empty. The error is the fault of
+/// the first line that can't be parsed (A1) or has a number out of range (A3). It can also be that memory ran out.
 pub fn rows_of<'a>(alloc: Global, lines: &[&'a [u8]]) -> Result<Vec<(Line, &'a [u8])>, AsmFault>
     ensures ok { IfOk result
         (λ v. map (λ p. spec.row p.0 p.1.now) v.items ≡ spec.rows_of (map (λ t. t.now) lines.now)) }

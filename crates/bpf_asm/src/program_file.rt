@@ -64,8 +64,8 @@ fn without_blanks(alloc: Global, text: &[u8]) -> Result<Vec<u8>, AllocError>
         .collect(alloc)
 }
 
-/// Returns the bytes that hexadecimal digits spell. The error is `BadDigits` if the number of digits is odd. Otherwise
-/// it is `BadDigits` if a byte isn't a hexadecimal digit, or that memory ran out.
+/// Returns the bytes that hexadecimal digits spell. The error is `BadDigits` if a byte isn't a hexadecimal digit or if
+/// the number of digits is odd, or that memory ran out. An odd number of digits always gives `BadDigits`.
 fn bytes_of(alloc: Global, digits: &[u8]) -> Result<Vec<u8>, ProgramFileFault>
     ensures given { Gives (λ bytes. bytes.items) result (bytes_or_fault (decode_of digits.now)) }
     ensures odd { length digits.now % 2 ≡ 1 → result ≡ Err ProgramFileFault.BadDigits }
@@ -106,7 +106,7 @@ fn push_line(alloc: Global, text: &mut String, bytes: &[u8], unit: usize) -> Res
 }
 
 /// Returns the units of a program as lines: for each whole unit of 8 bytes, 16 lower case hexadecimal digits and an LF.
-/// The error is that memory ran out.
+/// Bytes after the last whole unit are left out. The error is that memory ran out.
 pub fn unit_lines(alloc: Global, bytes: &[u8]) -> Result<String, AllocError>
     ensures { IfOk result (λ text. string_bytes text ≡ unit_lines bytes.now) }
 {

@@ -163,8 +163,7 @@ fn write_operand(
 }
 
 // Appends what follows the `=` of END (a swap of bytes), as in ` le16 r1`, and the end of the line. The error is that
-// memory ran out. `write_negated`, `write_extended` and `write_moved` do the same for NEG, for a sign extension and for
-// MOV, and `write_right` does it for any operator.
+// memory ran out.
 fn write_swapped(
     out: &mut String,
     width: Width,
@@ -180,6 +179,7 @@ fn write_swapped(
     end_with_register(out, Width::Bits64, inst.dst)
 }
 
+// Appends what follows the `=` of NEG, as in ` -r1`, and the end of the line. The error is that memory ran out.
 fn write_negated(
     out: &mut String,
     width: Width,
@@ -193,6 +193,8 @@ fn write_negated(
     out.push_str("\n")
 }
 
+// Appends what follows the `=` of a sign extension, as in ` (s8)r2`, and the end of the line. The error is that memory
+// ran out.
 fn write_extended(out: &mut String, width: Width, inst: Inst) -> Result<(), AllocError>
     ensures { OnOk result (string_bytes out.new ≡ string_bytes out.old
         ++ line_text (After (codes "(") ∷ Next (extension_text inst.offset) ∷ Next (codes ")")
@@ -204,6 +206,8 @@ fn write_extended(out: &mut String, width: Width, inst: Inst) -> Result<(), Allo
     out.push_str("\n")
 }
 
+// Appends what follows the `=` of MOV: a number, a register or a sign extension, and the end of the line. The error is
+// that memory ran out.
 fn write_moved(out: &mut String, width: Width, source: Source, inst: Inst) -> Result<(), AllocError>
     ensures { OnOk result (string_bytes out.new ≡ string_bytes out.old
         ++ line_text (right_pieces Operator.Mov width source inst)) }
@@ -236,6 +240,8 @@ fn write_second(
     write_operand(out, source, width, inst)
 }
 
+// Appends what follows the operator of an arithmetic instruction, and the end of the line. The error is that memory ran
+// out.
 fn write_right(
     out: &mut String,
     operator: Operator,

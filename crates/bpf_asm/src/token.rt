@@ -105,7 +105,8 @@ pub const WORDS: [(&[u8], Token); 22] = [
 
 ghost use Rattle.bpf_asm.specs.Tables.{TablesMatchDefinitions};
 
-/// Does nothing. Its contract is a law: `SYMBOLS` and `WORDS` are the tables that `specs/Tables.antt` writes out.
+/// Does nothing. Its contract is a law: `SYMBOLS` has the entries of `written_symbols` in `specs/Tables.antt`, and
+/// `WORDS` has those of `written_words`.
 pub fn tables()
     ensures { TablesMatchDefinitions }
 {}

@@ -28,7 +28,7 @@ use Rattle.bpf_decode.specs.Making.{IsInstruction, AreUnits}
 use Rattle.bpf_decode.proofs.Decoding.{all_units, right_length}
 use Rattle.bpf_decode.proofs.Encoding.{at_drop}
 
--- ---- numbers from their bytes
+-- ---- a number below 2^16 or 2^32 is equal to the number that its two or four bytes spell
 
 two_bytes : (n : ℕ) → n < 65536 → n % 256 + 256 * (n / 256 % 256 + 256 * 0) ≡ n
 two_bytes n h = omega arith
@@ -42,7 +42,7 @@ small_offset z h = let f = Fits-of_z {w = w16} {z = z} h in omega (arith, f)
 small_imm : (z : ℤ) → FitsSigned w32 z → cast_unsigned w32 z < 4294967296
 small_imm z h = let f = Fits-of_z {w = w32} {z = z} h in omega (arith, f)
 
--- ---- decoding one encoded unit
+-- ---- if the fields of a unit fit their bits, its encoded bytes are decoded as the same fields
 
 module _ (bytes : List ℕ) (pc : ℕ) where
   index : (us : List ℕ) (k m : ℕ) → drop (8 * pc) bytes ≡ us → 8 * pc + k ≡ m → slice_index bytes m ≡ slice_index us k
@@ -82,7 +82,7 @@ module _ (bytes : List ℕ) (pc : ℕ) where
   zero_bytes : (v : ℤ) (rest : List ℕ) → drop (8 * pc) bytes ≡ unit_bytes (Second v) ++ rest → second_fault bytes pc ≡ None
   zero_bytes v rest h = ap (λ l. cond (little_number 4 l == 0) None (Some Field)) h
 
--- ---- units without a fault
+-- ---- if units have no fault and each wide load has its second unit, their encoded bytes are decoded as these units
 
 two_tests : (a b : Bool) (o : Option UnitFault) → cond (not a) (Some Field) (cond (not b) (Some BadRegister) o) ≡ None → (a ≡ true) × (b ≡ true) × (o ≡ None)
 two_tests true true o e = (refl, refl, e)
@@ -205,7 +205,7 @@ module _ (bytes : List ℕ) (n : ℕ) (whole : length bytes ≡ 8 * n) where
       (one_more pc false true front us (Second v) k (second_sound pc v front us k h.0) (second_read pc v front us k h.0) refl) in
       (r.0, r.1 ∙ append_assoc front (Second v ∷ []) us)
 
--- ---- the bytes of a list of units
+-- ---- a list of units is encoded as eight bytes for each unit
 
 length_encoded : (us : List ProgramUnit) → length (encoded us) ≡ 8 * length us
 length_encoded [] = refl

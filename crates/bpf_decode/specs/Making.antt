@@ -1,4 +1,4 @@
--- Promises: when a list of 1 to 512 units is a program, as conditions on the units and their order.
+-- Promises: conditions on units and on their order. If 1 to 512 units meet them (`AreUnits`), the units are a program.
 use Rattle.std.specs.Prelude.{◌≡◌, ◌<◌, Bool, true, false, not, List, [], ◌∷◌, None, FitsSigned, ⊤}
 use Rattle.std.specs.Int.{w16, w32}
 use Rattle.bpf_model.specs.declared.instruction.Inst.{Inst}
@@ -6,7 +6,7 @@ use Rattle.bpf_model.specs.declared.instruction.Unit.{Unit as ProgramUnit}
 use Rattle.bpf_model.specs.declared.instruction.Unit.TheVariants.{First, Second}
 use Rattle.bpf_model.specs.Reading.{form_of, first_fault, is_wide}
 
--- each field of the instruction fits its bits, and the instruction has no fault if another unit follows
+-- each field's value fits the bits of the field, and the instruction has no fault in a place where another unit follows
 pub record IsInstruction (i : Inst) : Type 0 where
   pub opcode : i.opcode < 256
   pub dst : i.dst < 16

@@ -1,4 +1,5 @@
--- Definitions: the layouts of a context, the record of bytes that r1 points to when a program starts (this profile).
+-- Definitions: the layouts of a context, the record of bytes that r1 points to when a program starts (source: this
+-- project).
 use Rattle.std.specs.Prelude.{ℕ, List}
 use Rattle.bpf_model.specs.declared.context.Layout.{Layout}
 use Rattle.bpf_model.specs.declared.context.Layout.TheVariants as layout

@@ -54,7 +54,7 @@ impl Context {
     }
 }
 
-// Returns an array as a slice. The contract gives the prover the slice's length.
+// Returns an array as a slice. The contract tells the prover the slice's length.
 fn all_of<const N: usize>(bytes: &[u8; N]) -> &[u8]
     ensures bytes { result.now ≡ bytes.now }
     ensures many { length result.now ≡ N }

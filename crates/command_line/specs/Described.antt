@@ -1,4 +1,5 @@
--- Promises: which `clap` commands are made from descriptions of subcommands and arguments.
+-- Promises: the `clap` argument that is made from each `Argument`, and the `clap` command that is made from each
+-- `SubcommandDescription`.
 use Rattle.std.specs.Prelude.{List, [], ◌∷◌, Some, codes}
 use Rattle.clap.specs.Words.{App, Rule, Text, new_app, new_rule, with_rule, with_subcommand}
 use Rattle.command_line.specs.JobRequest.{context_rule, file_rule, flag_rule, kind_rule, mask_rule, option_rule, spare_rule}

@@ -128,11 +128,17 @@ fc_app =
 
 -- ---- These definitions say which job a command line asks for.
 
--- What a command line can ask for:
+-- What a command line can ask for, with its values. An opening is the file of --opening, or None if --opening isn't
+-- given.
 -- - `nothing`: the command line has no subcommand
--- - `serve_days`: its values are whether answers wait for syncs, whether a new day begins, the folder, and the
---   configuration
--- - an `Option Text` is always the file of --opening, or None if --opening isn't given
+-- - `asm`, `dis` and `dis_units`: the file
+-- - `verify`: the mask of counters, the layout and the file
+-- - `play`: the opening, the configuration and the script
+-- - `audit`, `carry`, `report`, `serve_kept` and `serve_synced`: the opening, the configuration and the journal
+-- - `audit_days`: the folder and the configuration
+-- - `export`: the kind and the form of the rows, the opening, the configuration and the journal
+-- - `serve`: the opening and the configuration
+-- - `serve_days`: whether answers wait for syncs, whether a new day begins, the folder and the configuration
 pub data JobRequest : Type 0 where
   nothing : JobRequest
   asm : Text → JobRequest
@@ -235,8 +241,8 @@ abbrev pub serve_days_by : Option Text → Option Text → Bool → Bool → Tex
 serve_days_by None None synced new_day folder config = Some (serve_days synced new_day folder config)
 serve_days_by opening journal synced new_day folder config = None
 
--- What `serve` asks for, given its values and CONFIG: with --days the result of `serve_days_by`, and else that of
--- `serve_by`. None for --new-day without --days.
+-- What `serve` asks for, given its values and CONFIG: the result of `serve_days_by` if --days is given, or else the
+-- result of `serve_by`. None for --new-day without --days.
 abbrev pub served_in : List Row → Text → Option JobRequest
 served_in rows config =
     elim (days_in rows) [
@@ -249,7 +255,8 @@ served_in rows config =
 abbrev pub serve_in : List Row → Option JobRequest
 serve_in rows = option_and_then (served_in rows) (first_of (codes "config") rows)
 
--- what the subcommand with this name and these values asks for; None if they ask for no job
+-- the job that the subcommand with this name and these values asks for; None if the values are wrong, contradictory or
+-- incomplete, or if there is no such subcommand
 abbrev pub subcommand_request : Text → List Row → Option JobRequest
 subcommand_request name rows =
     if bytes_eq name (codes "asm") then file_in (codes "file") asm rows
@@ -314,15 +321,19 @@ HasNoMask rows =
     (t : Text) × (one_of (codes "counters") rows ≡ Some t)
     × ¬ (IsNumeral 10 (without_leading_plus t) × (digits_value 10 (without_leading_plus t) < 2 ^ 32))
 
--- A parsed command line asks for no job, or its --counters isn't the text of a number from 0 to 2^32 - 1.
+-- There is no job for a parsed command line, for at least one of two reasons:
+-- - `parsed_request` is None, as for an `audit` with neither JOURNAL nor --days.
+-- - The value of --counters isn't the text of a number from 0 to 2^32 - 1.
 abbrev pub HasNoJob : Option (Text × List Row) → Type 0
 HasNoJob found = (parsed_request found ≡ None) ⊎ ((p : Text × List Row) × (found ≡ Some p) × HasNoMask p.1)
 
--- the last line of the error message for a command line that `clap` accepts, but that asks for no job
+-- the last line of the error message for a command line that `clap` accepts, but whose values are wrong, contradictory
+-- or incomplete
 abbrev pub further : Text
 further = codes "For more information, try '--help'." ++ 10 ∷ []
 
--- the first line of the error message for an `audit` that asks for no job
+-- the first line of the error message for an `audit` that `clap` accepts, but whose values are wrong, contradictory or
+-- incomplete
 abbrev pub audit_message : List Row → Text
 audit_message rows =
     elim (days_in rows) [
@@ -330,7 +341,8 @@ audit_message rows =
       | None ↦ codes "error: audit wants JOURNAL, or --days FOLDER"
     ]
 
--- the first line of the error message for a `serve` that asks for no job
+-- the first line of the error message for a `serve` that `clap` accepts, but whose values are wrong, contradictory or
+-- incomplete
 abbrev pub serve_message : List Row → Text
 serve_message rows =
     elim (days_in rows) [
@@ -340,7 +352,8 @@ serve_message rows =
           else codes "error: --sync wants --journal FILE or --days FOLDER"
     ]
 
--- the first line of the error message for the subcommand with this name and these values, if they ask for no job
+-- the first line of the error message for the subcommand with this name and these values, if `clap` accepts the values
+-- but they are wrong, contradictory or incomplete
 abbrev pub unasked_by : Text → List Row → Text
 unasked_by name rows =
     if bytes_eq name (codes "serve") then serve_message rows
@@ -348,18 +361,19 @@ unasked_by name rows =
     else if bytes_eq name (codes "export") then codes "error: export takes sales, decisions or events"
     else codes "error: --context takes 1 or 2"
 
--- the first line of the error message for a command line that `clap` accepts, but that asks for no job
+-- the first line of the error message for a command line that `clap` accepts, but whose values are wrong, contradictory
+-- or incomplete
 abbrev pub unasked_words : Option (Text × List Row) → Text
 unasked_words None = codes "error: --context takes 1 or 2"
 unasked_words (Some p) = unasked_by p.0 p.1
 
--- the error message for a command line that `clap` accepts, but that asks for no job
+-- the error message for a command line that `clap` accepts, but whose values are wrong, contradictory or incomplete
 abbrev pub unasked_text : Option (Text × List Row) → Text
 unasked_text found = unasked_words found ++ 10 ∷ 10 ∷ further
 
 -- When a command line can be refused with this fault:
 -- - `Usage` with any text: if `clap` can refuse the arguments
--- - `Usage` with the text `unasked_text`: if the command line asks for no job (`HasNoJob`)
+-- - `Usage` with the text `unasked_text`: if there is no job for the command line (`HasNoJob`)
 -- - `OutOfMemory`: always
 abbrev pub RefusesBy : Kinds → Option (Text × List Row) → CommandFault → Type 0
 RefusesBy kinds found (refusal.Usage text) = MayRefuse kinds ⊎ (HasNoJob found × (string_bytes text ≡ unasked_text found))

@@ -22,13 +22,13 @@ FindsFiles first second rows (Some p) =
     (ask : Text → Text → JobRequest) → files_in first second ask rows ≡ Some (ask (string_bytes p.0) (string_bytes p.1))
 FindsFiles first second rows None = (ask : Text → Text → JobRequest) → files_in first second ask rows ≡ None
 
--- The result is the job that is asked for. It is None only if no job is asked for.
+-- The second argument is the job that the first argument asks for. If the second argument is None, so is the first.
 abbrev pub Asks : Option JobRequest → Option Job → Type 0
 Asks wanted (Some job) = (wanted ≡ requested job) × IsSome (requested job)
 Asks wanted None = wanted ≡ None
 
--- The result is the job that a subcommand's values ask for. It is None only if they ask for no job, or if the value of
--- --counters isn't the text of a number from 0 to 2^32 - 1.
+-- The result is the job that a subcommand's values ask for. It is None only if there is no job for these values
+-- (`subcommand_request` is None), or if the value of --counters isn't the text of a number from 0 to 2^32 - 1.
 abbrev pub Finds : Text → List Row → Option Job → Type 0
 Finds name rows (Some job) = (subcommand_request name rows ≡ requested job) × IsSome (requested job)
 Finds name rows None = (subcommand_request name rows ≡ None) ⊎ HasNoMask rows
@@ -38,7 +38,7 @@ IsJobOfLine found (Some job) = (parsed_request found ≡ requested job) × IsSom
 IsJobOfLine found None = HasNoJob found
 
 -- When a parsed command line can be refused with this fault:
--- - `Usage` with the text `unasked_text`: if the command line asks for no job (`HasNoJob`)
+-- - `Usage` with the text `unasked_text`: if there is no job for the command line (`HasNoJob`)
 -- - `OutOfMemory`: always
 abbrev pub IsNoJobMessage : Option (Text × List Row) → CommandFault → Type 0
 IsNoJobMessage found (refusal.Usage text) = HasNoJob found × (string_bytes text ≡ unasked_text found)

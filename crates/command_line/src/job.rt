@@ -23,9 +23,9 @@ pub enum Format {
     Json,
 }
 
-/// The job that a command line asks for. Each `String` is the name of a file or of a folder, as it was given; only in
-/// `Show` it is a text to print. `opening` is the file with what the site keeps from the day before, if one is given.
-/// `folder` has the files of a station's days.
+/// The job that a command line asks for. Each `String` is the name of a file or of a folder, as it was given, except in
+/// `Show`, where it is a text to print. `opening` is the file with what the site keeps from the day before, if one is
+/// given. `folder` has the files of a station's days.
 #[derive(Drop)]
 pub enum Job {
     /// No subcommand was given: read a configuration and a script from standard input, and answer the script's lines.

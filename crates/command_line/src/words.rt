@@ -37,7 +37,7 @@ fn mask_of(matches: &ArgMatches) -> Option<u32>
     matches.get_one::<u32>("counters")
 }
 
-/// Returns the layout that a text names: `1` or `2`; `None` for any other text.
+/// Returns the layout that the text `1` or `2` names. Returns `None` for any other text.
 fn layout_named(text: &str) -> Option<Layout>
     ensures { result ≡ layout_named text.now }
 {
@@ -369,8 +369,8 @@ fn serve_of(alloc: Global, matches: &ArgMatches) -> Result<Option<Job>, AllocErr
     }
 }
 
-/// Returns the job of the subcommand `name`. Returns `None` if its arguments ask for no job, or if there is no such
-/// subcommand. The error is that memory ran out.
+/// Returns the job of the subcommand `name`. Returns `None` if its arguments are wrong, contradictory or incomplete, or
+/// if there is no such subcommand. The error is that memory ran out.
 fn named_job(alloc: Global, name: &str, matches: &ArgMatches) -> Result<Option<Job>, AllocError>
     ensures { IfOk result (Finds name.now (rows_of (found_of matches.now))) }
 {
@@ -388,8 +388,8 @@ fn named_job(alloc: Global, name: &str, matches: &ArgMatches) -> Result<Option<J
     }
 }
 
-/// Returns the job of a parsed command line, or `None` if it asks for none. The error is that memory ran out. Without a
-/// subcommand the job is `NoWords`, and there is no error.
+/// Returns the job of a parsed command line, or `None` if its arguments are wrong, contradictory or incomplete. The
+/// error is that memory ran out. Without a subcommand the job is `NoWords`, and there is no error.
 fn job_of(alloc: Global, matches: &ArgMatches) -> Result<Option<Job>, AllocError>
     ensures job { IfOk result (IsJobOfLine (subcommand_rows_of matches.now)) }
     ensures nothing { subcommand_rows_of matches.now ≡ None → IsOk result }
@@ -410,7 +410,8 @@ fn has_days(matches: &ArgMatches) -> bool
     }
 }
 
-/// Returns the first line of the error message for an `audit` that asks for no job.
+/// Returns the first line of the error message for an `audit` that `clap` accepts, but whose arguments are wrong,
+/// contradictory or incomplete.
 fn audit_message(matches: &ArgMatches) -> &'static str
     ensures { result.now ≡ audit_message (rows_of (found_of matches.now)) }
 {
@@ -421,7 +422,8 @@ fn audit_message(matches: &ArgMatches) -> &'static str
     }
 }
 
-/// Returns the first line of the error message for a `serve` that asks for no job.
+/// Returns the first line of the error message for a `serve` that `clap` accepts, but whose arguments are wrong,
+/// contradictory or incomplete.
 fn serve_message(matches: &ArgMatches) -> &'static str
     ensures { result.now ≡ serve_message (rows_of (found_of matches.now)) }
 {
@@ -434,8 +436,8 @@ fn serve_message(matches: &ArgMatches) -> &'static str
     }
 }
 
-/// Returns the first line of the error message for the subcommand `name`, if `clap` accepts its arguments but they ask
-/// for no job.
+/// Returns the first line of the error message for the subcommand `name`, if `clap` accepts its arguments but they are
+/// wrong, contradictory or incomplete.
 fn unasked_by(name: &str, matches: &ArgMatches) -> &'static str
     ensures { result.now ≡ unasked_by name.now (rows_of (found_of matches.now)) }
 {
@@ -447,7 +449,8 @@ fn unasked_by(name: &str, matches: &ArgMatches) -> &'static str
     }
 }
 
-/// Returns the first line of the error message for a command line that `clap` accepts, but that asks for no job.
+/// Returns the first line of the error message for a command line that `clap` accepts, but whose arguments are wrong,
+/// contradictory or incomplete.
 fn no_job_message(matches: &ArgMatches) -> &'static str
     ensures { result.now ≡ unasked_words (subcommand_rows_of matches.now) }
 {
@@ -457,8 +460,8 @@ fn no_job_message(matches: &ArgMatches) -> &'static str
     }
 }
 
-/// Returns the error message for a command line that `clap` accepts, but that asks for no job. The error is that memory
-/// ran out.
+/// Returns the error message for a command line that `clap` accepts, but whose arguments are wrong, contradictory or
+/// incomplete. The error is that memory ran out.
 fn unasked_text(alloc: Global, matches: &ArgMatches) -> Result<String, AllocError>
     ensures { IfOk result (λ text. string_bytes text ≡ unasked_text (subcommand_rows_of matches.now)) }
 {
@@ -466,8 +469,8 @@ fn unasked_text(alloc: Global, matches: &ArgMatches) -> Result<String, AllocErro
     format!(in alloc; "{words}\n\nFor more information, try '--help'.\n")
 }
 
-/// Returns the job of a parsed command line. The error is `Usage` with a message if the command line asks for no job,
-/// or `OutOfMemory` if memory ran out. Without a subcommand there is no error.
+/// Returns the job of a parsed command line. The error is `Usage` with a message if the command line's arguments are
+/// wrong, contradictory or incomplete, or `OutOfMemory` if memory ran out. Without a subcommand there is no error.
 fn found_job(alloc: Global, matches: &ArgMatches) -> Result<Job, CommandFault>
     ensures requested { IfOk result (λ job. parsed_request (subcommand_rows_of matches.now) ≡ requested job) }
     ensures some { IfOk result (λ job. IsSome (requested job)) }
@@ -487,10 +490,10 @@ fn is_asked_text(kind: ErrorKind) -> bool
     matches!(kind, ErrorKind::DisplayHelp | ErrorKind::DisplayVersion)
 }
 
-/// Returns the job or the error that an error of `clap` leads to. `kind` is the kind of the error of `clap`, and `made`
-/// is its text. The result is:
+/// Returns the job or the error that follows from an error of `clap`. `kind` is the kind of that error. `made` is its
+/// text, or an error if memory ran out when the text was made. The result is:
 ///
-/// - the error `OutOfMemory`, if `kind` is `OutOfMemory`, or if memory ran out when the text was made
+/// - the error `OutOfMemory`, if `made` is an error, or if `kind` says that memory ran out
 /// - else the job `Show` with the text, if `kind` is the help or the version
 /// - else the error `Usage` with the text
 fn job_from_error(kind: ErrorKind, made: Result<String, AllocError>) -> Result<Job, CommandFault>

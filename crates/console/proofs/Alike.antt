@@ -1,4 +1,6 @@
--- Two plays over the same bytes give the same answers and leave the same site, if neither answers that memory ran out.
+-- A play is a run of a script, which answers the script's lines at a site. Two plays of the same bytes that start from
+-- the same site and with the same output, and that end without a failure, write the same answers and leave the same
+-- moment and site, if neither answers that memory ran out.
 use Rattle.std.proofs.Common.{◌≡◌, ℕ, List, Option, Some, None, Result, Ok, Err, refl, sym, ◌∙◌, ap, ap₂}
 use Rattle.reg_types.specs.declared.refusal.Refusal.{Refusal}
 use Rattle.reg_types.specs.declared.refusal.Refusal.TheVariants as refusals
@@ -43,8 +45,8 @@ event_alike old moment act (answers.Line fault) b new other h k p q = absurd h
 event_alike old moment act (answers.Program n u t) b new other h k p q = absurd h
 event_alike old moment act answers.JournalFailed b new other h k p q = absurd h
 
--- Let `refusal` be the refusal in `wanted`, or `OutOfMemory` (`IsRefusal`). If `refusal` has numbers, it isn't
--- `OutOfMemory`, which has none, and so it is the refusal in `wanted`.
+-- `IsRefusal` says that `refusal` is the one in `wanted` or `OutOfMemory`. If `refusal` has numbers, it is the one in
+-- `wanted`, since `OutOfMemory` has none.
 wanted_is : (wanted : Option Refusal) (refusal : Refusal) (numbers : ℕ × (Option ℕ) × (Option ℕ)) → IsRefusal wanted refusal
     → refusal_numbers refusal ≡ Some numbers → wanted ≡ Some refusal
 wanted_is wanted refusals.OutOfMemory numbers h e = absurd (cc)

@@ -1,3 +1,4 @@
+pub mod ActAnswers
 pub mod Alike
 pub mod Fronts
 pub mod Journals

@@ -1,4 +1,5 @@
--- Definitions: why the verifier refuses the program of a load, and which answer the load then has (this profile).
+-- Definitions: why the verifier refuses the program of a load, and which answer the load then has (source: this
+-- project).
 use Rattle.std.specs.Prelude.{◌≡◌, ◌⊎◌, Option, Some, None, ⊤}
 use Rattle.bpf_model.specs.Program.{as_loaded}
 use Rattle.reg_types.specs.declared.refusal.Refusal.{Refusal}
@@ -15,7 +16,8 @@ abbrev pub IsRefusedLoad : Act → Refusal → Type 0
 IsRefusedLoad (acts.Load slot mask layout bytes) refusal = refusal_of (as_loaded bytes mask layout) ≡ Some refusal
 IsRefusedLoad act refusal = ⊥
 
--- If the act is a load, then its program fulfils `IsAcceptedAndGood`, or the answer is that memory ran out.
+-- If the act is a load, then the verifier accepts its program, and the program is good (`IsAcceptedAndGood`), or the
+-- answer is that memory ran out. Of other acts nothing is claimed.
 abbrev pub IsNotRefused : Act → Answer → Type 0
 IsNotRefused (acts.Load slot mask layout bytes) answer = IsAcceptedAndGood (as_loaded bytes mask layout) ⊎ (answer ≡ answers.OutOfMemory)
 IsNotRefused act answer = ⊤

@@ -1,6 +1,6 @@
--- Definitions: how each line of a script is answered (this profile). The answer depends on the site, and on the moment
--- that was set last. An act is entered as an event of pass 1 at that moment, except in these cases, which leave the
--- site unchanged:
+-- Definitions: how each line of a script is answered (source: this project). The answer depends on the site, and on the
+-- moment that was set last. An act is entered as an event of pass 1 at that moment, except in these cases, which leave
+-- the site unchanged:
 -- - The verifier refuses the program of a load: the answer is the line of the verifier's fault.
 -- - Memory runs out while the act is carried out: the answer is `S31`.
 -- - The journal is full: the answer is `S29`.
@@ -60,11 +60,11 @@ pub record IsAccepted (p : ProgramText) : Type 0 where
 abbrev pub load_of : ℕ → ProgramText → Act
 load_of slot p = acts.Load slot p.declared p.layout p.bytes
 
--- The answer fits the load:
--- - Entered, or the journal is full: the program is accepted, and `EventAnswered` holds.
--- - Memory ran out: the program has 1 to 512 whole units (of eight bytes each), its first unit has no fault, and the
+-- The answer fits the load of the program `p`. It is one of these:
+-- - `Entered` or `JournalFull`: the program is accepted, and the answer fits the load's event (`EventAnswered`).
+-- - `OutOfMemory`: the program has 1 to 512 whole units (of eight bytes each), its first unit has no fault, and the
 --   site is unchanged.
--- - Refused: the verifier refuses the program, and the site is unchanged.
+-- - `Program`: the verifier refuses the program, and the site is unchanged.
 abbrev pub LoadAnswered : SiteValue → ℕ → ℕ → ProgramText → Answer → SiteValue → Type 0
 LoadAnswered old moment slot p (answers.Entered number reply) new = IsAccepted p × EventAnswered old moment (load_of slot p) (answers.Entered number reply) new
 LoadAnswered old moment slot p answers.JournalFull new = IsAccepted p × EventAnswered old moment (load_of slot p) answers.JournalFull new
@@ -95,8 +95,8 @@ counter_text (Some p) = join_with_byte 32 (codes "counter" ∷ decimal p.0 ∷ d
 counter_text None = answer_line (answers.Line faults.BadNumber)
 
 -- The text answers this parsed line. The two pairs are the moment and the site, before and after the line. The answer
--- to `journal` is the journal of the site's history, and it is the journal of a history that a site with the same
--- configuration can have.
+-- to `journal` is the text of the site's history. This text is a journal that a site with the same configuration can
+-- have (`IsJournal`).
 abbrev pub IsLineAnswerText : Result ScriptLine LineFault → ℕ × SiteValue → List ℕ → ℕ × SiteValue → Type 0
 IsLineAnswerText (Err fault) s text s' = (text ≡ answer_line (answers.Line fault)) × (s' ≡ s)
 IsLineAnswerText (Ok (lines.Act act)) s text s' = IsActAnswerText s.1 s.0 act text s'.1 × (s'.0 ≡ s.0)
@@ -122,25 +122,25 @@ abbrev pub TakesMemory : List ℕ → Type 0
 TakesMemory line = IsLoad All (words line) ⊎ IsScriptOnlyLine (line_of line)
 
 -- The play began at moment 0 and ended without a failure. At its end the moment is `moment`, and the site is `left`.
--- All lines were answered, and all `count` answers were written. `cut` is the fault of the last line, if it is too long
--- or has no LF; the answer to this fault is counted too.
+-- All lines were answered, and all `count` answers were written. If the last line is too long or has no LF, `cut` is
+-- the fault of this line, and `count` includes the answer to the fault.
 pub record PlayEnds (site : SiteValue) (in_old in_new out_old out_new : Option (List ℕ)) (count : ℕ) (cut : Option LineFault) : Type 0 where
   pub moment : ℕ
   pub left : SiteValue
   pub ends : Ends AnswersScriptLine (0, site) (moment, left) in_old in_new out_old out_new count cut
 
--- The play failed. A beginning of the answers to the lines so far was written. Each change of the site was made by a
--- line that has an answer.
+-- The play failed, and a beginning of its answers was written. At the play's end the moment is `moment`, and the site
+-- is `left`. Each change of the site was made by a line that has one of these answers, written or not.
 pub record PlayBreaks (site : SiteValue) (in_old in_new out_old out_new : Option (List ℕ)) : Type 0 where
   pub moment : ℕ
   pub left : SiteValue
   pub breaks : Breaks AnswersScriptLine drops_none (0, site) (moment, left) in_old in_new out_old out_new
 
--- The play failed, but no write failed: the answers to all lines so far were written whole. If memory ran out, then in
--- one of these cases:
+-- The play failed, but no write failed. The answers to all lines so far were written whole. If the fault is that memory
+-- ran out, this happened in one of these cases:
 -- - when the site was started,
 -- - while the next line was read,
--- - while the next line was answered, which then is a line that needs memory (`TakesMemory`).
+-- - while the next line was answered, and this line needs memory (`TakesMemory`).
 pub record PlayStops (fault : SessionFault) (site : SiteValue) (in_old in_new out_old out_new : Option (List ℕ)) : Type 0 where
   pub moment : ℕ
   pub left : SiteValue

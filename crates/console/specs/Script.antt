@@ -1,4 +1,4 @@
--- Definitions: the lines of a script (this profile). A line is an act of any role, `moment N`, `counter C` or
+-- Definitions: the lines of a script (source: this project). A line is an act of any role, `moment N`, `counter C` or
 -- `journal`. A line of none of these forms is bad. N is read as a number of 64 bits, and C as one of 32 bits.
 use Rattle.std.specs.Prelude.{ℕ, List, [], ◌∷◌, codes, Bool, ◌&&◌, Result, Ok, if◌then◌else◌}
 use Rattle.std.specs.Str.{bytes_eq}

@@ -7,12 +7,11 @@ ghost use Rattle.site_core.specs.Site.{SiteValue, act_of};
 ghost use Rattle.console.specs.Loading.{IsLoadRefusal};
 ghost use Rattle.console.specs.Play.{EventAnswered, LoadAnswered, ActAnswered};
 
-use reg_types::verifier::verify;
-use reg_types::{Layout, Refusal};
+use reg_types::Refusal;
+use site_core::auditing::event_of;
 use site_core::{CallFault, Event, Site, What};
 use std::alloc::Global;
-use std::sync::Arc;
-use till_request::{Act, Answer, Bytes};
+use till_request::{Act, Answer};
 
 /// The number of the pass with which all acts of a script are entered.
 const PASS: u32 = 1;
@@ -70,30 +69,6 @@ fn refuse_load(refusal: Refusal) -> Entered
     }
 }
 
-/// Verifies `bytes`, the program of a load. If it is accepted, enters the load in the site's history. Returns the
-/// answer, and the refusal if it is refused. The site is unchanged if the program is refused, if the journal is full,
-/// or if memory ran out.
-fn enter_load(
-    alloc: Global,
-    site: &mut Site,
-    moment: u64,
-    slot: u32,
-    mask: u32,
-    layout: Layout,
-    bytes: &Bytes,
-) -> Entered
-    ensures answered { LoadAnswered site.old moment slot (as_loaded bytes.now mask layout) result.answer site.new }
-    ensures refused { IsLoadRefusal (Act.Load slot mask layout bytes.now) result.answer result.refusal }
-{
-    match verify(alloc, bytes.as_slice(), mask, layout) {
-        Ok(program) => match Arc::new(alloc, program) {
-            Ok(program) => unrefused(enter_event(site, moment, What::Load { slot, program })),
-            Err(_) => unrefused(Answer::OutOfMemory),
-        },
-        Err(refusal) => refuse_load(refusal),
-    }
-}
-
 /// Returns this answer, with no refusal.
 fn unrefused(answer: Answer) -> Entered
     ensures { result ≡ record { answer = answer; refusal = None } }
@@ -110,26 +85,8 @@ pub fn enter(alloc: Global, site: &mut Site, moment: u64, act: &Act) -> Entered
     ensures answered { ActAnswered site.old moment act.now result.answer site.new }
     ensures refused { IsLoadRefusal act.now result.answer result.refusal }
 {
-    match act {
-        Act::Till { till, request } => {
-            let what = What::Till {
-                till: *till,
-                request: *request,
-            };
-            unrefused(enter_event(site, moment, what))
-        }
-        Act::Dispenser { point, event } => {
-            let what = What::Dispenser {
-                point: *point,
-                event: *event,
-            };
-            unrefused(enter_event(site, moment, what))
-        }
-        Act::Load {
-            slot,
-            mask,
-            layout,
-            bytes,
-        } => enter_load(alloc, site, moment, *slot, *mask, *layout, bytes),
+    match event_of(alloc, act) {
+        Ok(what) => unrefused(enter_event(site, moment, what)),
+        Err(refusal) => refuse_load(refusal),
     }
 }

@@ -8,7 +8,8 @@ pub trait PlayNotices {
     ghost use Rattle.till_request.specs.declared.act.Act.{Act};
     ghost use Rattle.console.specs.Loading.{IsRefusedLoad};
 
-    /// For proofs: this refusal of this load's program was reported.
+    /// For proofs: whether this refusal of this load's program was reported. For a receiver that doesn't define
+    /// `reported`, it is always true.
     ghost reported: { Self → Act → Refusal → Type 0 } = { λ _ _ _. Unit {0} };
 
     /// Reports that the play begins to answer the next line of the script.

@@ -46,16 +46,16 @@ pub fn play_within<I: LineIn, O: LineOut, N: PlayNotices>(
         return Err(SessionFault::OutOfMemory);
     };
     let mut moment = 0;
-    let player = Player { notices };
-    answer_lines_within(alloc, input, output, &player, &mut moment, &mut site, left)
+    let player = Player { alloc, notices };
+    answer_lines_within(input, output, &player, &mut moment, &mut site, left)
 }
 
 /// Answers a script line by line, on a new site of this configuration. The moment (the time of an act) is 0 until a
-/// line sets it. At most 67,108,864 reads of one byte are made. Returns how many lines were answered, and the fault of
-/// the last line if that was too long (L1) or had no LF (L4).
+/// line sets it. At most 67,108,864 reads of one byte are made. Returns how many lines were answered. If the last line
+/// was too long (L1) or had no LF (L4), also returns this fault.
 ///
 /// The error is that a read or a write failed, that more reads would be needed, or that memory ran out. After an error,
-/// some of the first bytes of the answers may have been written.
+/// a beginning of the answers may have been written.
 pub fn play<I: LineIn, O: LineOut>(
     alloc: Global,
     config: Config,

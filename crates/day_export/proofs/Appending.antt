@@ -11,7 +11,8 @@ from-empty None b held bs e p = tt
 from-empty (Some xs) None held bs e p = p
 from-empty (Some xs) (Some ys) held bs e p = p ∙ ap (λ l. l ++ bs) (ap (λ h. xs ++ h) e ∙ append-nil xs)
 
--- If b is `a ++ header`, c is `b ++ rows`, and the returned writer contains c, then it contains `a ++ header ++ rows`.
+-- If b is `a ++ header`, c is `b ++ rows`, and the returned writer contains c, then the writer contains
+-- `a ++ header ++ rows`.
 pub whole : {W E : Type 0} (contents : W → Option (List ℕ)) (r : Result W E) (a b c : Option (List ℕ)) (header rows : List ℕ) → Appends a b header
     → Appends b c rows → IfOk r (λ out. Keeps c (contents out)) → IfOk r (λ out. Appends a (contents out) (header ++ rows))
 whole contents (Ok out) a b c header rows p q k = Appends-kept a c (contents out) (header ++ rows) (Appends-trans a b c header rows p q) k

@@ -26,7 +26,8 @@ use Rattle.day_export.specs.Laws.{HasNoDelivery, HasValidOpeningPoints, cell_at,
 use Rattle.day_export.proofs.Growing.{Grows}
 use Rattle.day_export.proofs.Changing.{Changes, act-changes, at-other, at-same, is-numbered}
 
--- ---- what is found in a list
+-- ---- These lemmas show that an unpaid transaction is only found at a point that exists, and that what holds for all
+-- points holds for the point with a given number.
 
 pub nothing-there : {P : Type 0} → ◌≡◌ {A = Bool} false true → P
 nothing-there h = absurd (cc)
@@ -57,7 +58,8 @@ if-all P points k p false all h = no-point p h
 all-at : (P : PointState → Type 0) (points : List PointState) (n : ℕ) (p : PointState) → All P points → at_number points n ≡ Some p → P p
 all-at P points n p all h = if-all P points (n - 1) p (nat_le 1 n) all h
 
--- ---- numbers that the points gave out
+-- ---- These lemmas show: if `HasValidOpeningPoints` holds, then `GivenOut` is true for the points with which the day
+-- begins.
 
 -- No unpaid transaction has a number greater than the last number that its point gave out.
 abbrev pub GivenOut : List PointState → Type 0
@@ -91,7 +93,8 @@ opened-points config (Some o) is fits = λ n x p at found.
     let whole : IsPointState p = all-at IsPointState o.points n p (fits o is) (ap (λ ps. at_number ps n) (sym same) ∙ at) in
     found-within x p.last p.unpaid whole.unpaid found
 
--- ---- lists that have no delivery for transaction x of point n
+-- ---- Let a list have no delivery for transaction x of point n. These lemmas show that it still has none if deliveries
+-- are removed from it, or if a delivery for another transaction is added to it.
 
 none-head : (b : Bool) (u : Delivery) (o : Option Delivery) → (if b then Some u else o) ≡ None → (b ≡ false) × (o ≡ None)
 none-head true u o h = absurd (let e : ◌≡◌ {A = Option Delivery} (Some u) None = h in cc)
@@ -146,7 +149,8 @@ none-between prices number m (Some p) None n x apart = refl
 none-between prices number m (Some p) (Some q) n x apart =
     none-at number m _ p q n x (q.last == p.last + 1) refl (λ same grew. apart p q refl refl same grew)
 
--- ---- the state of a day
+-- ---- `Holds` is an invariant of the day's state. These lemmas show that it is true when the day begins, and that an
+-- entry keeps it true, if `GivenOut` is true for the points when the day began.
 
 -- `first` are the points when the day began, and s is the state now. The record says:
 -- - The last transaction number of each point is at least what it was when the day began.
@@ -207,7 +211,8 @@ holds-more first s e given holds = record {
       (none-uncleared s.unpaid (sale_of s.points e) e.act n x (holds.none n x old)) (none-ended first s e n x given holds old);
 }
 
--- ---- the rows of sales
+-- ---- These lemmas show `HasNoDeliveryIfCarriedIn` for each row of a sale. `GivenOut` must be true for the points when
+-- the day began, and `Holds` for the state before the entries that the rows are made from.
 
 -- If a sale's transaction was unpaid when the day began, then the sale's row has no delivery. The first argument is the
 -- list of the points when the day began.

@@ -18,7 +18,7 @@ use Rattle.day_report.proofs.Walking.{changed-at, changed-nowhere}
 use Rattle.day_export.specs.DayState.{point_of_request, point_of_act}
 use Rattle.day_export.proofs.Growing.{Grows, command-grows, event-grows}
 
--- The list `later` is `points` with point m changed from p to q. The change adds at most one transaction.
+-- The list `later` is `points` with point m changed from p to q. The change adds at most one unpaid transaction.
 pub record Became (m : ℕ) (points later : List PointState) : Type 0 where
   pub p : PointState
   pub q : PointState
@@ -92,7 +92,8 @@ act-changes points (act.Till till q) (reply.Refused n v) = inl refl
 act-changes points (act.Dispenser n event) r = changes points n (λ p. after_event p event) (λ p. event-grows p event) (at_number points n) refl
 act-changes points (act.Load slot mask layout bytes) r = inl refl
 
--- ---- a point by its number, after one point was replaced
+-- ---- Let point m be replaced by q. These lemmas show that q is then found at number m, and that any other number has
+-- the same point as before.
 
 get-set-other : (points : List PointState) (i k : ℕ) (q : PointState) → (i ≡ k → ⊥) → slice_get (slice_set points i q) k ≡ slice_get points k
 get-set-other [] i k q other = refl

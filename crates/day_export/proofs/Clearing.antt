@@ -28,7 +28,7 @@ use Rattle.day_export.specs.DayState.{transaction_cleared}
 use Rattle.day_export.proofs.Growing.{gone}
 use Rattle.day_export.proofs.Changing.{at-same}
 
--- ---- the act of a sale
+-- ---- These lemmas show that only a till's request Clear that was answered `done` makes a sale.
 
 -- The sale that an entry makes with this act and this reply; None if it makes none. The first argument is the list of
 -- the points before the entry.
@@ -84,7 +84,7 @@ made-clears points e a (reply.Order o) sale h = absurd (cc)
 made-clears points e a (reply.Point b c d f g i j) sale h = absurd (cc)
 made-clears points e a (reply.Refused n v) sale h = absurd (cc)
 
--- ---- the point after a clearing
+-- ---- These lemmas show: if a till's request Clear is answered `done`, then the transaction is no longer unpaid.
 
 -- If point p accepts the clearing of transaction y and becomes q, then the unpaid transactions of q are those of p
 -- without y.

@@ -36,7 +36,8 @@ use Rattle.day_export.proofs.Prices.{effect-prices}
 use Rattle.day_export.proofs.Clearing.{Cleared, effect-clears, made-clears}
 use Rattle.day_export.proofs.CarriedIn.{carried-first, carried-told, nothing-there, opened-points, some-same, unpaid-there}
 
--- ---- lists that have the delivery of transaction x of point n
+-- ---- `IsThere us n x` says that the list `us` has a delivery of transaction x of point n. These lemmas show that this
+-- stays true if deliveries are added to the list, or if the deliveries of another transaction are removed.
 
 abbrev IsThere : List Delivery → ℕ → ℕ → Type 0
 IsThere us n x = IsSome (delivery_of us n x)
@@ -81,7 +82,8 @@ there-without [] m y n x other h = nothing-there h
 there-without (u ∷ us) m y n x other h =
     there-kept n x u (without us m y) (delivery_of us n x) (is_delivery_of m y u) (not-both u m y n x other) h (there-without us m y n x other)
 
--- ---- the deliveries after one more entry
+-- ---- `Kept` is an invariant of the points and the deliveries in the day's state. These lemmas show that an entry
+-- keeps it true, if the transaction of any sale that the entry makes is no longer unpaid after the entry (`Takes`).
 
 -- The transaction with this point and this number wasn't unpaid when the day began. The first argument is the list of
 -- the points when the day began.
@@ -120,8 +122,9 @@ ended-there points prices e p q x at later grew is =
     subst (λ a. IsThere (option_to_list (ended_between prices e.number m a (at_number (with_act points e.act e.reply) m))) m x) (sym at)
     (subst (λ b. IsThere (option_to_list (ended_between prices e.number m (Some p) b)) m x) (sym later) (ended-core prices e.number m x p q grew is))
 
--- If transaction x, at the point that the entry names, is unpaid after the entry, but wasn't unpaid when the day began,
--- then its delivery was in `s.unpaid` before the entry, or the entry ended it.
+-- Let `Kept` be true before the entry, and let the entry change the point that it names from p to q, as `Grows` allows.
+-- If transaction x of this point is unpaid after the entry, but wasn't unpaid when the day began, then its delivery was
+-- in `s.unpaid` before the entry, or the entry ended it.
 grown-there : (first : List PointState) (s : DayStateValue) (e : Entry) (x : ℕ) (p q : PointState) (o : Option Transaction) → Kept first s.points s.unpaid
     → IsOfDay first (point_of_act e.act) x
     → at_number s.points (point_of_act e.act) ≡ Some p → at_number (with_act s.points e.act e.reply) (point_of_act e.act) ≡ Some q → Grows p q
@@ -158,8 +161,8 @@ old-or-new first s e n x q kept new (inr b) at found =
           inl (kept n x q before found new)
     ]
 
--- If transaction x of point n is still unpaid after the entry, then the entry doesn't remove its delivery from
--- `s.unpaid`.
+-- Let `Takes` be true for the entry. If transaction x of point n is unpaid after the entry, then the entry doesn't
+-- remove its delivery from `s.unpaid`.
 survives : (s : DayStateValue) (e : Entry) (n x : ℕ) (q : PointState) (o : Option Sale) → Takes s e → sale_of s.points e ≡ o
     → at_number (with_act s.points e.act e.reply) n ≡ Some q → IsSome (find_number x q.unpaid) → IsThere s.unpaid n x
     → IsThere (uncleared s.unpaid o e.act) n x
@@ -185,7 +188,8 @@ kept-more first s e kept takes = λ n x q at found new.
       | inr now ↦ there-behind left ended n x now
     ]
 
--- ---- the row of a sale, and the sale's transaction, which is no longer unpaid after the sale
+-- ---- These lemmas show `HasDeliveryIfOfDay` for the row of a sale, if `Kept` is true. They also show `Takes` for an
+-- entry that the site makes, if the day's state has the same points as the site's state before the entry (`Fits`).
 
 abbrev row-made : (s : DayStateValue) (e : Entry) (o : Option Sale) → Option (List Cell)
 row-made s e o =
@@ -239,7 +243,9 @@ takes config past b s e fits = λ sale q is later.
     (λ j. at_number (with_act (sym fits.points j) (sym cleared.act_is j) (sym cleared.reply_is j)) sale.point) ∙ later in
     effect-clears config past b sale.till e.moment sale.point x at.0 q done before after
 
--- ---- induction over a history, newest entry first
+-- ---- These lemmas show by induction, for any legal history (`Comes`): the points and the prices in the day's state
+-- are the site's, `Kept` is true, and `HasDeliveryIfOfDay` is true for the row of each sale. `past` is the history,
+-- newest entry first.
 
 record Comes (config : ConfigValue) (past : List Entry) (b : SiteState) : Type 0 where
   points : (state_after_entries (state_at_start config) (reverse past)).points ≡ b.points

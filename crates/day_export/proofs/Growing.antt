@@ -18,7 +18,9 @@ use Rattle.fuelling_point.specs.declared.kinds.Transaction.{Transaction}
 use Rattle.site_core.specs.Decide.{after_command}
 use Rattle.day_report.specs.Walk.{after_event}
 
--- ---- a transaction in a list, by its number
+-- ---- Let a list have no transaction x. These lemmas show that it still has none if a transaction with another number
+-- is added, if transactions are removed, or if the holder of a transaction changes. `gone` shows that a list has no
+-- transaction y after y was removed from it.
 
 -- If a transaction isn't found in a list, then it isn't the first one, and it isn't found in the rest.
 none-first : (b : Bool) (t : Transaction) (rest : Option Transaction) → (if b then Some t else rest) ≡ None → (b ≡ false) × (rest ≡ None)
@@ -66,7 +68,8 @@ pub gone : (y : ℕ) (ts : List Transaction) → find_number y (without y ts) �
 gone y [] = refl
 gone y (t ∷ ts) = gone-first (t.number == y) t y (without y ts) refl (gone y ts)
 
--- ---- the transactions that a point adds
+-- ---- These lemmas show that an event or a command gives out at most one transaction number, and that any new unpaid
+-- transaction has this number (`Grows`).
 
 -- A point changed from the first state to the second, and gave out no transaction number. Each unpaid transaction
 -- of the second state has the number of an unpaid one of the first.

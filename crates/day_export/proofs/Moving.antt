@@ -1,4 +1,5 @@
--- The state after an entry consists of the points, the prices and the deliveries after this entry.
+-- If the points, the prices and the unpaid deliveries were each computed for an entry as `state_after_entry` says, then
+-- they make up the state after this entry.
 use Rattle.std.proofs.Common.{◌≡◌, ℕ, List, ◌++◌, length, take, drop, arith, Option, ap, ◌∙◌}
 use Rattle.std.proofs.lemmas.Grind.{common_steps}
 use Rattle.std.specs.Prelude.{option_to_list}

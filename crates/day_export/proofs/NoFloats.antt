@@ -28,7 +28,7 @@ cell-plain (cell.Number n) = refl
 cell-plain (cell.Word w) = refl
 cell-plain cell.Nothing = refl
 
--- If an object has no float, and a member without a float is put into it, then it still has none.
+-- If an object has no float, and a member without a float is put into the object, then the result has no float.
 put-plain : (k : List ℕ) (d : Data) (ms : Members) → has_float d ≡ false → members_have_float ms ≡ false → members_have_float (put k d ms) ≡ false
 put-plain k d no_members p q = or-false (has_float d) false p refl
 put-plain k d (member l e ms) p q =

@@ -39,7 +39,7 @@ use Rattle.day_export.specs.DayState.{prices_after, with_price}
 abbrev Same : SiteState → Effect → Type 0
 Same s e = e.after.prices ≡ s.prices
 
--- ---- requests that change no price
+-- ---- These lemmas show that a command to a point, or a request for a release or a preset, changes no price.
 
 command-same : (s : SiteState) (n : ℕ) (a : StepResult (Option ℕ)) → Same s (command_effect s n a)
 command-same s n (Err f) = refl
@@ -174,7 +174,7 @@ price-tells config past s till moment product price (Err r) asks =
     (subst (λ y. s.prices ≡ prices_after s.prices (act.Till till (request.Price product price)) y) (sym asks.2) refl)
 price-tells config past s till moment product price (Ok q) asks = version-tells config past s till moment q product price (in_force config q.slot past) refl asks
 
--- ---- the prices after any act
+-- ---- `Tells` holds for any act.
 
 asked-tells : (config : ConfigValue) (past : List Entry) (s : SiteState) (till moment : ℕ) (r : Request)
     → Tells s (act.Till till r) (asked config past s till moment r)

@@ -18,7 +18,7 @@ not-true : (x : Bool) → (x ≡ true → ⊥) → x ≡ false
 not-true true n = absurd (n refl)
 not-true false n = refl
 
--- ---- the text of a field
+-- ---- These lemmas show that a field has the same text with the settings `csv_writer` as with the default settings.
 
 escaped-same : (x : List ℕ) → escaped csv_writer x ≡ escaped default_writer x
 unfolding escaped
@@ -36,7 +36,7 @@ unfolding fields_text
 fields-same [] = refl
 fields-same (x ∷ rest) = rw (field-same x, fields-same rest) refl
 
--- ---- a record of at least two fields
+-- ---- These lemmas show that the reader reads back a record of at least two fields.
 
 -- At a comma the reader ends the field, and starts the next one.
 end-field : (fields : List (List ℕ)) (x u : List ℕ)

@@ -48,7 +48,7 @@ events-told : (s : DayStateValue) (entries : List Entry) → rows_from rows.Even
 events-told s [] = refl
 events-told s (e ∷ entries) = ap (λ l. event_row e ∷ l) (events-told (state_after_entry s e) entries)
 
--- ---- the length of a row
+-- ---- These lemmas show that each row has as many cells as there are columns, and at least two.
 
 -- The row has as many cells as there are columns, and at least two.
 abbrev IsFull : Rows → List Cell → Type 0

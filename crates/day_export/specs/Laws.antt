@@ -57,7 +57,7 @@ pub record RowsShowTheDay (config : ConfigValue) (history : List Entry) : Type 0
 abbrev pub RowsShowEachDay : Type 0
 RowsShowEachDay = (config : ConfigValue) (history : List Entry) → RowsShowTheDay config history
 
--- ---- the law that the rows of any legal history agree with the site's state
+-- ---- These definitions state the law that the rows of any legal history agree with the site's state.
 
 abbrev pub IsNumber : Cell → Type 0
 IsNumber (cell.Number n) = Unit {0}
@@ -106,7 +106,7 @@ abbrev pub RowsAgreeWithEachSite : Type 0
 RowsAgreeWithEachSite =
     (config : ConfigValue) (history : List Entry) (state : SiteState) → LegalHistory config history state → RowsAgreeWithTheSite config history state
 
--- ---- the law that the row of a decision shows the context that the rule ran on
+-- ---- These definitions state the law that the row of a decision shows the context that the rule ran on.
 
 -- The value of a field is a number that its 4 or 8 bytes can hold.
 abbrev pub FitsField : Field → Type 0

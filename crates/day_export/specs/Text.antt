@@ -47,8 +47,8 @@ unfoldable pub header_bytes : Rows → Format → List ℕ
 header_bytes which format.Csv = row_text csv_writer (columns which)
 header_bytes which format.Json = []
 
--- The header, if the format has one, and then the text of all rows of this kind. The history is that of a site with
--- this configuration.
+-- The header, if the format has one, and then the text of all rows of this kind for this history, on a site with this
+-- configuration.
 abbrev pub rows_text : Rows → Format → ConfigValue → List Entry → List ℕ
 rows_text which form config history = header_bytes which form ++ concat (map (row_bytes which form) (rows_of which config history))
 

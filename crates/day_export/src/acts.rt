@@ -1,4 +1,4 @@
-//! The cells of an act: of a till's request, of a dispenser's event, or of a load of a program.
+//! Makes the cells of a row that describe an act: a till's request, a dispenser's event, or a load of a program.
 
 ghost use Rattle.std.specs.Prelude.{◌≡◌};
 ghost use Rattle.day_export.specs.Acts.{act_cells, point_request_cells, transaction_request_cells, event_cells, layout_number, point_event_cells, request_cells};
@@ -127,7 +127,8 @@ fn request_cells(till: u32, request: Request) -> ActCells
     }
 }
 
-/// Returns the cells of an event of the dispenser at point `n`, if the event has no further values.
+/// Returns the cells of an event of the dispenser at point `n`, for an event that has no further values. Only the cells
+/// of the sender, the verb and the point are filled.
 fn point_event_cells(n: u32, verb: Word) -> ActCells
     ensures { result ≡ point_event_cells n verb }
 {

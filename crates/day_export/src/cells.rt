@@ -19,7 +19,7 @@ pub enum Rows {
 pub enum Format {
     /// CSV by RFC 4180, with the names of the columns as its first record.
     Csv,
-    /// For each row a line with a JSON object.
+    /// Lines of JSON: each row is a JSON object on a line of its own.
     Json,
 }
 

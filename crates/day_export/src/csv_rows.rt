@@ -20,7 +20,7 @@ use std::io::Write;
 #[derive(Drop)]
 pub(crate) struct CsvRows<W: Write + Drop> {
     writer: Writer<W>,
-    /// The record that is filled anew for each row. It is kept so that all rows use the same memory.
+    /// The record that is filled anew for each row, so that all rows use the same memory.
     row: ByteRecord,
 }
 

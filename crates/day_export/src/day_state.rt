@@ -24,7 +24,7 @@ use till_request::{Act, Reply, Request};
 ///
 /// - `point` and `transaction`: its point, and the number of the transaction that it became
 /// - `number`: the number of the entry that ended it
-/// - `product`: the product's number, which is that of the lifted nozzle, since nozzle n carries product n
+/// - `product`: the product's number, which is the number of the lifted nozzle: nozzle n carries product n
 /// - `price`: the product's price before that entry, in thousandths of the currency per litre
 #[derive(Clone, Copy)]
 pub(crate) struct Delivery {
@@ -247,8 +247,8 @@ impl DayState {
     }
 
     /// Applies an entry to the state. The last transaction number of each point must be below 2^32 - 1. The error is
-    /// that memory ran out; there is none if the entry makes no sale and ends no delivery. After an error, the entry
-    /// was perhaps applied only in part.
+    /// that memory ran out. If the entry makes no sale and ends no delivery, there is no error. After an error, the
+    /// entry was perhaps applied only in part.
     #[tactic(auto, unfolding(crate::specs::DayState::state_after_entry))]
     pub(crate) fn apply_entry(&mut self, alloc: Global, entry: &Entry) -> Result<(), AllocError>
         requires { All (λ (p : PointState). p.last < u32.MAX) self.old.points.items }

@@ -43,8 +43,8 @@ impl From<csv::Error> for RowsFault {
     fn from(error: csv::Error) -> Self {
         match error.into_kind() {
             csv::ErrorKind::Io(error) => RowsFault::Io(error),
-            // Apart from I/O errors, the CSV writer can only run out of memory here: its records all have the same
-            // length.
+            // Here any other error means that memory ran out. The CSV writer would also reject a record that has
+            // another number of fields than the first, but all records have the same number.
             _ => RowsFault::OutOfMemory,
         }
     }

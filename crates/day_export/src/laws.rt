@@ -24,11 +24,11 @@ pub fn law_of_contexts()
 
 /// Does nothing. Its contract is a law about the rows after a legal history:
 ///
-/// - The points and the prices from which rows are made are those of the site.
+/// - The points and the prices from which rows are made are the site's.
 /// - The row of a sale has numbers in the columns `ended`, `product` and `price`, unless the sale's transaction was
 ///   unpaid when the day began.
-/// - If it was, these three cells are empty. This is claimed only if the configuration has no opening, or an opening
-///   whose points are all valid (`IsPointState`).
+/// - If the transaction was unpaid when the day began, these three cells are empty. For this, the configuration must
+///   have no opening, or an opening whose points are all valid (`IsPointState`).
 pub fn law_of_sites()
     ensures { RowsAgreeWithEachSite }
 {}

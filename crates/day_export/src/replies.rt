@@ -1,4 +1,4 @@
-//! The cells of an entry's reply.
+//! Makes the cells of a row that describe an entry's reply.
 
 ghost use Rattle.std.specs.Prelude.{◌≡◌};
 ghost use Rattle.day_export.specs.Acts.{word_reply_cells, order_cells, order_word_cells, reply_cells};

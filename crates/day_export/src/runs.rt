@@ -1,4 +1,4 @@
-//! The cells of the run of a rule.
+//! Makes the cells of a row that describe the run of a rule, and those that show the context that the rule ran on.
 
 ghost use Rattle.std.specs.Prelude.{◌≡◌, ◌≤◌, ◌+◌};
 ghost use Rattle.day_export.specs.Acts.{field_cell, number_at, run_cells};

@@ -62,7 +62,7 @@ fn put_row<T: RowWriter>(
 }
 
 /// Writes all rows of the kind `rows` for these entries, on a site with this configuration. `is_ready` must hold for
-/// `to`, and still holds if there is no error. There must be at most `ENTRIES` entries. The error is that memory ran
+/// `to`, and still holds if there is no error. There must be at most 1,048,576 entries. The error is that memory ran
 /// out, or an error of `write_row`. After an error, some of the rows were perhaps written.
 fn put_rows<T: RowWriter>(
     alloc: Global,

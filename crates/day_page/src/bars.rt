@@ -162,8 +162,8 @@ fn add_hour(html: &mut TextBuilder, hour: usize, height: usize) {
     html.add("\n");
 }
 
-/// The greatest number of columns that the picture of decisions by version can have. If there are this many versions or
-/// more, neighbouring versions share a column.
+/// The greatest number of columns that the picture of decisions by version can have. With n versions, a column shows
+/// n / 1,000 + 1 neighbouring versions (the quotient is rounded down). The last column can show fewer.
 const COLUMNS: usize = 1000;
 
 /// Adds the picture of decisions by version, in the order of the versions in `totals`. Each column has two parts,
@@ -251,8 +251,8 @@ fn column_at(place: usize, columns: usize) -> (usize, usize) {
     (left, width)
 }
 
-/// Adds the column at `place`, counted from 0. There are `columns` columns in all. `low` is the height of its lower
-/// part (granted), `high` that of its upper part (denied).
+/// Adds the column at `place`, counted from 0. There are `columns` columns in all. `low` is the height of the column's
+/// lower part (granted), and `high` the height of its upper part (denied).
 fn add_column(html: &mut TextBuilder, place: usize, columns: usize, low: usize, high: usize) {
     let (left, width) = column_at(place, columns);
     let top = 206usize.saturating_sub(low);

@@ -1,4 +1,4 @@
-//! A builder of texts: of a page in HTML, and of metrics.
+//! Builds a text piece by piece, such as a page in HTML or a text of metrics.
 use crate::names::refusal_name;
 use crate::texts::{Date, Text, date_of};
 use html_text::Escaped;
@@ -141,7 +141,6 @@ impl TextBuilder {
         self.note(written);
     }
 
-    /// Adds a name, then a number.
     fn named(&mut self, name: &str, number: u64) {
         self.add(name);
         self.number(number);

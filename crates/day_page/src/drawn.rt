@@ -24,8 +24,8 @@ pub(crate) fn add_axis(html: &mut TextBuilder, axis: Axis, top: usize) {
     }
 }
 
-/// Adds the label that stands `quarters` quarters along an axis, from 0 (the axis's start) to 4 (its end). The label's
-/// baseline is `foot` below the upper edge of the picture.
+/// Adds a label to an axis. `quarters` says where along the axis the label is, in quarters of the axis: 0 is its start,
+/// and 4 its end. The label's baseline is `foot` below the upper edge of the picture.
 fn add_place(html: &mut TextBuilder, axis: Axis, quarters: usize, foot: usize) {
     let x = quarters.min(4) * (WIDTH / 4) + LEFT;
     let anchor = match quarters {
@@ -44,9 +44,10 @@ fn add_place(html: &mut TextBuilder, axis: Axis, quarters: usize, foot: usize) {
     );
 }
 
-/// Returns the label for the place `quarters` quarters along an axis, from 0 (the axis's start) to 4 (its end). The
-/// label is a time of day, or the number of an entry: the one that is drawn there, or the last one at the axis's end.
-/// If there is no entry, this number is 1.
+/// Returns the label for a place along an axis. `quarters` is the place in quarters of the axis: 0 is its start, and 4
+/// its end. If the axis is time, the label is a time of day. If the axis is the entries, the label is the number of the
+/// entry that is drawn at this place; at the axis's end, it is the number of the last entry. If there is no entry, the
+/// number is 1.
 fn name_at(axis: Axis, quarters: usize) -> Text {
     match axis {
         Axis::Entries(count) => {
@@ -54,8 +55,10 @@ fn name_at(axis: Axis, quarters: usize) -> Text {
             Text::Entry(before.saturating_add(1).min(count.max(1)) as u64)
         }
         Axis::Time(first, last) => {
-            let quarter = last.saturating_sub(first) / 4;
-            Text::Clock(first.saturating_add(quarter.saturating_mul(quarters as u64)))
+            let (seconds, quarters) = (last.saturating_sub(first), quarters as u64);
+            let whole = (seconds / 4).saturating_mul(quarters);
+            let rest = (seconds % 4).saturating_mul(quarters) / 4;
+            Text::Clock(first.saturating_add(whole).saturating_add(rest))
         }
     }
 }

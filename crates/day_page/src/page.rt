@@ -100,7 +100,6 @@ fn add_day(html: &mut TextBuilder, day: &Day) {
     html.add("</main></body></html>\n");
 }
 
-/// The closing tag of a section.
 const SECTION_END: &str = "</section>\n";
 
 /// Adds the number of entries, the title and the main totals. If `axis` is time, also adds the moments at which the

@@ -133,8 +133,8 @@ fn add_step(
 }
 
 /// Adds the line of a product: level at each price, with a step where a new price was granted. `opening` is the price
-/// before the first entry, 0 for none. If it is 0, the line begins at the product's first change, or nothing is added
-/// if there is none.
+/// before the first entry, 0 for none. If `opening` is 0, the line begins at the product's first change, and nothing is
+/// added if the product has no change.
 fn add_line(
     html: &mut TextBuilder,
     product: u32,

@@ -215,7 +215,7 @@ pub(crate) fn add_versions(html: &mut TextBuilder, totals: &Totals) {
 
 /// Adds the rows of one version of a rule: a row for each till that had a request decided by this version. `version` is
 /// the version's number, and `at` its place, counted from 0, in the lists of each of `tills`. `rows` is how many rows
-/// there are so far, and the new number is returned. Rows beyond `ROWS` are counted, but left out.
+/// there were before, and the result is how many there are now. Rows beyond `ROWS` are counted, but left out.
 fn add_tills(
     html: &mut TextBuilder,
     tills: &[Outcomes],
@@ -244,7 +244,7 @@ fn add_tills(
 const BY_VERSION_AND_TILL: &str = head!("versions-by-till"; "Version", "Till", "Granted", "Denied");
 
 /// Adds the table of decisions by version and till: how many requests of each till a version granted and denied. If
-/// there are more than `ROWS` rows, it has the first `ROWS`, and a note below it says how many are left out.
+/// there are more than `ROWS` rows, only the first `ROWS` are shown, and a note below says how many are left out.
 pub(crate) fn add_versions_by_till(html: &mut TextBuilder, totals: &Totals) {
     html.add(BY_VERSION_AND_TILL);
     let mut rows = 0;
@@ -306,8 +306,8 @@ const PRICES: &str = head!(
     "Entry", "Moment", "Product", "New price", "Asked by till", "Granted by version"
 );
 
-/// Adds the table of the changed prices. If there are more than `ROWS`, it has the last `ROWS` of them, and a note
-/// below it says how many are left out.
+/// Adds the table of the price changes. If there are more than `ROWS` changes, only the last `ROWS` are shown, and a
+/// note below says how many are left out.
 pub(crate) fn add_prices(html: &mut TextBuilder, changes: &[PriceChange]) {
     html.add(PRICES);
     let left = changes.len().saturating_sub(ROWS);

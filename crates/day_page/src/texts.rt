@@ -71,8 +71,8 @@ pub(crate) fn date_of(moment: u64) -> Date {
     }
 }
 
-/// Returns `value` scaled so that `most` becomes `length`, rounded down. The result is at most `length`, and 0 if
-/// `most` is 0.
+/// Returns `value * length / most`, rounded down, but at most `length`. Returns 0 if `most` is 0. A product above
+/// 2^128 - 1 counts as 2^128 - 1.
 pub(crate) fn scaled(value: u128, most: u128, length: usize) -> usize
     ensures { result ≤ length }
 {

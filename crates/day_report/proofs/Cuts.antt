@@ -1,5 +1,5 @@
--- The picture of a day shows the states of the points in equal steps of an axis: time or the entries. This is the
--- invariant of the loop that finds the places in the history where the steps end.
+-- The invariant of the loop that divides a history into the steps of its picture. The steps are equal parts of an axis,
+-- which is time or the entries. The loop finds the place in the history where each step ends.
 use Rattle.std.proofs.Common.{◌≡◌, ℕ, ◌<◌, ◌≤◌, List, length, drop, get_or}
 use Rattle.decision_journal.specs.declared.entries.Entry.{Entry}
 use Rattle.day_report.specs.declared.steps.Axis.{Axis}

@@ -1,8 +1,7 @@
--- What one more entry, slot or point changes or adds:
--- - An entry can change the points and the last moment, and can add a sale or a load.
--- - A slot can add a rule to those that the opening carries in from the day before.
--- - A point adds its unpaid transactions.
--- If the list of all sales, loads, rules or unpaid transactions is empty, nothing was added to it at any place.
+-- What one more entry, slot or point changes or adds. An entry can change the points and the last moment, and can add a
+-- sale or a load. A slot can add a rule that is carried in from the day before. A point adds its unpaid transactions.
+-- If all entries together make no sale, then no single entry makes one. The same holds for the loads in entries, the
+-- rules in slots, and the unpaid transactions of points.
 use Rattle.std.proofs.Common.{◌≡◌, ℕ, ◌+◌, ◌<◌, List, [], ◌∷◌, ◌++◌, length, map, take, drop, append_assoc, arith, Option, Some, None, refl, ap, ◌∙◌, sym, get_or}
 use Rattle.std.specs.Prelude.{fold, option_to_list}
 use Rattle.std.specs.List.{cons_option}
@@ -70,7 +69,7 @@ moment-more moment entries i entry h is =
     ap (λ es. fold moment_after moment es) (take_more entries i entry h ∙ ap (λ e. take i entries ++ e ∷ []) (sym is))
     ∙ fold_push moment_after moment (take i entries) entry
 
--- ---- the rules that an opening carries in from the day before
+-- ---- These lemmas say which rule one more slot carries in from the day before.
 
 carried-push : (slot : ℕ) (rules : List (Option Version)) (rule : Option Version) → carried_from slot (rules ++ rule ∷ []) ≡ carried_from slot rules
     ++ option_to_list (carried_at (slot + length rules) rule)
@@ -81,8 +80,8 @@ carried-push slot (r ∷ rules) rule =
     (λ n. carried_from (slot + 1) rules ++ option_to_list (carried_at n rule)) same)
     ∙ cons-append (carried_at slot r) (carried_from (slot + 1) rules) (option_to_list (carried_at (slot + length (r ∷ rules)) rule))
 
--- The rules in the first i + 1 slots are the rules in the first i slots, followed by the rule in slot i, if there is
--- one.
+-- The rules in the first i + 1 slots are the rules in the first i slots, followed by the rule in slot i. If slot i is
+-- empty, nothing follows.
 pub carried-more : (rules : List (Option Version)) (i : ℕ) (rule : Option Version) → i < length rules → rule ≡ get_or rules i rule
     → carried_from 0 (take (i + 1) rules) ≡ carried_from 0 (take i rules) ++ option_to_list (carried_at i rule)
 carried-more rules i rule h is =
@@ -136,12 +135,12 @@ same-points : (points : List (ℕ × ℕ)) → replicate (length points) fresh_p
 same-points [] = refl
 same-points (p ∷ points) = ap (λ xs. fresh_point ∷ xs) (same-points points)
 
--- If the lists `pairs` and `expected` are equal, then a list of `length pairs` closed points (`fresh_point`) is
--- `expected` with each item replaced by a closed point.
+-- Repeating a closed point once for each pair gives the same list as replacing each pair by a closed point.
 pub closed-is : (pairs expected : List (ℕ × ℕ)) → pairs ≡ expected → replicate (length pairs) fresh_point ≡ map (λ (_ : ℕ × ℕ). fresh_point) expected
 closed-is pairs expected same = same-points pairs ∙ ap (map (λ (_ : ℕ × ℕ). fresh_point)) same
 
--- ---- lists that are empty
+-- ---- These lemmas show: if the list of all sales, loads, rules or unpaid transactions is empty, then no single entry,
+-- slot or point adds an item to it.
 
 -- If putting an optional item before a list gives the empty list, then the item is None.
 none-before : {A : Type 0} (o : Option A) (xs : List A) → cons_option o xs ≡ [] → o ≡ None
@@ -234,7 +233,8 @@ unpaid-append n (q ∷ points) more =
     ∙ ap (λ m. unpaid_from (n + 1) points ++ unpaid_from m more) same)
     ∙ sym (append_assoc (map (unpaid_transaction n) q.unpaid) (unpaid_from (n + 1) points) (unpaid_from (n + length (q ∷ points)) more))
 
--- If no point has an unpaid transaction, then `first` and `second`, those of the point at place i, are both None.
+-- If no point has an unpaid transaction, then `first` and `second`, the unpaid transactions of the point at place i,
+-- are both None.
 pub unpaid-neither : (points : List PointState) (i : ℕ) (p : PointState) (first second : Option Transaction) → i < length points → p ≡ get_or points i p
     → option_to_list first ++ option_to_list second ≡ p.unpaid
     → unpaid_of points ≡ []

@@ -1,4 +1,6 @@
--- A loop over the steps of a picture finds what each step shows.
+-- A picture divides time, or the entries of a history, into steps, and each step shows one state of each point. The
+-- loop over the steps finds the states that the picture shows: first the states of all points in step 0, then those in
+-- step 1, and so on.
 use Rattle.std.proofs.Common.{◌≡◌, ℕ, ◌+◌, ◌-◌, ◌<◌, ◌≤◌, List, [], ◌∷◌, ◌++◌, length, take, drop, append_assoc, arith, Option, Some, None, refl, ap, ◌∙◌, sym, subst, get_or}
 use Rattle.std.specs.Prelude.{nat_lt, if◌then◌else◌}
 use Rattle.std.proofs.Math.Seq.{take-append-add}
@@ -15,7 +17,7 @@ use Rattle.day_report.specs.Following.{HaveNumbersUpTo}
 use Rattle.day_report.specs.Picture.{AreStepEnds, Shows, cut_from, entries_between, is_behind, point_changed_by_act, step_at, step_shows, steps_along, steps_show, with_point}
 use Rattle.day_report.specs.Picture.{with_points}
 
--- ---- These lemmas say what one more entry changes in what a step shows.
+-- ---- These lemmas say how one more entry changes the states that a step shows.
 
 shows-push : (states : List State) (points : List PointState) (entries : List Entry) (entry : Entry)
     → with_points states points (entries ++ entry ∷ [])
@@ -24,7 +26,9 @@ shows-push states points [] entry = refl
 shows-push states points (e ∷ entries) entry =
     shows-push (with_point states (with_entry points e) (point_changed_by_act e.act)) (with_entry points e) entries entry
 
--- What a step shows after the first i + 1 entries is what it shows after the first i, changed by the entry at place i.
+-- A step is a part of a picture's axis, and shows one state of each point. Before the entries it shows `states`. The
+-- entry at place i changes what it shows as `with_point` does: for the point that the entry can change, the state after
+-- the entry replaces the shown one if its `state_number` is greater.
 pub shows-more : (states : List State) (points : List PointState) (entries : List Entry) (i : ℕ) (entry : Entry) → i < length entries
     → entry ≡ get_or entries i entry
     → with_points states points (take (i + 1) entries)
@@ -33,7 +37,7 @@ shows-more states points entries i entry h is =
     ap (λ es. with_points states points es) (take_more entries i entry h ∙ ap (λ e. take i entries ++ e ∷ []) (sym is))
     ∙ shows-push states points (take i entries) entry
 
--- ---- where the steps end
+-- ---- These lemmas show that a step ends no earlier than any step before it, and no later than the history ends.
 
 module _ (axis : Axis) (steps : ℕ) where
   at_least : (k place : ℕ) (entries : List Entry) → place ≤ cut_from axis steps k place entries
@@ -48,9 +52,8 @@ module _ (axis : Axis) (steps : ℕ) where
       cond_both (is_behind k (step_at axis place e.moment steps)) place (cut_from axis steps k (place + 1) entries) (λ x. x ≤ place + length (e ∷ entries))
       (λ _. omega arith) (λ _. omega (arith, at_most k (place + 1) entries))
 
-  -- Let j ≤ k, x ≤ b and a ≤ b. The number for j is x if the step `s` comes after step j, or else a. The number for k
-  -- is x if `s` comes after step k, or else b. The number for j is at most the number for k, since a step after step k
-  -- is after step j too.
+  -- Let j be at most k. In a list of entries, let step j end at place a, and step k at place b. Let a and x be at most
+  -- b. If an entry of step `s`, at place x, is put before the list, then step j still ends no later than step k.
   behind_both : (s : Option ℕ) (j k : ℕ) → j ≤ k → (x a b : ℕ) → x ≤ b → a ≤ b → (if is_behind j s then x else a) ≤ (if is_behind k s then x else b)
   behind_both None j k le x a b low up = up
   behind_both (Some step) j k le x a b low up =
@@ -74,7 +77,8 @@ module _ (axis : Axis) (steps : ℕ) where
     pub cuts_ascend : (j k : ℕ) → j ≤ k → k < length step_ends → get_or step_ends j 0 ≤ get_or step_ends k 0
     cuts_ascend j k le lt = omega (arith, cut_is j (omega (arith, le, lt)), cut_is k lt, ascend j k le 0 entries)
 
--- ---- `Stands` says what holds in a loop over the steps. The lemmas show it at the start and after each step.
+-- ---- `Stands` is the invariant of the loop over the steps. These lemmas show that it holds at the start and after
+-- each step, and that the loop has found all states at the end.
 
 -- A loop over `step_ends` has come to step i, and has applied the first `done` entries:
 -- - `now` are the points after these entries. They have given out no transaction number over 4,290,000,000 + `done`:

@@ -58,7 +58,8 @@ use Rattle.day_report.specs.declared.counting.DecisionPart.TheVariants as decidi
 use Rattle.day_report.proofs.OneMore.{loads-push}
 use Rattle.day_report.proofs.SiteSales.{none-key, one-key, add-keys, no-keys}
 
--- ---- the six counts of one version's decisions: grants and denials of releases, of presets and of prices
+-- ---- A version has six counts of decisions: grants and denials of releases, of presets and of prices. These lemmas
+-- show that the six counts add up to the number of its decisions.
 
 one-of-six : (a : RequestKind) (g b : Bool) → (if (is_release a && g) && b then 1 else 0) + (if (is_release a && not g) && b then 1 else 0)
     + (if (is_preset a && g) && b then 1 else 0) + (if (is_preset a && not g) && b then 1 else 0) + (if (is_price a && g) && b then 1 else 0)
@@ -91,7 +92,8 @@ six v (d ∷ ds) =
     let all = sum_by-cons (λ (x : Decision). if x.version == v then 1 else 0) d ds in
     omega (arith, here, rest, a, b, e, f, g, h, all)
 
--- ---- how often a number is in a list
+-- ---- `times v ns` is how often the number v is in the list `ns`. These lemmas show that it is 0 if v differs from all
+-- numbers in the list or is greater than all, and 1 if v is the first number and differs from all others.
 
 abbrev times : ℕ → List ℕ → ℕ
 times v ns = sum_by (λ k. if v == k then 1 else 0) ns
@@ -116,7 +118,8 @@ above-none v m (n ∷ ns) h lt =
 first-once : (n : ℕ) (ns : List ℕ) → AllByRecursion (λ k. (n == k) ≡ false) ns → times n (n ∷ ns) ≡ 1
 first-once n ns h = sum_by-cons (λ k. if n == k then 1 else 0) n ns ∙ (λ i. (if eq-eqb n n refl i then 1 else 0) + apart-none n ns h i)
 
--- ---- the versions that an opening carries in from the day before
+-- ---- Let the configuration have no opening or a valid one. These lemmas show that the version numbers in the slots
+-- are distinct when the day begins, and at most the count of versions loaded before the day.
 
 -- If P holds for the number of each version in the slots, then it holds for the number of v, the version in `slot`.
 at-slot : (P : ℕ → Type 0) (rules : List (Option Version)) (slot : ℕ) (v : Version) → AllByRecursion P (rule_numbers rules)
@@ -193,9 +196,11 @@ lows config (Some o) good is =
     subst (λ ns. AllByRecursion (λ n. n ≤ versions_before config) ns) (sym numbers)
     (subst (λ m. AllByRecursion (λ n. n ≤ m) (rule_numbers o.rules)) (sym before) (low-numbers o.versions o.rules fits.rules))
 
--- ---- decisions by versions of the day
+-- ---- Let each decision be by a version of the day, and let no version carried in have a number over
+-- `versions_before`. These lemmas show that the decisions of all versions add up to the number of decisions.
 
--- The number v is that of a version that was carried in, or of one of the first n loads of the day.
+-- v is the number of a version of a day with n accepted loads. Either exactly one version that was carried in has this
+-- number, or one of the n loads gave this number to its version.
 abbrev IsVersion : ConfigValue → ℕ → ℕ → Type 0
 IsVersion config n v =
     ((times v (olds config) ≡ 1) × (v ≤ versions_before config)) ⊎ ((versions_before config < v) × (v ≤ versions_before config + n))
@@ -244,7 +249,7 @@ all-versions config n (d ∷ ds) low fits =
     let later = all-versions config n ds low fits.1 in
     (λ i. sum_by (λ v. sum_by-cons (λ (x : Decision). if x.version == v then 1 else 0) d ds i) (numbers_with config n)) ∙ omega (arith, sums, first, later)
 
--- ---- the version in force among those of the day
+-- ---- If `Opens` holds, the version in force in a slot is a version of the day.
 
 if-force : (config : ConfigValue) (b : Bool) (n : ℕ) (p : ProgramText) (o : Option Version) (v : Version) → (o ≡ Some v → IsVersion config n v.number)
     → (if b then Some (record { number = versions_before config + n + 1; program = p }) else o) ≡ Some v → IsVersion config (n + 1) v.number
@@ -272,7 +277,8 @@ in-range config first slot [] v h = inl (first slot v h)
 in-range config first slot (entry ∷ earlier) v h =
     force-more config slot earlier v (loaded entry.act entry.reply) (in-range config first slot earlier v) h
 
--- ---- the decision in each act and its reply
+-- ---- `DecidesOne` says: if the reply to an act is a grant or S24, then there is exactly one decision, and it is by a
+-- version of the day. For any other reply there is no decision.
 
 record DecidesOne (config : ConfigValue) (past : List Entry) (a : Act) (r : Reply) : Type 0 where
   count : length (option_to_list (told.decided a r)) ≡ (if is_decided r then 1 else 0)
@@ -373,7 +379,8 @@ question-says config first past s till moment r x (Err f) asks silent =
     subst (λ e. DecidesOne config past (act.Till till r) e.reply) (sym (decided-refused config past s till moment f)) (quiet config past (act.Till till r) f silent)
 question-says config first past s till moment r x (Ok q) asks silent = version-says config first past s till moment q r x (in_force config q.slot past) refl asks
 
--- ---- requests and replies without a decision
+-- ---- These lemmas show that the reply to an event, to a load, or to a request that no rule decides is neither a grant
+-- nor S24.
 
 fault-no : (f : PointFault) → is_decided (fault_reply f) ≡ false
 fault-no (WrongState st) = refl
@@ -414,7 +421,7 @@ load-no true true v = refl
 load-no true false v = refl
 load-no false more v = refl
 
--- ---- the decision of any act
+-- ---- If `Opens` holds, `DecidesOne` holds for any act and the site's reply to it.
 
 asked-decides : (config : ConfigValue) (first : Opens config) (past : List Entry) (s : SiteState) (till moment : ℕ) (r : Request)
     → DecidesOne config past (act.Till till r) (asked config past s till moment r).reply
@@ -453,7 +460,8 @@ effect-decides config first past s moment (act.Dispenser n event) = quiet config
 effect-decides config first past s moment (act.Load slot mask layout bytes) =
     quiet config past (act.Load slot mask layout bytes) _ (load-no (nat_le slot 15) (nat_lt (versions past) 4096) (versions_before config + versions past + 1))
 
--- ---- induction over the entries of a history
+-- ---- If `DecidesOne` holds for an entry's act and reply, then the entry has one decision if its reply is a grant or
+-- S24, and otherwise none.
 
 entry-decides : (config : ConfigValue) (past : List Entry) (entry : Entry) → DecidesOne config past entry.act entry.reply
     → (length (option_to_list (decision_of entry)) ≡ (if is_decided entry.reply then 1 else 0))
@@ -465,7 +473,7 @@ one-decision : (entry : Entry) (o : Option Decision) → decision_of entry ≡ o
 one-decision entry None is = rw is refl
 one-decision entry (Some d) is = rw is refl
 
--- ---- the numbers of the versions that are loaded
+-- ---- These lemmas show that the versions loaded in a day have successive numbers, from `versions_before` + 1 on.
 
 abbrev numbers : List Load → List ℕ
 numbers ls = map (λ (load : Load). load.version) ls
@@ -518,7 +526,9 @@ versions-more : (n : ℕ) (o : Option (ℕ × ProgramText)) → n ≤ (elim o as
 versions-more n None = omega arith
 versions-more n (Some l) = omega arith
 
--- ---- a history with one more entry
+-- ---- These lemmas show by induction, for any legal history (`Comes`): there are as many decisions as replies that are
+-- a grant or S24, all decisions are by versions of the day, and the versions loaded in the day have successive numbers,
+-- from `versions_before` + 1 on. `Opens` must hold. `past` is the history, newest entry first.
 
 record Comes (config : ConfigValue) (past : List Entry) : Type 0 where
   count : length (filter_map decision_of (reverse past)) ≡ count_by (λ (e : Entry). is_decided e.reply) (reverse past)

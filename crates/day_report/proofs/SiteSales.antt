@@ -34,7 +34,8 @@ use Rattle.std.proofs.Math.ListN.{length-set}
 use Rattle.day_report.proofs.OneMore.{replayed-push, sales-push}
 use Rattle.day_report.proofs.SiteSteps.{AgreesAfter, effect-says, paid, cents_of, one_of}
 
--- ---- the sale of one entry
+-- ---- These lemmas show: if an entry cleared an unpaid transaction, then it makes one sale, with the transaction's
+-- cents. Otherwise it makes no sale.
 
 -- The sale that an entry makes by clearing a transaction; None without a clearing or without a transaction.
 sold : Entry → Option Clearing → Option Transaction → Option Sale
@@ -69,7 +70,8 @@ sale-of-paid points entry =
     let sums = sold-sums entry o points (paid points o) refl in
     (ap (λ x. cents_in part.All (option_to_list x)) is ∙ sums.0, ap (λ x. count_in part.All (option_to_list x)) is ∙ sums.1)
 
--- ---- the point and the till of a sale
+-- ---- These lemmas show that only tills of the configuration clear transactions, and that an unpaid transaction is
+-- only found at a point that exists.
 
 -- The sale is at a point that the site has at its start, and by a till that the configuration has.
 record FitsOne (config : ConfigValue) (sale : Sale) : Type 0 where
@@ -157,7 +159,7 @@ in-bounds points n p false is h = absurd (cc)
 within : (points : List PointState) (n : ℕ) (p : PointState) → at_number points n ≡ Some p → (1 ≤ n) × (n ≤ length points)
 within points n p is = in-bounds points n p (nat_le 1 n) refl is
 
--- ---- the totals with one more entry
+-- ---- These lemmas show by induction that the points and the sales of any legal history agree with the site's state.
 
 -- The points and the sales of the history `past` (newest entry first) agree with the state s of its site.
 record Comes (config : ConfigValue) (past : List Entry) (s : SiteState) : Type 0 where
@@ -206,7 +208,9 @@ entry-long : (points : List PointState) (entry : Entry) → length (with_entry p
 unfolding with_entry
 entry-long points entry = act-long points entry.act entry.reply
 
--- If an entry makes a sale, the sale is at a point that the site has at its start, and by a till of the configuration.
+-- Let there be as many points as the site has at its start, and let the clearing o, if any, be by a till of the
+-- configuration. Then the sale that the entry makes by this clearing, if any, is at a point that the site has at its
+-- start, and by a till of the configuration.
 sold-fits : (config : ConfigValue) (points : List PointState) (entry : Entry) (o : Option Clearing) (t : Option Transaction)
     → length points ≡ length (opening_state config).points → ((c : Clearing) → o ≡ Some c → is_till config c.till ≡ true) → paid points o ≡ t
     → Fit config (option_to_list (sold entry o t))
@@ -280,8 +284,7 @@ comes config (entry ∷ past) s l = comes-more config past l.0 s entry (comes co
 -- ---- A sale's key is its point or its till. These lemmas say that the sums for all keys add up to the sum of all
 -- sales.
 
--- The sum counts v for each of the n numbers from a on that equals x, and 0 for each other. If x is below a, none of
--- the numbers equals x, so the sum is 0.
+-- A sum over the n keys from a on counts v for the key x, and 0 for any other key. If x is below a, the sum is 0.
 pub none-key : (a n x v : ℕ) → x < a → sum_by (λ k. if x == k then v else 0) (range_with_len a n) ≡ 0
 none-key a zero x v below = refl
 none-key a (suc n) x v below =
@@ -300,8 +303,8 @@ by-first a n x v false is least less later =
     let rest = later more (omega arith) in
     sum_by-cons (λ k. if x == k then v else 0) a (range_with_len (a + 1) n) ∙ (λ i. (if is i then v else 0) + rest i) ∙ omega arith
 
--- The sum counts v for each of the n numbers from a on that equals x, and 0 for each other. If x is one of the numbers,
--- exactly one of them equals x, so the sum is v.
+-- A sum over the n keys from a on counts v for the key x, and 0 for any other key. If x is one of these keys, the sum
+-- is v.
 pub one-key : (a n x v : ℕ) → a ≤ x → x < a + n → sum_by (λ k. if x == k then v else 0) (range_with_len a n) ≡ v
 one-key a zero x v least less = absurd (omega arith)
 one-key a (suc n) x v least less = by-first a n x v (x == a) refl least less (λ more fewer. one-key (a + 1) n x v more fewer)
@@ -319,7 +322,7 @@ pub no-keys : (xs : List ℕ) → sum_by (λ (k : ℕ). 0) xs ≡ 0
 no-keys [] = refl
 no-keys (x ∷ xs) = sum_by-cons (λ (k : ℕ). 0) x xs ∙ (λ i. 0 + no-keys xs i)
 
--- The key that `key` gives each sale is one of the n numbers from a on.
+-- The key of each sale is one of the n numbers from a on.
 abbrev KeysFit : (Sale → ℕ) → ℕ → ℕ → List Sale → Type 0
 KeysFit key a n [] = Unit {0}
 KeysFit key a n (sale ∷ sales) = ((a ≤ key sale) × (key sale < a + n)) × KeysFit key a n sales

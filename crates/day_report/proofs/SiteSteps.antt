@@ -1,4 +1,4 @@
--- In a legal history, each entry's act and reply tell how the site changed: its points, its cleared total, and its
+-- In a legal history, each entry's act and reply determine how the site changed: its points, its cleared total, and its
 -- count of cleared transactions.
 use Rattle.std.proofs.Common.{◌≡◌, ℕ, ◌+◌, ◌-◌, ◌<◌, ◌&&◌, Bool, true, false, List, [], ◌∷◌, zero, suc, length, Option, Some, None, Result, Ok, Err, slice_set}
 use Rattle.std.proofs.Common.{slice_get, refl, arith, ap, ◌∙◌, sym, subst, get_or}
@@ -70,7 +70,8 @@ pub record AgreesAfter (s : SiteState) (a : Act) (e : Effect) : Type 0 where
   pub cleared : e.after.cleared ≡ s.cleared + cents_of (paid s.points (clearing_of a e.reply))
   pub clears : e.after.clears ≡ s.clears + one_of (paid s.points (clearing_of a e.reply))
 
--- ---- replies that change nothing
+-- ---- A reply is silent unless it is a grant or `Done`. These lemmas show `AgreesAfter` for a till's request with a
+-- silent reply, if the request changed no point and cleared nothing.
 
 abbrev IsSilent : Reply → Type 0
 IsSilent (reply.Granted g v) = ⊥
@@ -165,8 +166,8 @@ found-clears : (o : Option Transaction) (b : Transaction → Bool) (x new : Poin
 found-clears None b x new what d h = err-clears NoSuchTransaction new d h
 found-clears (Some t) b x new what d h = (t, refl, if-clears (b t) x new NotYourTransaction (what t) d h)
 
--- If the point p accepts the command c, then d, the amount in the result, is that of the transaction that c clears. It
--- is None if c clears none.
+-- If the point p accepts the command c, then d, the result's optional amount, is the amount of the transaction that c
+-- clears, or None if c clears none.
 clears-is : (p new : PointState) (till : ℕ) (c : Command) (d : Option ℕ) → IsOk (command_step p till c) new d → d ≡ amount-of (clears-what p c)
 clears-is p new till command.OpenPoint d h = if-clears _ _ new _ None d h
 clears-is p new till command.ClosePoint d h = if-clears _ _ new _ None d h
@@ -408,7 +409,7 @@ price-says config past s till moment n a (Err f) asks =
 price-says config past s till moment n a (Ok q) asks =
     version-says config past s till moment q (request.Price n a) (in_force config q.slot past) refl (λ v y d. price-tells s till y q n a v d asks.1)
 
--- ---- the steps of all acts
+-- ---- `AgreesAfter` holds for any act.
 
 show-tells : (s : SiteState) (till n : ℕ) (o : Option PointState) → at_number s.points n ≡ o
     → AgreesAfter s (act.Till till (request.Show n)) (replied (show_reply s n) s)

@@ -16,9 +16,9 @@ use Rattle.site_core.proofs.Points.{at_number-read}
 use Rattle.day_report.specs.Walk.{with_changed, with_command, with_event, after_event}
 use Rattle.day_report.specs.Following.{UpdatesTo}
 
--- Let `a` be the step that the table of fuelling points (`command_step`) has for a command at the point p. Let the
--- command follow `a`, and let `new` be the point after the command. If the table allows the step, `new` is the point
--- that the step leads to. If the table refuses the step, `new` is p.
+-- `a` is what the table of fuelling points says for a command at the point p: the point after the command, or an error.
+-- If the command did what the table says, then the point `new` after the command is the point in `a`, or p if `a` is an
+-- error.
 after-command-is : (a : StepResult (Option ℕ)) (p new : PointState) (outcome : Result (Option ℕ) PointFault) → FollowsTable a p outcome new
     → (elim a as (λ _. PointState) [ Ok o ↦ o.0 | Err f ↦ p ]) ≡ new
 after-command-is (Ok (q, given)) p new outcome h = sym h.1
@@ -29,9 +29,8 @@ after-event-is : (a : StepResult (Option Order)) (p new : PointState) (outcome :
 after-event-is (Ok (q, given)) p new outcome h = sym h.1
 after-event-is (Err f) p new outcome h = sym h.1
 
--- Let no point have given out a transaction number over k. Let p be point n, and let the last transaction number of
--- `new` be at most 1 greater than that of p. If `new` replaces p, then no point has given out a transaction number over
--- k + 1.
+-- If no point has given out a transaction number over k, and then point n gives out at most one more, no point has
+-- given out a number over k + 1.
 bounded-set : (points : List PointState) (n : ℕ) (p new : PointState) → 1 ≤ n → n ≤ length points → p ≡ get_or points (n - 1) p → new.last ≤ p.last + 1
     → (k : ℕ) → All (λ (x : PointState). x.last ≤ k) points → All (λ (x : PointState). x.last ≤ k + 1) (slice_set points (n - 1) new)
 bounded-set points n p new one le is last k all =

@@ -1,4 +1,4 @@
--- Promises: a history's sales agree with its site, and its versions count all its decisions.
+-- Promises: a history's sales agree with its site, and the decisions of all versions add up to all decisions.
 use Rattle.std.specs.Prelude.{◌≡◌, ◌≤◌, ℕ, ◌+◌, true, false, List, length, sum_by, count_by}
 use Rattle.std.specs.List.{range_with_len, filter_map}
 use Rattle.decision_journal.specs.declared.entries.Entry.{Entry}

@@ -1,7 +1,7 @@
--- Definitions: how the picture of a day divides its history into steps, and what each step shows (this profile). The
--- axis of the picture is time or the entries, divided into equal steps. For each point, a step shows the state with the
--- greatest `state_number` among the states that the point has before the step's entries and after each of these
--- entries.
+-- Definitions: how the picture of a day divides its history into steps, and what each step shows (source: this
+-- project). The axis of the picture is time or the entries, divided into equal steps. For each point, a step shows the
+-- state with the greatest `state_number` among the states that the point has before the step's entries and after each
+-- of these entries.
 use Rattle.std.specs.Prelude.{◌≡◌, ◌<◌, ◌++◌, replicate, slice_index, ℕ, ◌+◌, ◌-◌, ◌*◌, ◌/◌, ◌==◌, ◌&&◌, nat_le, nat_lt, min, if◌then◌else◌, List, [], ◌∷◌, length, Option, Some, None, Bool, true, false}
 use Rattle.std.specs.Prelude.{map, take, drop, slice_index_or, slice_set}
 use Rattle.decision_journal.specs.declared.entries.Entry.{Entry}
@@ -19,7 +19,7 @@ use Rattle.day_report.specs.declared.steps.Axis.TheVariants as axis
 
 -- The step, counted from 0, that `at` belongs to if the numbers below `most` are divided into `steps` equal steps:
 -- - It is step 0 if `most` is 0.
--- - Otherwise it is step `steps` if `at` isn't below `most`.
+-- - Otherwise it is `steps`, which is after the last step, if `at` isn't below `most`.
 -- - Otherwise it is step `at * steps / most`, rounded down.
 abbrev pub step_of : ℕ → ℕ → ℕ → ℕ
 step_of at most steps = if most == 0 then 0 else min (at * steps / most) steps
@@ -116,10 +116,10 @@ raised states n state =
     if nat_le 1 n && nat_le n (length states) && nat_lt (state_number (slice_index_or states (n - 1) state)) (state_number state)
     then slice_set states (n - 1) state else states
 
--- The states that a step shows after an entry. `states` are the states that it showed before the entry, and `points`
--- are the points after the entry. The third argument is the number of the one point whose state can change, or None if
--- no state can. This point's state in `points` replaces the one in `states`, if the one in `points` has the greater
--- `state_number`. If there is no such point, the states stay the same.
+-- The states that a step shows after an entry. `states` are the states that the step showed before the entry, and
+-- `points` are the points after the entry. The third argument is the number of the only point whose state can change,
+-- or None if no state can. If this point's state in `points` has a greater `state_number` than its state in `states`,
+-- the state in `points` replaces the one in `states`. If there is no such point, the states stay the same.
 abbrev pub with_point : List State → List PointState → Option ℕ → List State
 with_point states points None = states
 with_point states points (Some n) = elim (at_number points n) [ None ↦ states | Some p ↦ raised states n p.state ]

@@ -104,7 +104,7 @@ part_by by.Point k = part_of_point k
 part_by by.Till k = part_of_till k
 part_by by.Hour k = part_of_hour k
 
--- There are `count` sums. The sum at place k is that of the sales in the part `part_at k`.
+-- There are `count` sums. The sum at place k adds up the sales in the part `part_at k`.
 pub record SumsUp (part_at : ℕ → SalesPart) (count : ℕ) (sums : List Sum) (sales : List Sale) : Type 0 where
   pub long : length sums ≡ count
   pub each : (k : ℕ) (d : Sum) → k < length sums → IsSum (slice_index_or sums k d) (part_at k) sales
@@ -165,7 +165,7 @@ carried_in o = record {
 abbrev pub count_for : {S : Type 0} → HashMap ℕ ℕ S → ℕ → ℕ
 count_for counts v = unwrap_or (hash.get nat_eq counts v) 0
 
--- For each version, the map has how many of the decisions in the part are grants by it (if `granted` is true) or
--- denials by it (if it is false). A version that isn't in the map has none.
+-- The count of each version in the map is how many of the decisions in the part are grants by this version (if
+-- `granted` is true) or denials by it (if `granted` is false). A version that isn't in the map has the count 0.
 abbrev pub CountsVersions : {S : Type 0} → DecisionPart → Bool → List Decision → HashMap ℕ ℕ S → Type 0
 CountsVersions part granted decisions counts = (v : ℕ) → count_for counts v ≡ decided_by part granted v decisions

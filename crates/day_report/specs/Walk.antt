@@ -1,5 +1,5 @@
--- Definitions of this profile: how the entries of a journal, oldest first, change the points of its site. What a
--- command or an event does at a point is defined by the table in `fuelling_point/specs/Table.antt`.
+-- Definitions: how the entries of a site's journal, oldest first, change the site's points (source: this project). What
+-- a command or an event does at a point is defined by the table in `fuelling_point/specs/Table.antt`.
 use Rattle.std.specs.Prelude.{ℕ, ◌-◌, nat_lt, if◌then◌else◌, List, fold, slice_set, Option, Some, None, Ok, Err}
 use Rattle.fuelling_point.specs.Table.{PointState, event_step}
 use Rattle.fuelling_point.specs.declared.kinds.Command.{Command}
@@ -22,7 +22,7 @@ granted_command (request.Release n asked) granted = Some (n, command.Release gra
 granted_command (request.Preset n asked) granted = Some (n, command.Preset granted)
 granted_command _ granted = None
 
--- The point and the command of a request that was answered Done; None for a request that is never answered so.
+-- The point and the command of a request that was answered Done; None for a request that never gets this answer.
 abbrev pub done_command : Request → Option (ℕ × Command)
 done_command (request.OpenPoint n) = Some (n, command.OpenPoint)
 done_command (request.ClosePoint n) = Some (n, command.ClosePoint)
@@ -41,7 +41,7 @@ executed_command request (reply.Granted granted version) = granted_command reque
 executed_command request reply.Done = done_command request
 executed_command request _ = None
 
--- The points after a change of point n. They stay the same if there is no point of this number.
+-- The points after `becomes` was applied to point n. They stay the same if there is no point of this number.
 unfoldable pub with_changed : List PointState → ℕ → (PointState → PointState) → List PointState
 with_changed points n becomes = elim (at_number points n) [ None ↦ points | Some p ↦ slice_set points (n - 1) (becomes p) ]
 
@@ -50,7 +50,7 @@ with_changed points n becomes = elim (at_number points n) [ None ↦ points | So
 abbrev pub with_command : List PointState → ℕ → ℕ × Command → List PointState
 with_command points till c = if nat_lt 0 till then with_changed points c.0 (λ p. after_command p till c.1) else points
 
--- A point after an event of its dispenser. It stays the same if it refuses the event.
+-- A point after an event of its dispenser. A point that refuses the event stays the same.
 abbrev pub after_event : PointState → DispenserEvent → PointState
 after_event p event = elim (event_step p event) [ Ok o ↦ o.0 | Err _ ↦ p ]
 

@@ -1,4 +1,5 @@
-//! The totals of a history: what its sales, decisions, refusals and prices add up to.
+//! The totals of a history: sums of its sales, counts of its decisions and refusals, and lists of its loads, its price
+//! changes and its unpaid transactions.
 
 ghost use Rattle.std.specs.Prelude.{◌≡◌, ◌+◌, ◌++◌, ◌≤◌, [], IfOk, IfSome, IsOk};
 ghost use Rattle.std.specs.Prelude.{length, map, not, sum_by, count_by, option_map};
@@ -25,16 +26,16 @@ use fuelling_point::{Point, Transaction};
 use site_core::{Config, Opening};
 use std::alloc::{AllocError, Global};
 
-/// The most parts that sales are split into at once, such as one part for each till.
+/// The greatest number of parts (points, tills or hours) that `sums_by` can split sales into.
 const MOST_PARTS: usize = 64;
 
 /// The most tills that a site can have.
 pub const MAX_TILLS: u32 = 64;
 
-/// How many hours a day has.
 const HOURS: u32 = 24;
 
-/// The totals of a history.
+/// The totals of a history: its sales, refusals, versions of rules, price changes and decisions. Also the points and
+/// the unpaid transactions at its end.
 #[derive(Drop)]
 pub struct Totals {
     pub entries: usize,
@@ -53,7 +54,7 @@ pub struct Totals {
     /// The rules that were carried in from the day before, in the order of their slots.
     pub carried: Vec<CarriedRule>,
     pub loads: Vec<Load>,
-    /// The numbers of the versions: those of `carried`, and then those of `loads`.
+    /// The version numbers of the rules in `carried`, followed by those of the rules in `loads`.
     pub versions: Vec<u32>,
     pub prices: Vec<PriceChange>,
     /// The transactions that are unpaid after the last entry, those of point 1 first.
@@ -124,8 +125,8 @@ fn sums_by(alloc: Global, sales: &[Sale], by: SplitBy, count: usize) -> Result<V
     Ok(sums)
 }
 
-/// Returns how often each of the refusals S20 to S34 is among these numbers of refusals, S20 first. The error is that
-/// memory ran out.
+/// Returns how often each of the numbers 20 to 34 is in `numbers`, 20 first. These are the numbers of the refusals S20
+/// to S34. The error is that memory ran out.
 fn refusal_counts(alloc: Global, numbers: &[u32]) -> Result<Vec<usize>, AllocError>
     ensures { IfOk result (λ counts. CountsRefusals counts.items numbers.now) }
 {
@@ -177,8 +178,7 @@ fn outcomes_by_till(
     Ok(found)
 }
 
-/// Returns the unpaid transaction together with the number of its point, which is `point`; `None` if there is no
-/// transaction.
+/// Returns the unpaid transaction together with `point`, the number of its point. Returns `None` for `None`.
 fn unpaid_as(point: usize, transaction: Option<Transaction>) -> Option<Unpaid>
     ensures { result ≡ option_map (unpaid_transaction point) transaction }
 {
@@ -193,7 +193,8 @@ fn unpaid_as(point: usize, transaction: Option<Transaction>) -> Option<Unpaid>
 }
 
 /// Returns the unpaid transactions of all points. Those of point 1 come first, and of the two that a point can have,
-/// the older one comes first. The error is that memory ran out. Without a transaction there is no error.
+/// the older one comes first. The error is that memory ran out. If no point has an unpaid transaction, there is no
+/// error.
 fn unpaid_of(alloc: Global, points: &[Point]) -> Result<Vec<Unpaid>, AllocError>
     ensures found { IfOk result (λ found. found.items ≡ unpaid_of points.now) }
     ensures none { unpaid_of points.now ≡ [] → IsOk result }
@@ -219,8 +220,7 @@ fn cents_of(unpaid: &[Unpaid]) -> u128
     cents
 }
 
-/// The totals of the sales at each fuelling point, of the sales that each of the tills 1 to 64 cleared, and of the
-/// sales in each hour of the day.
+/// The totals of the sales by fuelling point, by the till that cleared them (1 to 64), and by hour of the day.
 #[derive(Drop)]
 struct Sums {
     points: Vec<Sum>,
@@ -306,7 +306,8 @@ fn takings_of(alloc: Global, config: &Config, entries: &[Entry]) -> Result<Sales
     })
 }
 
-/// The versions of a day: the rules that were carried in, the loads, and the version numbers of both.
+/// The versions of a day: the rules that were carried in from the day before, the day's loads, and the version numbers
+/// of both.
 #[derive(Drop)]
 struct Versions {
     carried: Vec<CarriedRule>,

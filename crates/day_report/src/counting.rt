@@ -61,7 +61,7 @@ fn count_if(counts: &mut HashMap<u32, u64>, version: u32, wanted: bool) -> Resul
 }
 
 /// Counts the decisions in `part` for each version of a rule: the grants if `granted` is true, else the denials. A
-/// version that isn't in the map has none. The error is that memory ran out.
+/// version that isn't in the map has the count 0. The error is that memory ran out.
 fn by_version(
     alloc: Global,
     decisions: &[Decision],
@@ -122,8 +122,9 @@ pub(crate) fn count_outcome(decisions: &[Decision], granted: bool) -> usize
     count
 }
 
-/// How often each version of a rule granted and denied, in one part of the decisions. Both lists have the order of
-/// `Totals::versions`.
+/// How often each version of a rule granted and denied requests, among the decisions that one `DecisionPart` selects,
+/// such as those on presets. `granted` and `denied` each have one count for each version in `Totals::versions`, in the
+/// same order.
 #[derive(Drop)]
 pub struct Outcomes {
     pub granted: Vec<u64>,

@@ -6,8 +6,9 @@ ghost use Rattle.day_report.specs.Laws.{SalesAgreeWithTheSite, VersionsCountAllD
 ///
 /// - The points after the last entry are the site's points.
 /// - What was cleared before the day, plus the sales of the day, is what the site cleared: in number, and in cents.
-/// - The cents can be added up over all sales or till by till.
-/// - They can be added up point by point too, if the site begins with as many points as the configuration has.
+/// - The sales that each till cleared add up to all sales of the day, in cents.
+/// - The sales at each point add up to all sales of the day, in cents, if the site begins with as many points as the
+///   configuration has.
 pub fn law_of_sales()
     ensures { SalesAgreeWithTheSite }
 {}

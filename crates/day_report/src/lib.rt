@@ -1,4 +1,5 @@
-//! What the history of a site adds up to: its sales, decisions, refusals and prices, and the states of its points.
+//! What the history of a site shows: its sales, the decisions of its rules, its refusals, its price changes, the loads
+//! of programs, and the states of its points.
 #![tactic(auto)]
 
 pub mod adding;

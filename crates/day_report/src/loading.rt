@@ -36,8 +36,8 @@ fn load_of(moment: u64, entry: &Entry) -> Option<Load>
     }
 }
 
-/// Returns the moment of an entry (its time in seconds), or `moment` if the entry has none. `moment` is the last moment
-/// before the entry.
+/// Returns the moment of an entry (its time in seconds), or `moment` if the entry has none. `moment` is the moment of
+/// the last earlier entry that has one, or 0 if none has.
 fn moment_after(moment: u64, entry: &Entry) -> u64
     ensures { result ≡ moment_after moment entry.now }
 {

@@ -12,8 +12,9 @@ use program_slots::Version;
 use site_core::{Config, Opening};
 use std::alloc::{AllocError, Global};
 
-/// Returns the points that a site of this configuration starts with: those of its opening (what it takes over from the
-/// day before), or, without an opening, closed ones. The error is that memory ran out.
+/// Returns the points that a site of this configuration starts with: the points of the configuration's opening (the
+/// state that a day begins with), or, if there is no opening, a closed point for each point of the configuration. The
+/// error is that memory ran out.
 pub fn opening_points(alloc: Global, config: &Config) -> Result<Vec<Point>, AllocError>
     ensures points { IfOk result (λ points. points.items ≡ (opening_state config.now).points) }
     ensures within { IfOk result (λ points. HaveNumbersUpTo 4290000000 points.items) }
@@ -39,7 +40,7 @@ fn new_points(alloc: Global, count: usize) -> Result<Vec<Point>, AllocError>
 }
 
 /// Returns a copy of the points of an opening (the state that a day begins with). The last transaction number of each
-/// of them must be at most 4,290,000,000. The error is that memory ran out.
+/// point must be at most 4,290,000,000. The error is that memory ran out.
 fn points_in(alloc: Global, opening: &Opening) -> Result<Vec<Point>, AllocError>
     requires { HaveNumbersUpTo 4290000000 opening.now.points }
     ensures points { IfOk result (λ points. points.items ≡ (opened_state opening.now).points) }
@@ -48,8 +49,9 @@ fn points_in(alloc: Global, opening: &Opening) -> Result<Vec<Point>, AllocError>
     Vec::from_slice(alloc, opening.points.as_slice())
 }
 
-/// Returns the prices of products 1 to 8 that a site of this configuration starts with: those of its opening, or,
-/// without an opening, those of the configuration. They are in thousandths of the currency per litre; 0 is no price.
+/// Returns the prices of products 1 to 8 that a site of this configuration starts with: the prices of the
+/// configuration's opening, or the configuration's own prices if there is no opening. Prices are in thousandths of the
+/// currency per litre; 0 is no price.
 pub fn opening_prices(config: &Config) -> [u32; 8]
     ensures { result ≡ (opening_state config.now).prices }
 {

@@ -16,8 +16,8 @@ use site_core::Config;
 use std::alloc::{AllocError, Global};
 use till_request::{Act, Reply, Request};
 
-/// A transaction that a till cleared. `number` and `moment` (the time in seconds, or 0 if the entry has none) are those
-/// of the journal entry that cleared it. `amount` is in cents, and `volume` in centilitres.
+/// A transaction that a till cleared. `number` is the number of the journal entry that cleared it, and `moment` is this
+/// entry's time in seconds, or 0 if the entry has none. `amount` is in cents, and `volume` in centilitres.
 #[derive(Clone, Copy)]
 pub struct Sale {
     pub number: u32,

@@ -1,4 +1,5 @@
-//! The picture of a history: its axis, the steps of the axis, and the states of the points in each step.
+//! The data for the picture of a history. The picture shows the states of the fuelling points along an axis, which is
+//! time or the entries. The axis is divided into steps, and each step shows one state of each point.
 
 ghost use Rattle.std.specs.Prelude.{◌≡◌, ◌+◌, ◌≤◌, ℕ, IfOk, IfSome, IsOk, OnOk, length, map};
 ghost use Rattle.fuelling_point.specs.Table.{PointState};
@@ -20,11 +21,11 @@ use till_request::{Act, Request};
 /// The most steps that the axis of a picture is divided into.
 const STEPS: usize = 2000;
 
-/// The fewest seconds that a history must last for the axis of its picture to be time. In a shorter history, the axis
-/// is the entries.
+/// The axis of a history's picture can be time only if the last moment of the history is at least this many seconds
+/// after the first. Otherwise the axis is the entries.
 const SPAN: u64 = 600;
 
-/// The axis of a picture of a history: its entries, or time.
+/// The axis of a history's picture: the entries of the history, or time.
 #[derive(Clone, Copy)]
 pub enum Axis {
     /// The entries of a history; the number says how many there are.
@@ -68,7 +69,7 @@ pub fn axis_of(entries: &[Entry]) -> Axis
 /// steps:
 ///
 /// - 0 if `most` is 0
-/// - otherwise `steps` if `at` isn't below `most`
+/// - otherwise `steps`, which is after the last step, if `at` isn't below `most`
 /// - otherwise `at * steps / most`, rounded down
 pub fn step_of(at: u64, most: u128, steps: usize) -> usize
     ensures step { result ≡ step_of at most steps }
@@ -143,7 +144,7 @@ fn step_ends(
     Ok(step_ends)
 }
 
-/// The states that a picture shows:
+/// The states of the fuelling points that a picture shows:
 ///
 /// - `points` and `steps`: how many points and how many steps the picture has
 /// - `states`: first the states of all points in step 0, point 1 first, then those in step 1, and so on
@@ -195,9 +196,9 @@ fn show_point(states: &mut [State], points: &[Point], n: Option<u32>)
     }
 }
 
-/// Applies the entries of a step to the points. After each entry, the new state of the point that the entry can change
-/// replaces the point's state in `states`, if the new one has the greater `State::number`. The last transaction number
-/// of each point, plus the number of entries, must be at most 2^32 - 1.
+/// Applies the entries of a step to the points. An entry can change at most one point. If this point's state after the
+/// entry has a greater `State::number` than its state in `states`, it replaces the state in `states`. The last
+/// transaction number of each point, plus the number of entries, must be at most 2^32 - 1.
 fn replay_step(points: &mut [Point], states: &mut [State], entries: &[Entry])
     requires within_limit { HaveFreeNumbers points.old (length entries.now) }
     ensures replayed { points.new ≡ replayed points.old entries.now }

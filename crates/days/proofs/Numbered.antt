@@ -1,13 +1,12 @@
--- The lines of numbered items. Two lists joined have the lines of the first list, and then those of the second, whose
--- numbers go on. If an item gets more lines after its own, and no later item has lines, then these are added at the end
--- of the list's lines.
+-- The lines of a list of numbered items. Two lists joined have the lines of the first list, and then those of the
+-- second, whose numbers go on. If an item gets further lines after its own, and no later item has lines, then the
+-- further lines come at the end of the list's lines.
 use Rattle.std.proofs.Common.{◌≡◌, ℕ, zero, suc, ◌+◌, ◌-◌, ◌<◌, ◌≤◌, set, subst, List, []}
 use Rattle.std.proofs.Common.{◌∷◌, ◌++◌, length, take, get_or, refl, sym, ◌∙◌, ap, append_assoc, append-nil, arith}
 use Rattle.std.proofs.lemmas.List.{length-take-le, take_more}
 use Rattle.days.specs.declared.line.Line.{Line}
 use Rattle.days.specs.Text.{numbered_lines}
 
--- counting on by one, and then by k, is counting on by k + 1
 on : (n k m : ℕ) → m ≡ k + 1 → n + 1 + k ≡ n + m
 on n k m h = omega arith
 
@@ -28,13 +27,13 @@ numbered_more w n xs i d lt =
     ∙ ap (λ k. numbered_lines w n (take i xs) ++ (w (n + k) (get_or xs i d) ++ [])) short
     ∙ ap (λ ls. numbered_lines w n (take i xs) ++ ls) (append-nil (w (n + i) (get_or xs i d)))
 
--- ---- if no item from a place on has lines, the lines of a new item there are added at the end of the list's lines
+-- ---- if no item from index i on has lines, and a new item replaces item i, its lines come after the list's lines
 
 pub both_none : {T : Type 0} (xs ys : List T) → xs ++ ys ≡ [] → (xs ≡ []) × (ys ≡ [])
 both_none [] ys h = (refl, h)
 both_none (x ∷ xs) ys h = absurd (cc)
 
--- From place i of the list on, counted from 0, no item has a line. The first item of the list has the number n.
+-- No item from index i on has a line. The first item of the list has the number n.
 abbrev pub NoneFrom : {T : Type 0} → (ℕ → T → List Line) → ℕ → ℕ → List T → Type 0
 NoneFrom w n zero xs = numbered_lines w n xs ≡ []
 NoneFrom w n (suc i) [] = Unit {0}
@@ -66,8 +65,8 @@ none_set w n i [] v h = tt
 none_set w n zero (x ∷ xs) v h = h
 none_set w n (suc i) (x ∷ xs) v h = none_set w (n + 1) i xs v h
 
--- Let no item after place i have lines. If the new item at place i has the lines of the old one, followed by the lines
--- `more`, then `more` is added at the end of the list's lines.
+-- Let no item after index i have lines, and let a new item replace item i. If the new item has the lines of the old
+-- one, and then `more`, then the new list has the lines of the old list, and then `more`.
 pub numbered_set : {T : Type 0} (w : ℕ → T → List Line) (n i : ℕ) (xs : List T) (d v : T) (more : List Line) → i < length xs
     → w (n + i) v ≡ w (n + i) (get_or xs i d) ++ more → NoneFrom w n (suc i) xs → numbered_lines w n (set xs i v) ≡ numbered_lines w n xs ++ more
 numbered_set w n zero [] d v more lt e h = absurd (omega arith)
@@ -81,7 +80,7 @@ numbered_set w n (suc i) (x ∷ xs) d v more lt e h =
     let own : w (n + 1 + i) v ≡ w (n + 1 + i) (get_or xs i d) ++ more = subst (λ k. w k v ≡ w k (get_or xs i d) ++ more) z e in
     ap (λ ls. w n x ++ ls) (numbered_set w (n + 1) i xs d v more (omega arith) own h) ∙ sym (append_assoc (w n x) (numbered_lines w (n + 1) xs) more)
 
--- if no item from place i on has lines, then the lines of a new item at place i are added at the end of the list's
+-- if no item from index i on has lines, and a new item replaces item i, then the new item's lines come after the list's
 -- lines
 pub numbered_placed : {T : Type 0} (w : ℕ → T → List Line) (n i : ℕ) (xs : List T) (d v : T) → i < length xs → NoneFrom w n i xs
     → numbered_lines w n (set xs i v) ≡ numbered_lines w n xs ++ w (n + i) v

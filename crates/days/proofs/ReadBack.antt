@@ -52,7 +52,6 @@ LineFits (lines.Point n s) = (n < 2 ^ 64) × ValuesFit s
 LineFits (lines.Unpaid n t) = (n < 2 ^ 64) × (t.number < 2 ^ 32) × (t.amount < 2 ^ 64) × (t.volume < 2 ^ 64) × (t.holder < 2 ^ 32)
 LineFits (lines.Journal entries digest) = (entries < 2 ^ 32) × IsBytes digest × (length digest ≡ 32)
 
--- if a step of reading gives x, then reading goes on with x
 bound : {A B : Type 0} (r : Result A LineFault) (x : A) (f : A → Result B LineFault) → r ≡ Ok x → (r >>= f) ≡ f x
 bound r x f e = ap (λ r. r >>= f) e
 
@@ -100,7 +99,7 @@ state_small states.SuspendedFuelling = lit< tt
 bytes_back : (bytes : List ℕ) → IsBytes bytes → bytes_by (encode_lower bytes) ≡ Ok bytes
 bytes_back bytes h = ap bytes_from (decode_of-encode_lower bytes h)
 
--- if the word `w` isn't empty, then `authorise:` and `w` together have more than ten bytes
+-- `authorise:` and a word `w` that isn't empty have more than ten bytes, so that `order_read` reads an amount from them
 long_word : (w : List ℕ) → 0 < length w → nat_lt 10 (length (codes "authorise:" ++ w)) ≡ true
 long_word [] h = absurd (omega arith)
 long_word (x ∷ w) h = let m : 10 < length (codes "authorise:" ++ x ∷ w) = omega arith in search (rules, common_steps)

@@ -1,4 +1,4 @@
--- Each line of an opening can come after those before it, and all of them are read as that opening.
+-- Each line of an opening is allowed after the lines before it, and reading all of them gives that opening.
 use Rattle.std.proofs.Common.{◌≡◌, ℕ, zero, suc, ◌+◌, ◌-◌, ◌<◌, ◌≤◌, ◌^◌, ◌⊎◌, inl, inr}
 use Rattle.std.proofs.Common.{List, [], ◌∷◌, ◌++◌, length, set, get_or, replicate, Option, Some, None}
 use Rattle.std.proofs.Common.{refl, sym, ◌∙◌, ap, subst, append_assoc, append-nil, length-append, arith, lit≤}
@@ -21,7 +21,8 @@ use Rattle.days.specs.Reading.{AreAllowedInOrder, IsAllowedNext, ReadingValue, a
 use Rattle.days.specs.Text.{counter_lines, head_lines, numbered_lines, opening_lines, own_values, point_lines, price_lines, version_lines}
 use Rattle.days.proofs.Taken.{one_counter, one_price}
 
--- When `r` has been read, the lines `ls` can all come, one after another. Once they are read too, `s` has been read.
+-- `r` and `s` are states of the reading of an opening: what has been read so far. In state `r` the lines `ls` are
+-- allowed next, one after another, and reading them leads to state `s`.
 pub record Leads (r : ReadingValue) (ls : List Line) (s : ReadingValue) : Type 0 where
   pub allowed : AreAllowedInOrder r ls
   pub after : after_lines r ls ≡ s
@@ -43,7 +44,7 @@ leads_both r s t ls ms h k = record {
 leads_one : (r s : ReadingValue) (l : Line) → IsAllowedNext r l → after_line r l ≡ s → Leads r (l ∷ []) s
 leads_one r s l h e = record { allowed = (h, tt); after = e }
 
--- ---- if each item of a list fills its place (`Fills`), then all of the list's lines can come one after another
+-- ---- if each item of a list fills its index (`Fills`), then all of the list's lines are allowed one after another
 
 set_front : {T : Type 0} (xs : List T) (i : ℕ) (x y : T) (rest : List T) → length xs ≡ i → set (xs ++ x ∷ rest) i y ≡ (xs ++ y ∷ []) ++ rest
 set_front [] zero x y rest e = refl
@@ -51,18 +52,18 @@ set_front [] (suc i) x y rest e = absurd (omega (arith, e))
 set_front (z ∷ xs) zero x y rest e = absurd (omega (arith, e))
 set_front (z ∷ xs) (suc i) x y rest e = ap (λ ys. z ∷ ys) (set_front xs i x y rest (omega (arith, e)))
 
+-- The item `x` fills index i of a list of the opening (its slots, products or counters). Either `x` has no line, and is
+-- `blank`, as an item is before it is read. Or `x` has one line. This line can come next, and reading it puts `x` at
+-- index i of `ys`. The least place that the next line can have is then `base` + i + 1: `base` is the place of index 0.
 -- `St k ys` is what has been read when the list has the items `ys`, and k is the least place that the next line can
--- have. `w number x` is the lines of the item `x` with the number `number`. Either `x` has no line, and is `blank`, as
--- if it hadn't been read. Or `x` has one line, which can come next and puts `x` in place i of `ys`. The least place
--- that the next line can have is then `base` + i + 1.
+-- have. `w number x` is the lines of `x`, whose number is `number`.
 abbrev Fills : {T : Type 0} → (ℕ → List T → ReadingValue) → (ℕ → T → List Line) → T → ℕ → ℕ → ℕ → ℕ → List T → T → Type 0
 Fills St w blank base k i number ys x =
     ((w number x ≡ []) × (x ≡ blank))
     ⊎ ((l : Line) × (w number x ≡ l ∷ []) × IsAllowedNext (St k ys) l × (after_line (St k ys) l ≡ St (base + i + 1) (set ys i x)))
 
--- The lines `ls` lead from `r` to `St j ys`, for some j from 3 to `most`. `St j ys` is what has been read when one list
--- of the opening (its slots, products or counters) has the items `ys`, and j is the least place that the next line can
--- have.
+-- The lines `ls` lead from `r` to `St j ys`, for some j from 3 to `most`. `St` is as in `Fills`: the list has the items
+-- `ys`, and j is the least place that the next line can have.
 abbrev Filled : {T : Type 0} → (ℕ → List T → ReadingValue) → ReadingValue → List Line → ℕ → List T → Type 0
 Filled St r ls most ys = (j : ℕ) × (3 ≤ j) × (j ≤ most) × Leads r ls (St j ys)
 
@@ -101,8 +102,8 @@ fill_on St w blank base count k i number xs x zs e ge le on (inr one) =
           (subst (λ b. Leads (St (base + i + 1) ((xs ++ x ∷ []) ++ replicate (length zs) blank)) (numbered_lines w (number + 1) zs) (St rest.0 b)) (append_assoc xs (x ∷ []) zs) rest.3)),
     )
 
--- `Good` holds for each item of `zs` and the list into which this item is put. The list has the items `xs`, then the
--- items of `zs` before this one, and then `blank` for this item and for each later one.
+-- A list begins as `xs`, followed by one `blank` for each item of `zs`. Then the items of `zs` replace the blanks, one
+-- after another. `Good ys x` holds for each item `x` of `zs`, where `ys` is the list just before `x` replaces a blank.
 abbrev AllPlaced : {T : Type 0} → (List T → T → Type 0) → T → List T → List T → Type 0
 AllPlaced Good blank xs [] = Unit {0}
 AllPlaced Good blank xs (x ∷ zs) = Good (xs ++ replicate (length (x ∷ zs)) blank) x × AllPlaced Good blank (xs ++ x ∷ []) zs
@@ -122,10 +123,10 @@ fill St w blank n base count Good item k i number xs (x ∷ zs) e ge le total at
     (omega (arith, le')) (omega (arith, total)) (omega (arith, at)) good.1)
     (item k i number (xs ++ replicate (length (x ∷ zs)) blank) x ge le (omega (arith, total)) at good.0)
 
--- ---- `Fills` holds for the slots, products and counters that are allowed in an opening
+-- ---- each slot, product and counter that is allowed in an opening fills its index of its list (`Fills`)
 
--- What has been read of an opening's file before its last line, with these slots, prices, counters and points. The next
--- place is k.
+-- What has been read of the opening `f` before its last line, with these slots, prices, counters and points. k is the
+-- least place that the next line can have.
 abbrev stage : OpeningFile → List (Option Version) → List ℕ → List (ℕ × ℕ) → List PointState → ℕ → ReadingValue
 stage f rs ps cs qs k = record {
   next = k;
@@ -151,7 +152,8 @@ no_prices = replicate 8 0
 abbrev no_counters : List (ℕ × ℕ)
 no_counters = replicate 32 (0, 0)
 
--- The slot has no version, or one for which `IsRule` holds, with a number that none of the slots has yet.
+-- The slot has no version, or one with a good program that the verifier accepts, and with a number from 1 to `versions`
+-- that no version in `ys` has.
 abbrev IsPlacedRule : ℕ → List (Option Version) → Option Version → Type 0
 IsPlacedRule versions ys None = Unit {0}
 IsPlacedRule versions ys (Some v) = IsRule versions (Some v) × IsNewNumber ys v.number
@@ -230,7 +232,7 @@ counter_fills f k i number ys (v, suc b) ge le lt at good =
           ∙ ap (λ m. stage f f.opening.rules f.opening.prices (set ys m (v, suc b)) [] (27 + i + 1)) same,
     )
 
--- ---- the lines of an opening's points can come one after another, and are read as these points
+-- ---- the lines of an opening's points are allowed one after another, and are read as these points
 
 abbrev owes : PointState → List Transaction → PointState
 owes p us = record p { unpaid = us }
@@ -319,7 +321,7 @@ points_lead f k n xs (p ∷ zs) ge le at last good =
           (point_leads f k n xs p p.unpaid ge le at (all_first (λ (q : PointState). q.last ≤ 4290000000) p zs last) (all_first IsPointState p zs good)) rest.3),
     )
 
--- ---- all lines of an opening can come one after another, and are read as that opening
+-- ---- all lines of an opening are allowed one after another, and are read as that opening
 
 pub each : {T : Type 0} (P : T → Type 0) (xs : List T) → All P xs → AllByRecursion P xs
 each P [] h = tt
@@ -331,7 +333,7 @@ head_leads f h = record {
   after = refl;
 }
 
--- The lines of an opening can all come, one after another, and what is then read is that opening.
+-- The lines of an opening are all allowed, one after another, and reading them gives that opening.
 pub opening_leads : (f : OpeningFile) → IsOpeningFile f → Leads nothing_read (opening_lines f) (record { next = 61; file = f })
 opening_leads f h =
     let R : List Line = numbered_lines version_lines 0 f.opening.rules in

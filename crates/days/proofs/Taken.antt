@@ -31,8 +31,8 @@ use Rattle.days.proofs.Numbered.{NoneFrom, none_more, none_placed, numbered_both
 abbrev pub ending : ℕ → OpeningFile → List Line
 ending next f = cond (nat_lt 60 next) (lines.Journal f.entries f.digest ∷ []) []
 
--- The lines of what was read, from those of points on. `counters_on`, `prices_on` and `rules_on` start earlier: with
--- the lines of counters, of products and of slots.
+-- The lines of the points that were read, and the last line if it was read. `counters_on` has the lines of counters
+-- before these, `prices_on` also those of products, and `rules_on` also those of slots.
 abbrev pub points_on : ℕ → OpeningFile → List Line
 points_on next f = numbered_lines point_lines 1 f.opening.points ++ ending next f
 
@@ -50,7 +50,7 @@ rules_on next f = numbered_lines version_lines 0 f.opening.rules ++ prices_on ne
 abbrev pub lines_read : ReadingValue → List Line
 lines_read r = take r.next (head_lines r.file) ++ rules_on r.next r.file
 
--- What holds of what has been read, `r`, after any number of lines. The values that were read are allowed in an
+-- This is true of what has been read, `r`, after any number of lines. The values that were read are allowed in an
 -- opening. No slot, product or counter whose place is `next` or a later one has a line yet. There are points only if
 -- `next` is 59 or more.
 pub record IsReading (r : ReadingValue) : Type 0 where
@@ -76,17 +76,15 @@ pub record IsReading (r : ReadingValue) : Type 0 where
   pub rules : All (IsRule r.file.opening.versions) r.file.opening.rules
   pub distinct : HaveOwnNumbers r.file.opening.rules
 
--- `IsReading` holds of what has been read after the line `l`: its values are allowed in an opening, and no place that
--- comes later has a line yet. Its lines are those of `r`, and then `l`.
+-- `r` is what has been read. Once the line `l` is read too, `IsReading` holds, and the lines that were read
+-- (`lines_read`) are those before, followed by `l`.
 pub record AddsLine (r : ReadingValue) (l : Line) : Type 0 where
   pub is : IsReading (after_line r l)
   pub lines : lines_read (after_line r l) ≡ lines_read r ++ l ∷ []
 
--- if `ys` is empty, then `xs`, `l` and `ys` in this order are the same list as `xs`, `ys` and `l`
 snoc : (xs ys : List Line) (l : Line) → ys ≡ [] → (xs ++ l ∷ []) ++ ys ≡ (xs ++ ys) ++ l ∷ []
 snoc xs ys l h = ap (λ zs. (xs ++ l ∷ []) ++ zs) h ∙ append-nil (xs ++ l ∷ []) ∙ ap (λ zs. zs ++ l ∷ []) (sym (append-nil xs) ∙ ap (λ zs. xs ++ zs) (sym h))
 
--- if `ys` is `zs` followed by the line `l`, then `xs` and `ys` together are `xs` and `zs` together, followed by `l`
 behind : (xs ys zs : List Line) (l : Line) → ys ≡ zs ++ l ∷ [] → xs ++ ys ≡ (xs ++ zs) ++ l ∷ []
 behind xs ys zs l h = ap (λ ws. xs ++ ws) h ∙ sym (append_assoc xs zs (l ∷ []))
 
@@ -109,12 +107,9 @@ no_prices_on : (next : ℕ) (f : OpeningFile) → numbered_lines price_lines 1 f
     → prices_on next f ≡ []
 no_prices_on next f p c h k = ap (λ ls. ls ++ counters_on next f) p ∙ no_counters_on next f c h k
 
--- if no item from index i on has lines, and i is 0, then the list has no lines
 none_yet : {T : Type 0} (w : ℕ → T → List Line) (n i : ℕ) (xs : List T) → i ≡ 0 → NoneFrom w n i xs → numbered_lines w n xs ≡ []
 none_yet w n i xs e h = subst (λ j. NoneFrom w n j xs) e h
 
--- if `ps'` is `ps` followed by the line `l`, and `xs` and `xs'` are empty, then `ps'` and `xs'` together are `ps` and
--- `xs` together, followed by `l`
 grown : (ps ps' xs xs' : List Line) (l : Line) → ps' ≡ ps ++ l ∷ [] → xs' ≡ [] → xs ≡ [] → ps' ++ xs' ≡ (ps ++ xs) ++ l ∷ []
 grown ps ps' xs xs' l e h' h =
     ap (λ zs. ps' ++ zs) h' ∙ append-nil ps' ∙ e ∙ ap (λ zs. zs ++ l ∷ []) (sym (append-nil ps) ∙ ap (λ zs. ps ++ zs) (sym h))
@@ -124,7 +119,7 @@ headed : (r : ReadingValue) (next : ℕ) (f : OpeningFile) (ys ys' : List Line) 
 headed r next f ys ys' l h k e g =
     ap (λ t. t ++ ys') (take_all next (head_lines f) k ∙ e ∙ sym (heads r h)) ∙ behind (take r.next (head_lines r.file)) ys' ys l g
 
--- ---- if `IsReading` holds, then `AddsLine` holds for a first, second or third line that can come next
+-- ---- if `IsReading` holds, then reading a first, second or third line that can come next adds this line (`AddsLine`)
 
 day_goes : (f : OpeningFile) (n : ℕ) → IsReading (record { next = 0; file = f }) → 2 ≤ n → AddsLine (record { next = 0; file = f }) (lines.Day n)
 day_goes f n h k = record {
@@ -212,7 +207,7 @@ versions_goes f n h k = record {
   lines = snoc (lines.Day f.day ∷ lines.Cleared f.opening.cleared f.opening.clears ∷ []) (rules_on 2 f) (lines.Versions n) (h.early (lit≤ tt));
 }
 
--- ---- if `IsReading` holds, then `AddsLine` holds for a line of a slot, product or counter that can come next
+-- ---- if `IsReading` holds, then reading a slot's, product's or counter's line that can come next adds this line
 
 version_goes : (r : ReadingValue) (slot number mask : ℕ) (layout : Layout) (bytes : List ℕ) → IsReading r
     → IsAllowedNext r (lines.Version slot number mask layout bytes) → AddsLine r (lines.Version slot number mask layout bytes)
@@ -368,7 +363,7 @@ counter_goes r n value bound h c =
           (no_points_on r.next f points (omega (arith, c.1, c.2))))));
     }
 
--- ---- if `IsReading` holds, then `AddsLine` holds for a line of a point or unpaid transaction that can come next
+-- ---- if `IsReading` holds, then reading a point's or unpaid transaction's line that can come next adds this line
 
 -- if the snapshot `s` has no unpaid transactions, then an opening has one line for its point: the line of point n with
 -- the values of `s`
@@ -480,7 +475,7 @@ unpaid_goes f n t h c =
           (none_past point_lines 1 (suc (n - 1)) f.opening.points (omega (arith, c.1, c.2)))) refl refl))));
     }
 
--- ---- if `IsReading` holds, then `AddsLine` holds for the last line if it can come next
+-- ---- if `IsReading` holds, and an opening's last line can come next, then reading it adds this line (`AddsLine`)
 
 journal_goes : (r : ReadingValue) (entries : ℕ) (digest : List ℕ) → IsReading r → IsAllowedNext r (lines.Journal entries digest)
     → AddsLine r (lines.Journal entries digest)
@@ -520,7 +515,7 @@ journal_goes r entries digest h c =
           (ap (λ ls. ls ++ l ∷ []) (sym (no_ending r.next f c.1)))))));
     }
 
--- ---- if `IsReading` holds, then `AddsLine` holds for any line that can come next
+-- ---- if `IsReading` holds, then reading any line that can come next adds this line (`AddsLine`)
 
 pub goes : (r : ReadingValue) (l : Line) → IsReading r → IsAllowedNext r l → AddsLine r l
 goes r (lines.Day n) h c =
@@ -544,8 +539,8 @@ goes r (lines.Unpaid n t) h c =
     subst Q (sym c.0) (unpaid_goes r.file n t (subst P c.0 h) (refl, c.1, c.2, c.3))
 goes r (lines.Journal entries digest) h c = journal_goes r entries digest h c
 
--- `IsReading` holds of what has been read after the lines `ls`: its values are allowed in an opening, and no place that
--- comes later has a line yet. Its lines are those of `r`, and then `ls`.
+-- `r` is what has been read. Once the lines `ls` are read too, `IsReading` holds, and the lines that were read
+-- (`lines_read`) are those before, followed by `ls`.
 pub record AddsAllLines (r : ReadingValue) (ls : List Line) : Type 0 where
   pub is : IsReading (after_lines r ls)
   pub lines : lines_read (after_lines r ls) ≡ lines_read r ++ ls

@@ -1,4 +1,4 @@
--- Definitions: whether an opening fits a configuration (this profile).
+-- Definitions: whether an opening fits a configuration (source: this project).
 use Rattle.std.specs.Prelude.{◌≡◌, ◌≤◌, ◌<◌, ℕ, List, All, Some, length}
 use Rattle.bpf_model.specs.Machine.{Counters, counter}
 use Rattle.fuelling_point.specs.Table.{PointState}
@@ -31,9 +31,9 @@ AreBounded values bounds cells = (c : ℕ) → c < 32 → counter cells c ≡ ((
 
 -- A site of `config` begins with the opening `o`, and `begun` is then its configuration:
 -- - `o` fits `config`.
--- - The counters `cells` have their values from `o` and their bounds from `config`.
--- - A site with as many points as `config` has can begin with the opening that is `o` with the counters `cells`.
--- - `begun` is `config` with this changed opening.
+-- - The counters `cells` have their values from `o` and their bounds from `config`. They replace the counters of `o`.
+-- - A site with as many points as `config` has can begin with the opening that this gives.
+-- - `begun` is `config` with the opening that this gives.
 abbrev pub BeginsWith : ConfigValue → OpeningValue → ConfigValue → Type 0
 BeginsWith config o begun =
     Fits config o

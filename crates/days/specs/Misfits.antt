@@ -20,7 +20,8 @@ IsOver values bounds m =
     (m.0 < 32) × (m.1 ≡ (counter values m.0).0) × (m.2 ≡ (counter bounds m.0).1) × (m.2 < m.1)
     × ((c : ℕ) → c < m.0 → (counter values c).0 ≤ (counter bounds c).1)
 
--- The first of these transactions that is held by a till with a number over `tills`, if there is one.
+-- The first of these transactions that is held by a till with a number over `tills`. None if no transaction is held by
+-- such a till.
 abbrev pub first_held : ℕ → List Transaction → Option Transaction
 first_held tills transactions = find (λ (t : Transaction). nat_lt tills t.holder) transactions
 

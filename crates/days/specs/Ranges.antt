@@ -26,9 +26,12 @@ abbrev pub VersionFits : Option Version → Type 0
 VersionFits None = Unit {0}
 VersionFits (Some v) = (v.program.declared < 2 ^ 32) × IsBytes v.program.bytes
 
--- The numbers that `IsOpeningFile` doesn't bound are in the ranges of their types: the day and the number of entries
--- are below 2^32, the digest is 32 bytes, and there are fewer than 2^64 points. `PointFits` holds of each point, and
--- `VersionFits` of each slot.
+-- The numbers that `IsOpeningFile` doesn't bound are in the ranges of their types:
+-- - The day and the number of entries are below 2^32.
+-- - The digest is 32 bytes.
+-- - There are fewer than 2^64 points.
+-- - Each point's preset, limit, pending amount and holders of transactions are in range (`PointFits`).
+-- - The mask and the bytes of each slot's program are in range (`VersionFits`).
 pub record FileFits (f : OpeningFile) : Type 0 where
   pub day : f.day < 2 ^ 32
   pub entries : f.entries < 2 ^ 32

@@ -21,9 +21,9 @@ use Rattle.days.specs.declared.file.OpeningFlaw.TheVariants as flaws
 use Rattle.days.specs.Parsing.{line_read}
 use Rattle.days.specs.Text.{line_spelling}
 
--- What has been read of an opening. Each line has a place, and no place is less than that of the line before. The first
--- three lines have the places 0 to 2, slots 0 to 15 have 3 to 18, products 1 to 8 have 19 to 26, counters 0 to 31 have
--- 27 to 58, all lines of points have 59, and the last line has 60. `next` is the least place that the next line can
+-- What has been read of an opening. Each line has a rank, which is at least the rank of the line before. The first
+-- three lines have the ranks 0 to 2, slots 0 to 15 have 3 to 18, products 1 to 8 have 19 to 26, counters 0 to 31 have
+-- 27 to 58, all lines of points have 59, and the last line has 60. `next` is the least rank that the next line can
 -- have, or 61 after the last line. What hasn't been read is 0, None or an empty list in `file`.
 pub record ReadingValue : Type 0 where
   pub next : ℕ
@@ -95,7 +95,7 @@ after_line r (lines.Unpaid n t) =
     (record r.file.opening { points = slice_set r.file.opening.points (n - 1) (with_unpaid (point_at r.file.opening.points n) t) })
 after_line r (lines.Journal entries digest) = record { next = 61; file = record r.file { entries = entries; digest = digest } }
 
--- The program in a line, if it has one.
+-- The program in a line, or None if the line has no program.
 abbrev pub program_in : Line → Option ProgramText
 program_in (lines.Version slot number mask layout bytes) = Some (as_loaded bytes mask layout)
 program_in line = None
@@ -113,9 +113,11 @@ TakesMemory r (lines.Version slot number mask layout bytes) =
 TakesMemory r (lines.Point n s) = IsAllowedNext r (lines.Point n s)
 TakesMemory r line = ⊥
 
--- What the result of taking a line means. Ok: the line could come next, and `new` is what has been read once it is
--- taken. `Misplaced`: it couldn't come next. `Refused`: it could come next if the verifier accepted its program, but
--- the verifier refuses it. `OutOfMemory`: taking the line needs memory. After an error nothing is claimed of `new`.
+-- What the result of taking a line means. After an error nothing is claimed of `new`.
+-- - Ok: the line could come next, and `new` is what has been read once the line is taken.
+-- - `Misplaced`: the line couldn't come next.
+-- - `Refused`: the line could come next if the verifier accepted its program, but the verifier refuses it.
+-- - `OutOfMemory`: taking the line needs memory (`TakesMemory`).
 abbrev pub Steps : ReadingValue → Line → Result (Unit {0}) StepFault → ReadingValue → Type 0
 Steps old line (Ok u) new = IsAllowedNext old line × (new ≡ after_line old line)
 Steps old line (Err Misplaced) new = IsAllowedNext old line → ⊥
@@ -147,17 +149,21 @@ after_lines r (line ∷ rest) = after_lines (after_line r line) rest
 abbrev pub ReadsBack : Line → Type 0
 ReadsBack line = line_read (line_spelling line) ≡ Ok line
 
--- What the result of reading these bytes as a line means. Ok: the line has these bytes as its spelling, and is read
--- back from them. `Misplaced`: there is no such line. `OutOfMemory`: nothing is claimed. The result is never `Refused`.
+-- What the result of reading these bytes as a line means. The result is never `Refused`.
+-- - Ok: the bytes are the line's spelling, and the line is read back from them.
+-- - `Misplaced`: no line has these bytes as its spelling and is read back from them.
+-- - `OutOfMemory`: nothing is claimed.
 abbrev pub LineFound : List ℕ → Result Line StepFault → Type 0
 LineFound bytes (Ok line) = (line_spelling line ≡ bytes) × ReadsBack line
 LineFound bytes (Err Misplaced) = (line : Line) → ReadsBack line → line_spelling line ≡ bytes → ⊥
 LineFound bytes (Err (Refused refusal)) = ⊥
 LineFound bytes (Err OutOfMemory) = Unit {0}
 
--- What the result of taking the line with this number and these bytes means. Ok: the line was taken, and `new` is what
--- has been read then. `BadLine` with this number: no line that can come next has these bytes. `BadProgram` with this
--- number: the verifier refuses the line's program. `OutOfMemory`: nothing is claimed. The result is never `CutLine`.
+-- What the result of taking line `number` of a text means. `bytes` is the line's bytes. The result is never `CutLine`.
+-- - Ok: the line was taken, and `new` is what has then been read.
+-- - `BadLine` with `number`: no line that has these bytes as its spelling and is read back from them can come next.
+-- - `BadProgram` with `number`: the verifier refuses the line's program.
+-- - `OutOfMemory`: nothing is claimed.
 abbrev pub Takes : ℕ → List ℕ → ReadingValue → Result (Unit {0}) OpeningFlaw → ReadingValue → Type 0
 Takes number bytes old (Ok u) new = (line : Line) × (line_spelling line ≡ bytes) × ReadsBack line × IsAllowedNext old line × (new ≡ after_line old line)
 Takes number bytes old (Err (flaws.BadLine n)) new =
@@ -178,7 +184,7 @@ pub record HasRead (text rest : List ℕ) (number : ℕ) (r : ReadingValue) : Ty
   pub number_is : number ≡ min (length taken + 1) 4294967295
 
 -- The lines before line `number` of the text were read, and the bytes of that line aren't the spelling of a line that
--- can come next. A number above 4,294,967,295 is given as 4,294,967,295, here and in the next two records.
+-- can come next. A number above 4,294,967,295 is given as 4,294,967,295.
 pub record BadBehind (text : List ℕ) (number : ℕ) : Type 0 where
   pub rest : List ℕ
   pub r : ReadingValue
@@ -188,7 +194,8 @@ pub record BadBehind (text : List ℕ) (number : ℕ) : Type 0 where
   pub next : slice_split (λ b. b == 10) rest ≡ line ∷ slice_split (λ b. b == 10) behind
   pub bad : (l : Line) → ReadsBack l → line_spelling l ≡ line → IsAllowedNext r l → ⊥
 
--- Line `number` of the text is cut off: the lines before it were read, and after them there are bytes without an LF.
+-- Line `number` of the text is cut off: the lines before it were read, and after them there are bytes without an LF. A
+-- number above 4,294,967,295 is given as 4,294,967,295.
 pub record CutBehind (text : List ℕ) (number : ℕ) : Type 0 where
   pub rest : List ℕ
   pub r : ReadingValue
@@ -198,7 +205,7 @@ pub record CutBehind (text : List ℕ) (number : ℕ) : Type 0 where
   pub cut : slice_split (λ b. b == 10) rest ≡ line ∷ []
 
 -- The lines before line `number` of the text were read, and the verifier refuses the program of that line for this
--- reason.
+-- reason. A number above 4,294,967,295 is given as 4,294,967,295.
 pub record RefusedBehind (text : List ℕ) (number : ℕ) (refusal : Refusal) : Type 0 where
   pub rest : List ℕ
   pub r : ReadingValue

@@ -5,7 +5,7 @@ use Rattle.till_request.specs.Short.{with_words}
 use Rattle.days.specs.declared.line.Line.{Line}
 use Rattle.days.specs.Text.{line_text}
 
--- The text, then the first word, and then the others with a space before each.
+-- The text with a line's words appended: the first word directly, and each other word after a space.
 abbrev pub with_line : List ℕ → List (List ℕ) → List ℕ
 with_line text [] = text
 with_line text (name ∷ words) = with_words (text ++ name) words

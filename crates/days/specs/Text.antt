@@ -1,4 +1,5 @@
--- Definitions: the text of an opening (this profile). Each line is words with one space between them, and an LF.
+-- Definitions: the text of an opening (source: this project). Each line is words with one space between them, and an
+-- LF.
 use Rattle.std.specs.Prelude.{ℕ, ◌+◌, ◌==◌, ◌&&◌, if◌then◌else◌, List, [], ◌∷◌, ◌++◌, codes, map, Bool, true, false, Option, Some, None}
 use Rattle.std.specs.Fmt.{decimal}
 use Rattle.std.specs.List.{flat_map, join_with_byte}
@@ -53,8 +54,10 @@ abbrev pub numbered_lines : {T : Type 0} → (ℕ → T → List Line) → ℕ �
 numbered_lines lines_of n [] = []
 numbered_lines lines_of n (item ∷ items) = lines_of n item ++ numbered_lines lines_of (n + 1) items
 
--- The line of a slot, or no line if the slot has no version. `price_lines` has the line of a product, or none if its
--- price is 0. `counter_lines` has the line of a counter, or none if both its value and its bound are 0.
+-- The line of a slot, a product or a counter. There is no line in these cases:
+-- - `version_lines`: the slot has no version
+-- - `price_lines`: the product's price is 0
+-- - `counter_lines`: both the counter's value and its bound are 0
 abbrev pub version_lines : ℕ → Option Version → List Line
 version_lines slot None = []
 version_lines slot (Some v) = lines.Version slot v.number v.program.declared v.program.layout v.program.bytes ∷ []

@@ -1,5 +1,5 @@
--- Definitions: the words for why the site of a day leaves no opening, and for why no site begins with an opening (this
--- profile).
+-- Definitions: the words that say why no opening for the next day can be made from a day's site, and why a site with a
+-- given configuration can't begin with a given opening (source: this project).
 use Rattle.std.specs.Prelude.{ℕ, ◌+◌, List, ◌++◌, codes, min}
 use Rattle.std.specs.Fmt.{decimal}
 use Rattle.fuelling_point.specs.declared.kinds.Transaction.{Transaction}

@@ -9,12 +9,13 @@ use site_core::{Config, Opening, OpeningFault};
 use std::alloc::Global;
 use std::fmt::{self, Display};
 
-/// Why no site of a configuration can begin with an opening, or that memory ran out.
+/// Why a site with a given configuration can't begin with a given opening, or that memory ran out.
 #[derive(Clone, Copy)]
 pub enum Unfit {
     /// The opening and the configuration don't fit each other.
     Misfit(Misfit),
-    /// No site with the configuration's number of points can begin with the opening, or memory ran out.
+    /// The opening fits the configuration, but has this fault, so that no site of the configuration can begin with it.
+    /// Or the fault is that memory ran out.
     Fault(OpeningFault),
 }
 
@@ -33,14 +34,14 @@ impl Display for Unfit {
 }
 
 /// Returns `config` with `opening` as the opening that a site begins with. An opening that `config` had is dropped.
-/// Each counter has its value from `opening` and its bound from `config`. The error is why no site of `config` can
-/// begin with `opening`, or, if one can, that memory ran out.
+/// Each counter has its value from `opening` and its bound from `config`. If no site of `config` can begin with
+/// `opening`, the error is why. If one can, the only possible error is that memory ran out.
 pub fn begun(alloc: Global, config: Config, opening: Opening) -> Result<Config, Unfit>
     ensures begun { IfOk result (BeginsWith config opening) }
     ensures unfit { IfErr result (IsUnfit config opening) }
     ensures none { IfErr result (λ unfit. ¬ IsOutOfMemory unfit → CannotBegin config opening) }
 {
-    // This read gives the prover that there are 32 counters.
+    // This read tells the prover that there are 32 counters.
     let _first = opening.counters.get(0);
     let opening = match fitted(&config, opening) {
         Ok(opening) => opening,

@@ -4,8 +4,8 @@ use site_core::Config;
 use std::fmt;
 use till_request::LineIn;
 
-/// A day as a caller gives it. `opening` is the bytes of the opening that the day begins with, or `None` if it has
-/// none. `journal` is the device that the day's journal is read from, or `None` if it has none.
+/// A day as a caller gives it. `opening` is the bytes of the opening that the day begins with, or `None` if the day has
+/// no opening. `journal` is the device that the day's journal is read from, or `None` if the day has no journal.
 #[derive(Drop)]
 pub struct DayIn<J> {
     pub config: Config,
@@ -13,7 +13,7 @@ pub struct DayIn<J> {
     pub journal: Option<J>,
 }
 
-/// The error of a day that couldn't be read. The cause isn't kept.
+/// The error that a day couldn't be read. It doesn't say why.
 #[derive(Clone, Copy)]
 pub struct NoDay;
 
@@ -29,7 +29,7 @@ pub trait DaysIn {
     /// For proofs: all days that will still be given, or `None` if they aren't known.
     ghost remaining: { Self → Option (List DayText) };
 
-    /// For proofs: what holds of these days after `next_day` returned an error.
+    /// For proofs: what holds of `self` after `next_day` returned an error.
     ghost failed: { Self → Type 0 };
 
     /// For proofs: what holds of the device of each journal that `next_day` returned. By default nothing is claimed.

@@ -20,8 +20,8 @@ pub struct OpeningFile {
 /// a number above 4,294,967,295 is given as 4,294,967,295.
 #[derive(Clone, Copy)]
 pub enum OpeningFlaw {
-    /// Some opening begins with the lines before this one, but none begins with them and then this line. If the text
-    /// ends too early, the number is that of the last line plus 1.
+    /// The lines before this line are the beginning of some opening's text, but no opening's text goes on with this
+    /// line. If the text ends too early, the number is that of the last line plus 1.
     BadLine(u32),
     /// The last line has no LF.
     CutLine(u32),

@@ -10,14 +10,15 @@ use fuelling_point::{Point, Transaction};
 use site_core::{Config, Opening};
 use std::fmt::{self, Display};
 
-/// Why a site of a configuration can't begin with an opening: the first of these cases that applies.
+/// Why an opening doesn't fit a configuration, so that no site of the configuration can begin with it. If several cases
+/// apply, this is the first of them.
 #[derive(Clone, Copy)]
 pub enum Misfit {
     /// How many points the opening has, and how many the configuration has. These numbers differ.
     Points(usize, usize),
-    /// A till whose number is over the configuration's number of tills holds an unpaid transaction. The values are the
-    /// place of the first point with such a transaction, counted from 0, the point's first such transaction, and how
-    /// many tills the configuration has.
+    /// An unpaid transaction is held by a till whose number is over the configuration's number of tills. The values are
+    /// the index of the first point with such a transaction, counted from 0, this point's first such transaction, and
+    /// the configuration's number of tills.
     Till(usize, Transaction, u32),
     /// The first counter whose value in the opening is over its bound in the configuration: the counter's number, the
     /// value and the bound.
@@ -138,8 +139,8 @@ fn held_at(point: &Point, tills: u32) -> Option<Transaction>
     }
 }
 
-/// Returns the transaction if it is held by a till whose number is over `tills`. Otherwise, or if there is no
-/// transaction, returns `None`.
+/// Returns the transaction in `place` if a till whose number is over `tills` holds it. Otherwise, or if `place` is
+/// `None`, returns `None`.
 fn held(place: Option<Transaction>, tills: u32) -> Option<Transaction>
     ensures { MatchOption result (All (HasTill tills) (option_to_list place))
         (λ t. first_held tills (option_to_list place) ≡ Some t) }

@@ -27,7 +27,7 @@ pub enum Line {
     Price(u32, u32),
     /// A counter, counted from 0, its value and its bound.
     Counter(u32, u64, u64),
-    /// A point's number, counted from 1, and all that the point keeps but its unpaid transactions.
+    /// A point's number, counted from 1, and all values of the point but its unpaid transactions.
     Point(u64, Snapshot),
     /// A point's number, counted from 1, and one of the point's unpaid transactions.
     Unpaid(u64, Transaction),

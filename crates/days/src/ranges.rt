@@ -87,7 +87,9 @@ fn versions_in_range(rules: &[Option<Version>])
     }
 }
 
-/// Proves that those numbers of an opening's file which `IsOpeningFile` doesn't bound are in the ranges of their types.
+/// Proves that these values of an opening's file are in the ranges of their types: the day, the number of entries, the
+/// digest, the number of points, each point's preset, limit, pending amount and holders of transactions, and each
+/// version's mask and program bytes.
 pub(crate) fn file_in_range(file: &OpeningFile)
     ensures { FileFits file.now }
 {

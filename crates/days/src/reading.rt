@@ -101,10 +101,14 @@ fn read_lines(alloc: Global, reading: &mut Reading, text: &[u8]) -> Result<u32, 
 
 /// Reads the text of an opening, and returns the opening. No other opening has the same text.
 ///
-/// The error is the first flaw in the text. `BadLine` has the number of the first wrong line: some opening begins with
-/// the lines before it, but none begins with them and then this line. If the text ends too early, the number is that
-/// of the last line plus 1. The error is `CutLine` if the last line has no LF, and `BadProgram` if the verifier refuses
-/// the program of a line. It can also be that memory ran out.
+/// The error is the first flaw in the text, or that memory ran out:
+///
+/// - `BadLine`, with the number of the first wrong line: the lines before it are the beginning of some opening's text,
+///   but no opening's text goes on with this line. If the text ends too early, the number is that of the last line
+///   plus 1.
+/// - `CutLine`: the last line has no LF
+/// - `BadProgram`: the verifier refuses the program of a line
+/// - `OutOfMemory`: memory ran out
 pub fn read_opening(alloc: Global, text: &[u8]) -> Result<OpeningFile, OpeningFlaw>
     ensures read { IfOk result (λ file. opening_text file ≡ text.now) }
     ensures good { IfOk result (λ file. IsOpeningFile file) }
@@ -123,7 +127,7 @@ pub fn read_opening(alloc: Global, text: &[u8]) -> Result<OpeningFile, OpeningFl
         return Err(OpeningFlaw::BadLine(number));
     }
     let file = reading.finish();
-    // This call gives the prover that the numbers are in the ranges of their types.
+    // This call tells the prover that the numbers are in the ranges of their types.
     file_in_range(&file);
     Ok(file)
 }

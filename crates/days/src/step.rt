@@ -26,20 +26,24 @@ const MOST: u32 = 4_290_000_000;
 /// The greatest total of cleared amounts in cents, and the greatest count of cleared transactions.
 const MOST_CLEARED: u64 = 1_000_000_000_000_000_000;
 
-/// The place of the line of slot 0. A line's place is a number that says where in an opening the line can come. The
-/// first three lines have the places 0 to 2, and the lines of slots 1 to 15 have the places after this one.
+/// The rank of the line of slot 0. An opening's lines come in the order of their ranks. A rank isn't a line's number,
+/// since some lines can be missing. The first three lines have the ranks 0 to 2, and the lines of slots 1 to 15 have 4
+/// to 18.
 const SLOTS_AT: u32 = 3;
 
-/// The place (see `SLOTS_AT`) of the line of product 1. The lines of products 2 to 8 have the places after this one.
+/// The rank (not the line's number) of the line of product 1 in the order of an opening's lines. The lines of products
+/// 2 to 8 have the ranks 20 to 26.
 const PRODUCTS_AT: u32 = 19;
 
-/// The place (see `SLOTS_AT`) of the line of counter 0. The lines of counters 1 to 31 have the places after this one.
+/// The rank (not the line's number) of the line of counter 0 in the order of an opening's lines. The lines of counters
+/// 1 to 31 have the ranks 28 to 58.
 const COUNTERS_AT: u32 = 27;
 
-/// The place (see `SLOTS_AT`) that the lines of all points, and of their unpaid transactions, share.
+/// The rank (not a line's number) of the lines of points and of unpaid transactions in the order of an opening's lines.
+/// All these lines have the same rank.
 const POINTS_AT: u32 = 59;
 
-/// The place (see `SLOTS_AT`) of an opening's last line.
+/// The rank (not the line's number) of the last line in the order of an opening's lines.
 const END_AT: u32 = 60;
 
 /// Why a line isn't added to a `Reading`.
@@ -58,8 +62,8 @@ pub(crate) enum StepFault {
 #[derive(Drop)]
 pub(crate) struct Reading {
     alloc: Global,
-    /// The least place (see `SLOTS_AT`) that the next line can have. After the last line it is 61, which is the place
-    /// of no line.
+    /// The least rank (not a line's number) that the next line can have. An opening's lines come in the order of their
+    /// ranks. After the last line `next` is 61, which is the rank of no line.
     next: u32,
     day: u32,
     points: Vec<Point>,
@@ -300,11 +304,10 @@ impl Reading {
         Ok(())
     }
 
-    /// Takes a line, if it can come next with its values. After an error the reading is unchanged.
+    /// Takes a line, if it can come next and its values are allowed after the lines before it.
     ///
-    /// The error is `Misplaced` if the line can't come next, or if one of its values isn't allowed after the lines
-    /// before it. Otherwise the error is `Refused` if the verifier refuses the line's program. It can also be that
-    /// memory ran out.
+    /// The error is `Misplaced` if the line can't come next, or if one of its values isn't allowed. Otherwise the error
+    /// is `Refused` if the verifier refuses the line's program. The error can also be that memory ran out.
     pub(crate) fn take(&mut self, line: &Line) -> Result<(), StepFault>
         ensures { Steps self.old line.now result self.new }
     {

@@ -105,7 +105,7 @@ fn put_counters(alloc: Global, text: &mut String, counters: &Counters) -> Result
     ensures { OnOk result (AddsLines (string_bytes text.old) (string_bytes text.new)
         (numbered_lines counter_lines 0 counters.now)) }
 {
-    // This read gives the prover that there are 32 counters.
+    // This read tells the prover that there are 32 counters.
     let _first = counters.get(0);
     for counter in 0..32u32 {
         put_counter(

@@ -54,9 +54,9 @@ fn are_ports(doors: &[Door]) -> bool {
     true
 }
 
-/// Writes an address in a `DoorListing`, of a door or of the page: a port or a socket's path. `are_ports` says whether
-/// all doors of the listing are ports. If so, writes a port alone: the listing has `127.0.0.1:` once, at its start.
-/// Otherwise writes `127.0.0.1:` before a port.
+/// Writes one address of a `DoorListing`: a port, or the path of a socket. `are_ports` says whether all doors of the
+/// listing are ports. If so, writes a port alone, since the listing has `127.0.0.1:` once, at its start. Otherwise
+/// writes `127.0.0.1:` before a port.
 fn write_address<W: fmt::Write>(
     f: &mut fmt::Formatter<W>,
     address: &Address,
@@ -69,8 +69,8 @@ fn write_address<W: fmt::Write>(
     }
 }
 
-/// The list of the open doors, as it is printed for an operator. The port on which a browser can look at the site comes
-/// last, if there is one.
+/// The list of the open doors, as it is printed for an operator. If a browser can look at the site on a port, this port
+/// comes last.
 #[derive(Clone, Copy)]
 pub struct DoorListing<'a> {
     pub doors: &'a [Door],
@@ -187,7 +187,9 @@ impl<'a> BoundDoors<'a> {
         }
     }
 
-    /// Opens doors in their order, until one can't be opened. The error is the error of `open` for this door.
+    /// Opens `doors` in their order, adds each to `self.doors`, and adds a socket's file to `self.files`. If a door
+    /// can't be opened, prints why, opens no further one, and returns `AlreadyReported` with the exit status. The error
+    /// `Failed` means that memory ran out, which isn't printed yet.
     fn open_all<H: Files + Net<Listener = TcpListener, Stream = TcpStream>>(
         &mut self,
         rt: &'a HostRuntime,

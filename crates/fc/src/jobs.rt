@@ -70,7 +70,8 @@ pub fn do_job<
     }
 }
 
-/// Serves a site, and returns the exit status. The errors mean the same as those of `do_job`.
+/// Serves a site, and returns the exit status. An error means that the site couldn't be served: `AlreadyReported` has
+/// the exit status, and the reason is printed already; `Failed` has the reason, which isn't printed yet.
 fn serve<
     H: Files + Net<Listener = TcpListener, Stream = TcpStream> + Threads + Wait + Clock + Sync,
 >(rt: &HostRuntime, host: &H, job: &ServeJob) -> Result<u8, JobError> {

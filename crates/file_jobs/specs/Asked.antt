@@ -1,5 +1,5 @@
--- Definitions: which rows `fc export` prints for its arguments and in which format, and what `fc asm`, `fc dis` and
--- `fc verify` print (this profile).
+-- Definitions: which rows `fc export` prints for its arguments and in which format, and what `fc asm`, `fc dis` and `fc
+-- verify` print (source: this project).
 use Rattle.std.specs.Prelude.{ℕ, List}
 use Rattle.command_line.specs.declared.job.Rows.{Rows}
 use Rattle.command_line.specs.declared.job.Rows.TheVariants as asked

@@ -1,5 +1,5 @@
 -- Definitions: the number that is printed for a fault of a program or a script, such as `A1`, and the words that are
--- printed with it (this profile). The fault that memory ran out has no number.
+-- printed with it (source: this project). The fault that memory ran out has no number.
 use Rattle.std.specs.Prelude.{ℕ, List, codes, Option, Some, None}
 use Rattle.bpf_asm.specs.declared.program_file.ProgramFileFault.{ProgramFileFault}
 use Rattle.bpf_asm.specs.declared.program_file.ProgramFileFault.TheVariants as file

@@ -1,5 +1,5 @@
--- Definitions: with which exit status a play ends, and with which error a job ends if a journal or the days of a folder
--- are refused (this profile).
+-- Definitions: the exit status with which a play ends, and the error with which a job ends if a journal or the days of
+-- a folder are refused (source: this project).
 use Rattle.std.specs.Prelude.{◌≡◌, ◌⊎◌, ℕ, Option, Some, None, unwrap_or}
 use Rattle.decision_journal.specs.declared.fault.JournalFault.{JournalFault}
 use Rattle.decision_journal.specs.Journal.{IsDeviceOrOutOfMemory}
@@ -48,8 +48,9 @@ RefusesJournal (unclosed.Text journal fault) actual = RefusesText fault actual
 RefusesJournal (unclosed.History config fault) actual = RefusesHistory fault actual
 RefusesJournal (unclosed.OutOfMemory unread) actual = actual ≡ job_error.AlreadyReported 3
 
--- The job can end with this error if the days of a folder are refused for this reason. If a day couldn't be read, the
--- job's error is the given optional error, or `AlreadyReported` with status 3 if that is None.
+-- The job can end with this error if the days of a folder are refused for this cause. `Unread` means that a day
+-- couldn't be read. Then the job ends with the error of reading the day, which is the optional error, or with
+-- `AlreadyReported` and the exit status 3 if that is None.
 abbrev pub RefusesDays : {J : Type 0} → Cause J → Option JobError → JobError → Type 0
 RefusesDays cause.NoDays kept actual = actual ≡ job_error.AlreadyReported 1
 RefusesDays cause.Unread kept actual = actual ≡ unwrap_or kept (job_error.AlreadyReported 3)

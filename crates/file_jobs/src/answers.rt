@@ -8,7 +8,8 @@ use site_files::{Outlet, Source};
 use std::cell::RefCell;
 use std::io::{self, BufWriter, Error, ErrorKind, Printer, Read, Write};
 
-/// Standard output behind a buffer. The `Outlet` in it keeps the error of the first failed write.
+/// Standard output behind a buffer. The `Outlet` between the buffer and standard output keeps the error of the first
+/// failed write.
 type Waiting<'a> = BufWriter<Outlet<Printer<'a, HostRuntime>>>;
 
 /// The answers of a play that are buffered for standard output. They are written before more of the script is read, so

@@ -184,8 +184,10 @@ fn audit_span(
     }
 }
 
-/// Prints why the days of a folder are refused, and returns the job's error, as `refuse_cause` does. The error of this
-/// function is that memory ran out before anything was printed.
+/// Prints why the days of a folder are refused, and returns the error with which the job ends. If a day couldn't be
+/// read, prints nothing, and returns `days.job_error`, the error of reading the day (or `AlreadyReported` with the exit
+/// status 3 if that is `None`). An error `Failed` isn't printed here. The `AllocError` means that memory ran out before
+/// anything was printed.
 fn refuse_days(
     rt: &HostRuntime,
     days: FolderIn<'_>,
@@ -199,9 +201,10 @@ fn refuse_days(
     Ok(refuse_cause(rt, days, day, (&opening, &journal), cause))
 }
 
-/// Prints why the days of a folder are refused at this day, and returns the job's error. `paths` names the day's
-/// opening and its journal. If the day couldn't be read, prints nothing, and returns `days.job_error`, the error of
-/// reading the day.
+/// Prints why the days of a folder are refused at this day, and returns the error with which the job ends. `paths`
+/// names the day's opening and its journal. If the day couldn't be read, prints nothing, and returns `days.job_error`,
+/// the error of reading the day (or `AlreadyReported` with the exit status 3 if that is `None`). An error `Failed`
+/// isn't printed here.
 fn refuse_cause(
     rt: &HostRuntime,
     days: FolderIn<'_>,
@@ -289,8 +292,10 @@ impl Display for Left<'_> {
     }
 }
 
-/// Returns the number of the first line, counted from 1, in which `text` differs from `left` (the LF at a line's end
-/// belongs to the line). Also returns this line of `left` without its LF, or an empty line if `left` has no such line.
+/// Compares two texts by lines, where the LF at a line's end belongs to the line. Returns the number of the first line,
+/// counted from 1, in which `text` differs from `left`. Also returns this line of `left` without its LF, or an empty
+/// line if `left` has no such line. If the texts are equal, the line is what follows their last LF, or all of the text
+/// if it has no LF.
 fn other_line<'a>(text: &[u8], left: &'a [u8]) -> (u64, &'a [u8])
     ensures { IsOtherLine text.now left.now result.0 result.1.now }
 {

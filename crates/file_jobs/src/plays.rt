@@ -1,4 +1,4 @@
-//! Plays of a script against a new site.
+//! Plays: runs of a script on a new site.
 ghost use Rattle.std.specs.Prelude.{◌≡◌, ◌≤◌, Err, IfOk, IfErr, IsTrue, MatchResult, option_map};
 ghost use Rattle.site_files.specs.Asked.{reads_twice};
 ghost use Rattle.site_files.specs.Statuses.{IsReportedOrFailed, IsReported};
@@ -92,8 +92,9 @@ fn read_error(fault: SessionFault, read: Option<&io::Error>) -> Option<&io::Erro
 /// Plays a script on a new site, and returns the exit status. Standard input has the configuration, and then the
 /// script. The errors are:
 ///
-/// - `AlreadyReported` with the exit status: the configuration is refused. Then prints why.
-/// - `Failed`: memory ran out. This isn't printed here.
+/// - `AlreadyReported` with the exit status: the configuration is refused, or memory ran out when its settings were
+///   read. Then prints why.
+/// - `Failed`: memory ran out before anything was read. This isn't printed here.
 pub fn play_input(rt: &HostRuntime) -> Result<u8, JobError>
     ensures ended { IfOk result IsEnded }
     ensures refused { IfErr result (IsReportedOrFailed 1) }
@@ -106,7 +107,8 @@ pub fn play_input(rt: &HostRuntime) -> Result<u8, JobError>
 }
 
 /// Plays a script that follows its configuration in the same input, and returns the exit status. If the configuration
-/// is refused, prints why; the error has the exit status.
+/// is refused, or if memory runs out when its settings are read, prints why, and the error is `AlreadyReported` with
+/// the exit status.
 fn play_both<'a>(rt: &'a HostRuntime, input: &mut Script<'a, '_, '_>) -> Result<u8, JobError>
     ensures ended { IfOk result IsEnded }
     ensures refused { IfErr result (IsReported 1) }
@@ -126,7 +128,7 @@ fn play_both<'a>(rt: &'a HostRuntime, input: &mut Script<'a, '_, '_>) -> Result<
 }
 
 /// Returns the settings in `head`, the bytes that `read_head` returned. If the configuration in them has over 65,536
-/// bytes or is refused, prints why; the error has the exit status.
+/// bytes or is refused, or if memory runs out, prints why, and the error is `AlreadyReported` with the exit status.
 fn settings_before(rt: &HostRuntime, head: &[u8]) -> Result<Settings, JobError>
     ensures { IfErr result (IsReported 1) }
 {
@@ -157,12 +159,12 @@ fn outlet<'a, 'b>(answers: &'b Answers<'a>) -> StreamOut<Outgoing<'a, 'b>> {
     }
 }
 
-/// Plays the script in the file that `script` names, on the site that `site` names, which has no entries yet. Returns
-/// the exit status. The errors are:
+/// Plays the script in the file that `script` names, on the site that `site` names. At the start this site has no
+/// entries. Returns the exit status. The errors are:
 ///
 /// - `AlreadyReported` with the exit status: a file can't be opened, the configuration or the opening can't be read or
-///   is refused, or two files are standard input. Then prints why.
-/// - `Failed`: memory ran out. This isn't printed here.
+///   is refused, memory ran out when one of the two was read, or two files are standard input. Then prints why.
+/// - `Failed`: memory ran out, which isn't printed yet.
 pub fn play_files<'a>(
     rt: &'a HostRuntime,
     site: SiteFiles<'_>,

@@ -47,8 +47,8 @@ impl<'a> Progress<'a> {
         }
     }
 
-    /// Counts the bytes that a read returned, and the lines that end in them. No bytes mean that the input is at its
-    /// end. Does nothing if the progress line isn't to be shown.
+    /// Counts the bytes that a read returned, and the lines that end in them. Empty `bytes` are taken as the end of the
+    /// input. Does nothing if the progress line isn't to be shown.
     pub fn see(&self, bytes: &[u8]) {
         if !self.is_shown {
             return;

@@ -15,8 +15,8 @@ use std::alloc::Global;
 use std::fmt;
 use std::marker::Model;
 
-/// Why a program's jumps are refused: what is wrong with the first wrong jump, and the number of its unit, counted from
-/// 0; or that memory ran out. `Display` doesn't write this number.
+/// Why a program's jumps are refused: what is wrong with the first wrong jump, or that memory ran out. The number in a
+/// variant is that of the jump's unit, counted from 0. `Display` doesn't write this number.
 #[derive(Clone, Copy)]
 pub enum FlowFault {
     BackwardJump(u32),

@@ -30,10 +30,13 @@ pub struct Snapshot {
 }
 
 impl Snapshot {
-    /// Returns whether a point can have the values of this snapshot: `nozzle` is at most 8; `amount` and `volume`, also
-    /// those of the unpaid transactions, are at most 999,999,999; the unpaid transactions have numbers from 1 to
-    /// `last`, the older one the smaller number; there is no newer one without an older one; while a delivery is
-    /// authorised or under way, at most one is unpaid.
+    /// Returns whether a point can have the values of this snapshot. These are the conditions:
+    /// - `nozzle` is at most 8.
+    /// - `amount` and `volume` are at most 999,999,999, and so are the amount and the volume of each unpaid
+    ///   transaction.
+    /// - The unpaid transactions have numbers from 1 to `last`. The older one has the smaller number.
+    /// - There is a newer unpaid transaction only if there is an older one.
+    /// - At most one transaction is unpaid while a delivery is authorised or under way.
     pub fn is_of_point(&self) -> bool
         ensures { IsTrue result ↔ IsSnapshot self.now }
     {
@@ -47,9 +50,12 @@ impl Snapshot {
     }
 }
 
-/// Returns whether `first` can be the older and `second` the newer unpaid transaction of a point in this state. They
-/// can if `second` is `None`. They also can if both are transactions, `first` has the smaller number, and no delivery
-/// is authorised or under way in this state. The ranges of their values are checked by `is_free_or_unpaid`.
+/// Returns whether `first` and `second` can be the older and the newer unpaid transaction of a point in this state.
+/// There are two cases in which they can:
+/// - `second` is `None`.
+/// - Both are transactions, `first` has the smaller number, and the state has no delivery authorised or under way.
+///
+/// The ranges of their values are checked by `is_free_or_unpaid`.
 fn are_places(first: Option<Transaction>, second: Option<Transaction>, state: State) -> bool
     ensures { IsTrue result ↔ (AreValidPlaces first second (is_busy state) × IsOlder first second) }
 {

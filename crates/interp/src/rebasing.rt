@@ -1,4 +1,6 @@
-// The counters after a run, computed from those after an earlier run on other counters.
+// The counters after a run, computed without making the run. They are derived from an earlier run of the same program
+// with the same context and view, which began with the same values and bounds of the declared counters. The undeclared
+// counters can have changed since then.
 
 ghost use Rattle.std.specs.Prelude.{◌≡◌, ℕ};
 ghost use Rattle.bpf_model.specs.Machine.{counter};

@@ -1,4 +1,5 @@
--- If an audit's fault names an entry, then the flaw that explains this fault is a flaw of the audited entries.
+-- If an audit of entries refuses the entry at a place, then a flaw that explains the audit's fault is what is wrong
+-- with the entry at this place (`ShowsFlawAt`).
 use Rattle.std.proofs.Common.{◌≡◌, ℕ, ◌+◌, ◌-◌, ◌<◌, ◌≤◌, List, [], ◌∷◌, ◌++◌, length, take, Option, Some, Ok, refl, sym, ap, ◌∙◌, subst, arith}
 use Rattle.std.proofs.Common.{inl, inr, length-append}
 use Rattle.std.specs.Prelude.{slice_get, reverse}
@@ -31,7 +32,8 @@ module _ (config : ConfigValue) (entries : List Entry) where
       let is : place ≡ length s.0.old.history + 1 = s.1 in
       (omega arith, omega arith)
 
-  -- `before` is the list of the entries before the place that the fault names, and `entry` is the one at this place
+  -- Here `before` is the list of the entries before the place that the fault names, and `entry` is the one at this
+  -- place.
   module _ (fault : AuditFault) (place : ℕ) (shows : IsFaultOfEntries config entries fault) (at : IsPlaceOf fault place) (before : List Entry) (entry : Entry)
       (before_is : before ≡ take (place - 1) entries) (entry_is : slice_get entries (place - 1) ≡ Some entry) where
     count : place - 1 ≡ length (shown fault place shows at).0.old.history
@@ -58,13 +60,13 @@ module _ (config : ConfigValue) (entries : List Entry) where
               (subst (λ (b : List Entry). ExplainsFault config b entry fault reported) (sym same_before) tells);
         }
 
--- If two sites fulfil `Upholds` and have the same configuration and the same history, then they are equal.
+-- Two sites that uphold the invariant (`Upholds`) are equal if they have the same configuration and the same history.
 one_site : (a b : SiteValue) → Upholds a → Upholds b → b.config ≡ a.config → b.history ≡ a.history → b ≡ a
 one_site a b u v config history =
     elim (own_audit a (Ok b) u (config, history, v)) as (λ _. b ≡ a) [ inl e ↦ cc | inr e ↦ absurd (cc) ]
 
--- If an audit refuses an entry with F3 (the site makes a different entry, or none), and the site has room for it, then
--- the moment, the reply or the run differs from that of the entry that the site makes.
+-- If an audit refuses an entry with F3 (the site makes a different entry, or none), and the site has room for one more
+-- entry, then the refused entry and the entry that the site makes differ in the moment, the reply or the run.
 pub same_parts : (config : ConfigValue) (before : List Entry) (entry : Entry) (number : ℕ) → IsRejected config before entry (NotLegal number)
     → (site : SiteValue) → site.config ≡ config → site.history ≡ before → Upholds site → length before < 1048576
     → entry.moment ≡ (entered site entry.pass entry.moment entry.act).moment

@@ -1,4 +1,5 @@
--- What is printed after an audit of a journal is what `JournalPrints` and `AuditPrints` define.
+-- What is printed after an audit of entries is right (`AuditPrints`). What is printed for a journal's text is right
+-- (`JournalPrints`), whether the text was read up to its end or reading found a fault.
 use Rattle.std.proofs.Common.{◌≡◌, ◌≢◌, ◌⊎◌, Bool, ℕ, List, [], ◌++◌, Option, Some, None, Result, Ok, Err, sym, ap, ◌∙◌, subst, inl, inr}
 use Rattle.std.specs.Prelude.{IfErr, IfOk, OnOk}
 use Rattle.std.specs.List.{AllByRecursion}
@@ -37,7 +38,7 @@ output-fault config entries fault (Ok output) complete shows printed differs =
 output-fault config entries fault (Err e) complete shows printed differs = tt
 
 -- If a text was read as these entries up to its end, then an output that is right for the entries (`AuditPrints`) is
--- right for the text too (`JournalPrints`).
+-- right for the text (`JournalPrints`).
 module _ (text : List ℕ) (entries : List Entry) where
   all-is : (new : Option (List ℕ)) → Consumes (Some text) new (journal_text entries ++ []) → IsAtEnd new → text ≡ journal_text entries
   all-is None taken at_end = absurd taken
@@ -59,8 +60,14 @@ module _ (text : List ℕ) (entries : List Entry) where
       → JournalPrints config text output
   all-output config new output r tells = judged config output (all-is new r.reads.taken r.at_end) r.reads.each tells
 
--- If a text was read up to its end, and its entries were audited one by one against a new site, then an output that is
--- right for the result of the audit is right for the text (`JournalPrints`).
+-- An output is right for a text (`JournalPrints`), if:
+-- - The text was read up to its end, and an auditor took the text's entries one by one. The auditor began as `before`,
+--   with a new site and no fault, and ended as `after`.
+-- - For each list of entries that the auditor can have taken (`Found`), `audited` is a right result of their audit
+--   (`Audits`). It isn't an error if a site can have these entries as its history.
+-- - The output is right (`AuditPrints`) for each configuration and list of entries for which two things hold: `audited`
+--   is a right result of their audit, and it is no error but `OutOfMemory` if a site can have these entries as its
+--   history.
 pub all-taken : (text : List ℕ) (config : ConfigValue) (new : Option (List ℕ)) (before after : AuditorValue)
     (audited : Result SiteValue AuditFault) (output : JobOutput)
     → before.site ≡ new_site config → before.fault ≡ None → TakesAll (Some text) new (TookEntries before after)
@@ -96,7 +103,8 @@ fault-output config text new fault (Ok output) reads wants printed =
     })
 fault-output config text new fault (Err e) reads wants printed = tt
 
--- If `FailsOrRunsOut` holds for `r`, and both or neither of `r` and `s` are the error `Device`, then it holds for `s`.
+-- `FailsOrRunsOut` uses a result only to see whether it is the error `Device`. So if both `r` and `s` are this error,
+-- or neither is, then what `FailsOrRunsOut` says of `r` is true of `s` too.
 pub fails-so : {T U : Type 0} (r : Result T JournalFault) (s : Result U JournalFault) (a b c d : ℕ) → is_device s ≡ is_device r
     → FailsOrRunsOut r a b c d → FailsOrRunsOut s a b c d
 fails-so r s a b c d e = subst (λ (f : Bool). RoseBy (one_if f) a b ⊎ (RoseBy 0 a b × RoseBy journal_reads c d)) (sym e)

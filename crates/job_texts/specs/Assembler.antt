@@ -1,4 +1,4 @@
--- Definitions: what `fc` prints when it assembles a text or disassembles a program (this profile).
+-- Definitions: what `fc` prints when it assembles a text or disassembles a program (source: this project).
 use Rattle.std.specs.Prelude.{◌≡◌, ◌≢◌, ◌⊎◌, ◌≤◌, ℕ, List, [], ◌++◌, length, codes, Option, Some, Result, Ok, Err}
 use Rattle.std.specs.Fmt.{decimal}
 use Rattle.bpf_model.specs.declared.instruction.Unit.{Unit as ProgramUnit}
@@ -38,7 +38,7 @@ pub record PrintsAsmFault (text : List ℕ) (output : JobOutput) : Type 0 where
   pub is_fault_of_input : fault ≢ OutOfMemory
   pub printed : IsOutput output (asm_fault_text fault) 1
 
--- What `fc asm` prints of a text: L1 for a text of over 65,536 bytes, or else its units or its fault.
+-- The output is what `fc asm` prints for a text: L1 if the text has over 65,536 bytes, or else its units or its fault.
 abbrev pub AsmPrints : List ℕ → JobOutput → Type 0
 AsmPrints text output =
     ((65537 ≤ length text) × IsOutput output (codes "L1\n") 1) ⊎ ((length text ≤ 65536) × (PrintsUnits text output ⊎ PrintsAsmFault text output))

@@ -1,4 +1,4 @@
--- Definitions: what the program prints of a journal (this profile).
+-- Definitions: what `fc audit` prints for a journal (source: this project).
 use Rattle.std.specs.Prelude.{◌≡◌, ◌≢◌, ◌⊎◌, ℕ, List, [], ◌++◌, length, codes, Option, Some, None}
 use Rattle.std.specs.Fmt.{decimal}
 use Rattle.decision_journal.specs.declared.entries.Entry.{Entry}
@@ -85,7 +85,7 @@ pub record PrintsJournalRefusal (config : ConfigValue) (text : List ℕ) (output
   pub status_is : output.status ≡ 1
   pub of : PrintsEntryOrTextFault config text output
 
--- The output is what `fc audit` prints of a text: the number of its entries if it is the journal of a history that a
--- site of this configuration can have, or else its fault.
+-- The output is what `fc audit` prints for a text: the number of entries, if the text is the journal of a history that
+-- a site of this configuration can have, or else the fault of the text (J1, J2) or of its entries (F1 to F3).
 abbrev pub JournalPrints : ConfigValue → List ℕ → JobOutput → Type 0
 JournalPrints config text output = PrintsLegalJournal config text output ⊎ PrintsJournalRefusal config text output

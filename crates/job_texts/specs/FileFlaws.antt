@@ -1,4 +1,4 @@
--- Definitions: why a program file is refused (this profile).
+-- Definitions: why a program file is refused (source: this project).
 use Rattle.std.specs.Prelude.{◌≡◌, ◌≢◌, ℕ, List, Some, Result, Ok, Err}
 use Rattle.bpf_model.specs.declared.context.Layout.{Layout}
 use Rattle.bpf_model.specs.Program.{as_loaded}
@@ -26,8 +26,8 @@ VerifyFlawOf read counters layout flaw = ⊥
 abbrev pub IsVerifyFlaw : List ℕ → ℕ → Layout → ProgramFlaw → Type 0
 IsVerifyFlaw file counters layout flaw = VerifyFlawOf (program_in file) counters layout flaw
 
--- `reported` is why the bytes can't be decoded as units. It has the line that `line_named` gives for the unit that the
--- fault names, if it names one and this unit has a line. The fault isn't that memory ran out.
+-- `reported` is why the bytes can't be decoded as units, with the line of the unit at fault (`line_named`) if there is
+-- one. The fault isn't that memory ran out.
 pub record IsUndecoded (bytes : List ℕ) (reported : RefusedProgram) : Type 0 where
   pub fault : DecodeFault
   pub refused : IsRefusedFor bytes fault

@@ -1,4 +1,4 @@
--- Definitions: what the program prints of a program file (this profile).
+-- Definitions: an output's text and exit status, and what `fc verify` prints for a program file (source: this project).
 use Rattle.std.specs.Prelude.{◌≡◌, ◌⊎◌, ℕ, ◌/◌, List, [], ◌++◌, length, codes, Option, Some, None, Result, Ok, Err, string_bytes}
 use Rattle.std.specs.Fmt.{decimal}
 use Rattle.bpf_model.specs.declared.context.Layout.{Layout}
@@ -34,7 +34,7 @@ pub record IsAcceptedAndGood (p : ProgramText) : Type 0 where
 abbrev pub PrintsAccepted : ProgramText → JobOutput → Type 0
 PrintsAccepted p output = IsAcceptedAndGood p × IsOutput output (codes "accepted " ++ decimal (length p.bytes / 8) ++ codes "\n") 0
 
--- The program is refused, and the numbers of its first fault are printed. What this fault claims about the program is
+-- The program is refused, and the numbers of the refusal are printed. What the refusal claims about the program is
 -- true.
 pub record PrintsRefusal (p : ProgramText) (output : JobOutput) : Type 0 where
   pub refusal : Refusal

@@ -1,4 +1,4 @@
--- Definitions: why a journal is refused (this profile).
+-- Definitions: why a journal is refused (source: this project).
 use Rattle.std.specs.Prelude.{◌≡◌, ◌<◌, ◌⊎◌, ◌++◌, ◌∷◌, [], ℕ, List, length, Option, Some, None}
 use Rattle.bpf_model.specs.Program.{as_loaded}
 use Rattle.till_request.specs.declared.act.Act.{Act}
@@ -26,8 +26,8 @@ pub record IsRejected (config : ConfigValue) (before : List Entry) (entry : Entr
   pub upholds : Upholds old
   pub rejects : Rejects old entry fault
 
--- A site of this configuration whose history is `before` has room for one more entry. The history of `new` is `before`
--- and then the entry that this site makes of the event of `entry`.
+-- `old` is a site of this configuration with the history `before`, and has room for one more entry. The history of
+-- `new` is `before` and then the entry that `old` makes of the event of `entry`.
 pub record AnsweredAfter (config : ConfigValue) (before : List Entry) (entry : Entry) (new : SiteValue) : Type 0 where
   pub old : SiteValue
   pub config_is : old.config ≡ config

@@ -1,4 +1,4 @@
--- Definitions: why a program is refused (this profile).
+-- Definitions: why a program is refused (source: this project).
 use Rattle.std.specs.Prelude.{◌≡◌, ◌≢◌, ◌==◌, ◌+◌, ◌*◌, nat_le, ℕ, ℤ, List, length, Option, Some, None, slice_get, if◌then◌else◌}
 use Rattle.std.specs.Prelude.{option_map, string_bytes}
 use Rattle.bpf_model.specs.declared.instruction.Unit.{Unit as ProgramUnit}
@@ -27,8 +27,9 @@ abbrev pub unit_in : Option (ℕ × (Option ℕ) × (Option ℕ)) → Option ℕ
 unit_in None = None
 unit_in (Some p) = p.1
 
--- The kind of value that a helper takes as argument 1 or 2, given the kinds of all its arguments. None if these kinds
--- are None, as there is no such helper. None also for any other argument.
+-- The kind of value that a helper takes as argument 1 or 2, given the list of the kinds of its arguments. This list is
+-- None if there is no such helper. The result is None if the list is None or has no such argument, and for any argument
+-- but 1 and 2.
 abbrev pub kind_among : Option (List Kind) → ℕ → Option Kind
 kind_among None argument = None
 kind_among (Some kinds) argument =
@@ -50,7 +51,8 @@ abbrev pub kind_wanted : List ProgramUnit → Refusal → Option Kind
 kind_wanted code (OfType (BadArgument unit argument)) = wanted_by (slice_get code unit) argument
 kind_wanted code refusal = None
 
--- `kind_wanted` for the units that bytes were decoded as; None if the bytes can't be decoded as units
+-- The kind of value that the argument named by a refusal must have, given the units of the refused program. The units
+-- are None if the program's bytes can't be decoded. The result is None in this case, and if `kind_wanted` gives None.
 abbrev pub wanted_in : Option (List ProgramUnit) → Refusal → Option Kind
 wanted_in None refusal = None
 wanted_in (Some code) refusal = kind_wanted code refusal
@@ -73,7 +75,8 @@ abbrev pub line_named : List ℕ → Option ℕ → Option (List ℕ)
 line_named bytes None = None
 line_named bytes (Some unit) = line_by (units bytes) bytes unit
 
--- The line and the kind of argument in `reported` are the ones that its refusal names in these bytes.
+-- `reported.line` is the line of the unit at fault (`line_named`), and `reported.wanted` is the kind that the argument
+-- at fault must have (`wanted_in`). Each is None if the refusal and these bytes give none.
 pub record Names (bytes : List ℕ) (reported : RefusedProgram) : Type 0 where
   pub line_is : option_map string_bytes reported.line ≡ line_named bytes (unit_in (refusal_numbers reported.refusal))
   pub wanted_is : reported.wanted ≡ wanted_in (units bytes) reported.refusal

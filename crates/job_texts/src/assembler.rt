@@ -53,11 +53,13 @@ fn asm_text(alloc: Global, text: &[u8]) -> Result<JobOutput, AllocError>
 }
 
 /// Returns what `fc asm` prints for an assembler text: the units of its program, each as a line of 16 hexadecimal
-/// digits, with status 0. For a text that is refused returns one line, with status 1:
+/// digits, with status 0. For a text that is refused returns one line, with status 1. It is `L1` if the text has over
+/// 65,536 bytes. Otherwise it is the line for the fault that `assemble` finds:
 ///
-/// - `L1`, if the text has over 65,536 bytes
-/// - otherwise the fault that `assemble` finds: `A1 LINE` (the line can't be parsed), `A2 LINE` (a label that is
-///   defined twice or not at all), `A3 LINE` (a number out of range) or `A4` (not 1 to 512 units). Lines count from 1.
+/// - `A1 LINE`: the text's line with this number can't be parsed. Lines count from 1.
+/// - `A2 LINE`: this line defines a label that an earlier line defines too, or jumps to a label that no line defines.
+/// - `A3 LINE`: a number in this line is out of range.
+/// - `A4`: the program doesn't have 1 to 512 units.
 ///
 /// The error is that memory ran out.
 pub fn asm_file(alloc: Global, text: &[u8]) -> Result<JobOutput, AllocError>

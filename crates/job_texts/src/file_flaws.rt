@@ -32,7 +32,8 @@ impl fmt::Display for ProgramFlaw {
     }
 }
 
-/// Returns a fault of a program file as a flaw. The error is that this fault is `OutOfMemory`.
+/// Returns a fault of a program file as a flaw. The error is that memory ran out. It is returned for the fault
+/// `OutOfMemory`, and for no other fault.
 fn file_flaw(fault: ProgramFileFault) -> Result<ProgramFlaw, AllocError>
     ensures flaw { IfOk result (λ flaw. flaw ≡ ProgramFlaw.File fault) }
     ensures fault { OnOk result (fault ≢ ProgramFileFault.OutOfMemory) }

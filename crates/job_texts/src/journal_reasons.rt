@@ -53,8 +53,8 @@ impl fmt::Display for JournalFlaw {
     }
 }
 
-/// Returns a site that has answered the events of the entries `before` and then the event of `entry`. A site of this
-/// configuration must be able to have the history `before`. If the event is a load, the verifier must accept its
+/// Returns a new site that has answered the events of the entries `before` and then the event of `entry`. A site of
+/// this configuration must be able to have the history `before`. If the event is a load, the verifier must accept its
 /// program. The result is `None` if the site's history is full before that event. The error is that memory ran out.
 fn answered_after(
     alloc: Global,
@@ -83,7 +83,7 @@ fn answered_after(
         moment: entry.moment,
         what,
     };
-    // This call gives the prover that the site upholds its invariant.
+    // This call tells the prover that the site upholds its invariant.
     let _ = site.history();
     match site.apply(event) {
         Ok(_) => Ok(Some(site)),
@@ -93,8 +93,8 @@ fn answered_after(
 }
 
 /// Returns how `entry` differs from the entry that the site makes of the same event after the entries `before`, or
-/// `NoEntry` if the site's history is full. An audit must refuse `entry` after `before`, with the fault `NotLegal` and
-/// this number. The error is that memory ran out.
+/// `NoEntry` if the site's history is full. `entry` must be one that an audit refuses after `before`, with the fault
+/// `NotLegal(number)`. The error is that memory ran out.
 fn entry_flaw(
     alloc: Global,
     config: Config,
@@ -143,8 +143,9 @@ fn load_flaw(alloc: Global, act: &Act, refusal: Refusal) -> Result<JournalFlaw, 
     }
 }
 
-/// Returns what is wrong with an entry. An audit must refuse the entry after the entries `before`, with this fault. The
-/// error is that memory ran out. The fault `OutOfMemory` gives this error too. For `BadNumber` there is no error.
+/// Returns what is wrong with `entry`, which must be one that an audit refuses after the entries `before`, with this
+/// fault. The error is that memory ran out. The fault `OutOfMemory` gives this error too. For `BadNumber` there is no
+/// error.
 fn fault_flaw(
     alloc: Global,
     config: Config,

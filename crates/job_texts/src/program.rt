@@ -25,9 +25,9 @@ fn accepted_output(alloc: Global, program: &Program) -> Result<JobOutput, AllocE
     numbered_output(alloc, "accepted", program.units() as u64, 0)
 }
 
-/// Returns the line for a refused program, with status 1: the verifier's fault (V1 to V20), its unit, and its register
-/// or argument, if it has these. The error is that memory ran out. A refusal because memory ran out has no line and
-/// gives this error too.
+/// Returns the line for a refused program, with status 1. The line has the verifier's fault (V1 to V20). Then follow
+/// the number of the unit, if the fault names a unit, and the number of the register or argument, if the fault names
+/// one. The error is that memory ran out. A refusal because memory ran out has no line and gives this error too.
 pub(crate) fn program_refusal_output(
     alloc: Global,
     refusal: Refusal,

@@ -64,8 +64,8 @@ impl fmt::Display for UnitAtFault {
     }
 }
 
-/// The line of the unit at fault, if there is one. `Display` writes it without the white space at its end, such as its
-/// LF, and with `: ` after it, or writes nothing if there is none.
+/// The line of the unit at fault, if there is one. `Display` writes the line without the white space (such as an LF) at
+/// its end, and then `: `. It writes nothing if there is no line.
 #[derive(Clone, Copy)]
 struct LineAtFault<'a>(&'a Option<String>);
 
@@ -82,8 +82,8 @@ impl fmt::Display for LineAtFault<'_> {
     }
 }
 
-/// A refusal. If an argument of a helper (a function that programs can call) is at fault, also the kind that this
-/// argument must have. `Display` writes in words what is wrong.
+/// A refusal, and the kind that an argument of a helper must have, if such an argument is at fault. A helper is a
+/// function that programs can call. `Display` writes in words what is wrong.
 #[derive(Clone, Copy)]
 struct Wrong(Refusal, Option<Kind>);
 
@@ -126,7 +126,8 @@ impl RefusedProgram {
     }
 }
 
-/// Returns the number of the unit that a refusal names, or `None` if it names none.
+/// Returns the number of the unit (an instruction slot of 8 bytes, counted from 0) that a refusal names, or `None` if
+/// it names none.
 fn unit_of(refusal: Refusal) -> Option<u32>
     ensures { result ≡ unit_in (refusal_numbers refusal) }
 {
@@ -146,9 +147,10 @@ fn digits_of(alloc: Global, bytes: &[u8], unit: u32) -> Result<Option<String>, A
     }
 }
 
-/// Returns the kind that a helper takes as the argument that `refusal` names. The helper's number is the immediate of
-/// the instruction at the refusal's unit. Returns `None` if the refusal names no argument, if no instruction begins at
-/// its unit, or if there is no such helper or argument.
+/// Returns the kind of value that a helper must be given as one of its arguments. `refusal` names the argument, and a
+/// unit (an instruction slot of 8 bytes, counted from 0). The helper's number is the immediate of the instruction at
+/// this unit. Returns `None` if `refusal` names no argument, if no instruction begins at the unit, or if there is no
+/// such helper or argument.
 fn wanted_by(code: &Code, refusal: Refusal) -> Option<Kind>
     ensures { result ≡ kind_wanted code.now refusal }
 {
@@ -161,8 +163,8 @@ fn wanted_by(code: &Code, refusal: Refusal) -> Option<Kind>
     }
 }
 
-/// Returns the kind that a helper takes as argument 1 or 2, or `None` for another argument or if there is no such
-/// helper.
+/// Returns the kind of value that a helper must be given as argument 1 or 2. Returns `None` for another argument, or if
+/// there is no helper with the number `helper`.
 fn kind_of(helper: i32, argument: u32) -> Option<Kind>
     ensures { result ≡ wanted_at helper argument }
 {
@@ -198,10 +200,15 @@ fn units_of(alloc: Global, bytes: &[u8]) -> Result<Option<Code>, AllocError>
     }
 }
 
-/// Returns `refusal` and the line of the unit that it names. The line is the unit's instruction, or the unit's
-/// hexadecimal digits if `bytes` don't decode. It is `None` if they have no such instruction or unit. If an argument of
-/// a helper is at fault, also returns the kind that the helper takes as this argument. The error is that memory ran
-/// out. If the refusal names no unit, the line is `None`, and there is no error.
+/// Returns `refusal` with a line and a kind:
+///
+/// - The line is that of the unit that `refusal` names: the instruction there, or the unit's hexadecimal digits if
+///   `bytes` don't decode. It is `None` if `refusal` names no unit, or if `bytes` have no such instruction or unit.
+/// - The kind is that of the value which a helper takes as the argument at fault. It is `None` if `refusal` names no
+///   argument, if `bytes` don't decode, if no instruction begins at the unit, or if there is no such helper or
+///   argument.
+///
+/// The error is that memory ran out. For a refusal that names no unit there is no error.
 pub fn explain_refusal(
     alloc: Global,
     bytes: &[u8],

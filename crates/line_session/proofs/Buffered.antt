@@ -1,5 +1,7 @@
--- Answers wait in a buffer until they are written together. These lemmas say what holds of a session's lines and
--- answers while answers wait, after a write, and when the session ends or fails.
+-- While answers wait in a buffer, the promises of a session hold for the written bytes and the buffered bytes together.
+-- Once all buffered bytes are written, these promises hold for the output, with `StopsAtDoor` in place of `Stops`. If a
+-- write fails, `Breaks` holds for the output. If a read fails, `StopsAtDoor` holds although the buffered bytes aren't
+-- written.
 use Rattle.std.proofs.Common.{◌≡◌, ◌≢◌, ◌⊎◌, ℕ, ◌+◌, List, [], ◌∷◌, ◌++◌, Option, Some, None, Result, Ok, Err, IfOk, IfErr, OnErr, refl, sym, ◌∙◌, ap, subst, append_assoc, append-nil}
 use Rattle.std.proofs.Common.{inl, inr}
 use Rattle.std.specs.List.{flat_map}
@@ -245,8 +247,7 @@ module _ {C D : Type 0} (answers_with : C × D → List ℕ → List ℕ → C �
       stops_waiting fault s m i k o p pending w is =
           (part_out s m i k o p (w.sent ++ pending) w.sent pending w.as_if_out.0 refl w.out, w.as_if_out.1, λ e. absurd (e is), w.as_if_out.3)
 
-      -- Let `fault` be a failed read or write. If it isn't a write, and `Stops` holds for what was written and what is
-      -- buffered, then `StopsAtDoor` holds without a further write.
+      -- `stops_waiting` for a device's fault (a failed read or a failed write), if it isn't a failed write
       pub stops_off : (fault : SessionFault) (s m : C × D) (i k o p : Option (List ℕ)) (pending : List ℕ) → (fault ≡ session.Read) ⊎ (fault ≡ session.Write)
           → (fault ≢ session.Write → HoldsWithBuffered (Stops answers_with drops needs_memory fault s m i k) o p pending) → fault ≢ session.Write
           → StopsAtDoor answers_with drops needs_memory fault s m i k o p

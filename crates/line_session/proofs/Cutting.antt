@@ -32,8 +32,6 @@ first_lf (b ∷ k) (c ∷ l) x y h g e =
     let head : b ≡ c = cc in
     (ap₂ (λ p q. p ∷ q) head t.0, t.1)
 
--- Let `l` be the first of some lines, and `a` the bytes of the other lines. If `r` and `rest` come after the lines,
--- then all bytes together are `l`, an LF, and then `a`, `r` and `rest`.
 line_first : (l a r rest : List ℕ) → ((with_lf l ++ a) ++ r) ++ rest ≡ l ++ 10 ∷ ((a ++ r) ++ rest)
 line_first l a r rest =
     ap (λ t. (t ++ r) ++ rest) (append_assoc l (10 ∷ []) a) ∙ ap (λ t. t ++ rest) (append_assoc l (10 ∷ a) r) ∙ append_assoc l (10 ∷ (a ++ r)) rest
@@ -52,7 +50,8 @@ no_more (Some line.BadLine) r k rest x h l e = h
 no_more (Some line.BadNumber) r k rest x h l e = h
 no_more (Some line.OutOfMemory) r k rest x h l e = h
 
--- if a session ends with this fault of its last line, or with none, n bytes can come after the last whole line
+-- `Size cut n`: if a session ends with the fault `cut` of a line, or without one (None), then its input can have n
+-- bytes after the last whole line that the session read
 abbrev Size : Option LineFault → ℕ → Type 0
 Size None n = n ≡ 0
 Size (Some line.TooLong) n = 8401 ≤ n

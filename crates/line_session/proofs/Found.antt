@@ -17,7 +17,7 @@ cut_found TooLong old now line other h = (h.0, h.1, (h.2, h.3))
 cut_found Cut old now line other h = (h.0, h.1, (h.2, h.3, h.4))
 cut_found End old now line other h = ([], h.0, (refl, h.1))
 
--- if the only possible fault of a result is a failed write, then what is claimed for all other faults holds
+-- if the only possible fault of a result is a failed write, then each claim about other faults holds, as there are none
 module _ {T : Type 0} where
   pub write_alone : (r : Result T SessionFault) (P : SessionFault → Type 0) → IfErr r (λ e. e ≡ session.Write)
       → IfErr r (λ e. e ≢ session.Write → P e)

@@ -1,6 +1,6 @@
--- A mapping gives, for each state of a session, what a caller sees of this state. An answer to a line, or a line left
--- without an answer, leads from one state to another. If it also leads from what the caller sees of the one state to
--- what the caller sees of the other, then the promises about a session or a worker hold for what the caller sees too.
+-- Let a caller see `f s` of each state s of a session. Let each step of the session, from s to s', be a step from `f s`
+-- to `f s'` for the caller. A step is an answer to a line, or a line left without an answer. Then the promises about a
+-- session or a worker also hold for what the caller sees.
 use Rattle.std.proofs.Common.{◌≡◌, ◌⊎◌, ℕ, List, [], ◌∷◌, Option, Some, None, Result, Ok, Err, ap, inl, inr}
 use Rattle.till_request.specs.declared.act.Act.{Act}
 use Rattle.till_request.specs.declared.act.Role.{Role}

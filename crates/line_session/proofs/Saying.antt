@@ -1,5 +1,5 @@
--- These lemmas say what a session has read, answered and written, after each line and when it ends (`Ends`), breaks off
--- (`Breaks`) or stops (`Stops`).
+-- A session fulfils its promises: `AnswersLines` after each line, `Ends` at its end, `Breaks` if it fails, and also
+-- `Stops` if it fails but no write failed.
 use Rattle.std.proofs.Common.{◌≡◌, ℕ, ◌+◌, List, [], ◌∷◌, ◌++◌, take, drop, Option, Some, None, Result, Ok, Err, IfOk, OnErr, refl, sym, ◌∙◌, ap, subst, arith, append_assoc, append-nil}
 use Rattle.std.proofs.Common.{length-append, inl, inr}
 use Rattle.std.specs.List.{flat_map, AllByRecursion}

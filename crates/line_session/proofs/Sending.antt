@@ -1,5 +1,5 @@
--- Bytes are to be written, and then a text. If only a beginning of them is written, then the rest is lost: the rest of
--- the text, or the rest of the bytes and the whole text.
+-- Bytes are written, and then a text. If a write of the bytes fails, then their rest and the whole text are lost. If a
+-- write of the text fails, then its rest is lost.
 use Rattle.std.proofs.Common.{◌≡◌, ℕ, List, [], ◌++◌, take, drop, Option, sym, ◌∙◌, ap, append_assoc, append-nil}
 use Rattle.std.specs.Io.KnownBytes.{Appends}
 use Rattle.std.proofs.lemmas.List.{take-append-drop}
@@ -18,7 +18,7 @@ lost_behind o p bytes text h =
 all_sent : (o p : Option (List ℕ)) (bytes : List ℕ) (s : Sends bytes [] o p) → s.sent ≡ bytes
 all_sent o p bytes s = sym (append-nil s.sent) ∙ s.in_order
 
--- if all of the bytes were written, followed by a text, then the bytes and the text were written
+-- if all of the bytes were written, followed by the whole text, then nothing is lost
 pub text_behind : (o p q : Option (List ℕ)) (bytes text : List ℕ) → Sends bytes [] o p → Appends p q text → Sends (bytes ++ text) [] o q
 text_behind o p q bytes text s w =
     let e = all_sent o p bytes s in

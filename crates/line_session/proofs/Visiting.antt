@@ -1,5 +1,5 @@
 -- A worker that has served some connections and then serves one more has served all of them.
-use Rattle.std.proofs.Common.{◌≡◌, ℕ, ◌+◌, List, [], ◌∷◌, ◌++◌, refl, arith, length-append}
+use Rattle.std.proofs.Common.{◌≡◌, ℕ, ◌+◌, List, [], ◌∷◌, ◌++◌, None, refl, subst, arith, length-append}
 use Rattle.line_session.specs.Serving.{Outcome, ServesConnections, Serves, good, one_good}
 
 good_more : (outcomes : List Outcome) (outcome : Outcome) → good (outcomes ++ outcome ∷ []) ≡ good outcomes + one_good outcome
@@ -20,3 +20,9 @@ module _ {D S : Type 0} (serves_connection : Outcome → D → S → D → S →
     all_asked = omega (arith, length-append h.outcomes (outcome ∷ []), h.all_asked);
     counted = omega (arith, good_more h.outcomes outcome, h.counted, is);
   }
+
+  -- a connection that couldn't be opened counts as served, but not as ended without a SessionFault
+  pub serves_unopened : (asked clean : ℕ) (d : D) (s : S) (m : D) (t : S) (d' : D) (s' : S)
+      → Serves serves_connection asked clean d s m t → serves_connection None m t d' s' → Serves serves_connection (asked + 1) clean d s d' s'
+  serves_unopened asked clean d s m t d' s' h k =
+      subst (λ n. Serves serves_connection (asked + 1) n d s d' s') (omega arith) (serves_more asked clean 0 d s m t d' s' None h k refl)

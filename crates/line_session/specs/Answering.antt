@@ -1,9 +1,13 @@
 -- Promises: the answers to lines, one after another. The input is split at LF. Each line in order is answered with one
 -- text, in the state to which the lines before it led. A line that is too long, or a last one without LF, is answered
--- with its fault, and ends the session. `answers_with`, `drops` and `needs_memory` are those of the session's
--- `LineHandler`. s and s' are the states of its clock and desk before and after. `in_old` and `in_new` are the bytes
--- that are still to be read, before and after, and `out_old` and `out_new` all bytes that were written by then; None if
--- proofs don't know them.
+-- with its fault, and ends the session.
+--
+-- What the arguments are:
+-- - `answers_with`, `drops` and `needs_memory` are those of the session's `LineHandler`.
+-- - s and s' are the states of the handler's clock and desk, before and after.
+-- - `in_old` and `in_new` are the bytes that are still to be read, before and after, or None if they aren't known.
+-- - `out_old` and `out_new` are all bytes that had been written by then, before and after, or None if they aren't
+--   known.
 use Rattle.std.specs.Prelude.{◌≡◌, ◌≢◌, ◌⊎◌, ℕ, ◌<◌, ◌≤◌, List, [], ◌∷◌, ◌++◌, ◌+◌, length, take, Option, Some, None, Result, Ok, Err, Bool, true, false}
 use Rattle.std.specs.Io.KnownBytes.{Appends, Consumes, IsAtEnd}
 use Rattle.std.specs.List.{flat_map, AllByRecursion}
@@ -36,8 +40,8 @@ pub record Dropped {S O : Type 0} (drops : S → List ℕ → S → Type 0) (lin
   pub drops_it : drops s line s'
   pub output : o' ≡ o
 
--- The `drops` of a handler for which `Dropped` never holds. Such a handler leaves a line without an answer only as
--- `RunsOutOfMemory` says: the line needs memory, which ran out, and nothing changed.
+-- The `drops` of a handler that leaves a line without an answer in one case alone: the line needs memory, memory ran
+-- out, and nothing changed (`RunsOutOfMemory`).
 abbrev pub drops_none : {S : Type 0} → HandlerError → S → List ℕ → S → Type 0
 drops_none why s line s' = ⊥
 
@@ -47,10 +51,13 @@ pub record RunsOutOfMemory {S O : Type 0} (needs_memory : List ℕ → Type 0) (
   pub state : s' ≡ s
   pub output : o' ≡ o
 
--- Why the whole answer to `line` wasn't written. `Write`: the write failed after a beginning of the answer.
--- `OutOfMemory`: the line needed memory and changed nothing, or was dropped (left without an answer) because memory ran
--- out. `Journal`: the line was dropped because the journal failed. s and s' are the states before and after the line, o
--- and o' the outputs, and `out` gives all bytes that were written to an output.
+-- Why the whole answer to `line` wasn't written:
+-- - `Write`: the write failed after a beginning of the answer.
+-- - `OutOfMemory`: memory ran out. Either the line needed it and changed nothing, or the line was dropped (left without
+--   an answer).
+-- - `Journal`: the journal failed, and the line was dropped.
+-- s and s' are the states before and after the line, o and o' the outputs. `out` gives all bytes that were written to
+-- an output.
 abbrev pub HandlerFails : {S O : Type 0} → (S → List ℕ → List ℕ → S → Type 0) → (HandlerError → S → List ℕ → S → Type 0) → (List ℕ → Type 0)
     → (O → Option (List ℕ)) → HandlerError → List ℕ → S → S → O → O → Type 0
 HandlerFails answers_with drops needs_memory out error.Write line s s' o o' = WritesAnswerFront answers_with line s s' (out o) (out o')
@@ -76,8 +83,8 @@ AnswersAll {S} answers_with (line ∷ lines) s (text ∷ texts) s' = (m : S) × 
 AnswersAll answers_with [] s (text ∷ texts) s' = ⊥
 AnswersAll answers_with (line ∷ lines) s [] s' = ⊥
 
--- `count` lines were read and answered; after these lines the bytes `rest` were read, and after their answers the bytes
--- `more` were written
+-- `count` lines were read and answered. After these lines the bytes `rest` were read. After the answers the bytes
+-- `more` were written.
 pub record AnswersLines {S : Type 0} (answers_with : S → List ℕ → List ℕ → S → Type 0) (s s' : S) (in_old in_new out_old out_new : Option (List ℕ)) (count : ℕ)
     (rest more : List ℕ) : Type 0 where
   pub lines : List (List ℕ)
@@ -88,9 +95,11 @@ pub record AnswersLines {S : Type 0} (answers_with : S → List ℕ → List ℕ
   pub written : Appends out_old out_new (all_texts texts ++ more)
   pub counted : count ≡ length texts
 
--- How a session's input ended: `rest` is what was read after the last whole line. Without a fault (None) `rest` is
--- empty, and the input has ended. `TooLong`: `rest` is the first 8,401 bytes of a line that is too long. `CutLine`:
--- `rest` is a last line without LF, and the input has ended. No other fault ends an input.
+-- How a session's input ended. `rest` is what was read after the last whole line.
+-- - None (no fault): `rest` is empty, and the input has ended.
+-- - `TooLong`: `rest` is the first 8,401 bytes of a line that is too long.
+-- - `CutLine`: `rest` is a last line without LF, and the input has ended.
+-- No other fault ends an input.
 abbrev pub IsCut : Option LineFault → Option (List ℕ) → List ℕ → Type 0
 IsCut None in_new rest = (rest ≡ []) × IsAtEnd in_new
 IsCut (Some line.TooLong) in_new rest = HasNoLf rest × (length rest ≡ 8401)
@@ -109,8 +118,9 @@ abbrev pub cut_count : Option LineFault → ℕ
 cut_count None = 0
 cut_count (Some fault) = 1
 
--- The session ended without a failure: all lines were answered, and all `count` answers were written. `cut` is the
--- fault of the last line, if it is too long or has no LF; the answer to this fault is counted too.
+-- The session ended without a failure. All lines that it read were answered, and all `count` answers were written. If
+-- the last of these lines is too long or has no LF, `cut` is its fault, and `count` includes the answer to this fault.
+-- Otherwise `cut` is None, and the input has ended.
 pub record Ends {S : Type 0} (answers_with : S → List ℕ → List ℕ → S → Type 0) (s s' : S) (in_old in_new out_old out_new : Option (List ℕ)) (count : ℕ)
     (cut : Option LineFault) : Type 0 where
   pub answered : ℕ
@@ -139,8 +149,8 @@ DropsFor drops why s s' rest = (line : List ℕ) × IsLine line × (rest ≡ wit
 abbrev pub DropsNext : {S : Type 0} → (HandlerError → S → List ℕ → S → Type 0) → S → S → List ℕ → Type 0
 DropsNext drops s s' rest = (s' ≡ s) ⊎ ((why : HandlerError) × DropsFor drops why s s' rest)
 
--- the session failed, and of all its answers (to the lines, and to the fault of the last line if it has one) a
--- beginning was written
+-- The session failed. What was written is a beginning of the text of all its answers: those to the lines, in order, and
+-- then the one to the fault of the last line, if it has one.
 pub record Breaks {S : Type 0} (answers_with : S → List ℕ → List ℕ → S → Type 0) (drops : HandlerError → S → List ℕ → S → Type 0) (s s' : S)
     (in_old in_new out_old out_new : Option (List ℕ)) : Type 0 where
   pub lines : List (List ℕ)
@@ -158,21 +168,25 @@ pub record Breaks {S : Type 0} (answers_with : S → List ℕ → List ℕ → S
   pub written : Appends out_old out_new front
   pub begins : all_texts texts ++ cut_line cut ≡ front ++ after
 
--- after state s no line was handled, and at most a beginning of the next line was read, which is `rest`
+-- `rest` is what was read of the next line, perhaps nothing. The LF of this line wasn't read. The line wasn't handled,
+-- so s' is s.
 abbrev pub ReadsOn : {S : Type 0} → S → S → List ℕ → Type 0
 ReadsOn s s' rest = (s' ≡ s) × IsLine rest
 
--- Memory ran out at the next line, of which `rest` was read, in one of three ways. The line wasn't read whole, and
--- nothing changed. Or it was read whole, needs memory, and changed nothing. Or it was read whole, and dropped (left
--- without an answer), which led from state s to s'.
+-- Memory ran out at the next line, of which `rest` was read. There are three cases:
+-- - The line wasn't read whole, and nothing changed.
+-- - The line was read whole, needs memory, and changed nothing.
+-- - The line was read whole and dropped (left without an answer), which led from state s to s'.
 abbrev pub RunsOutAtNextLine : {S : Type 0} → (HandlerError → S → List ℕ → S → Type 0) → (List ℕ → Type 0) → S → S → List ℕ → Type 0
 RunsOutAtNextLine drops needs_memory s s' rest =
     ReadsOn s s' rest ⊎ ((line : List ℕ) × IsLine line × (rest ≡ with_lf line) × (((s' ≡ s) × needs_memory line) ⊎ drops error.OutOfMemory s line s'))
 
--- Why a session failed, if no write failed. `Read`: a read of the next line failed. `ReadsSpent`: the next line needs
--- more reads than the session is allowed to make. `OutOfMemory`: memory ran out at the next line, as
--- `RunsOutAtNextLine` says. `Journal`: the next line was dropped (left without an answer) because the journal failed. s
--- is the state after the last answered line, s' the state at the end, and `rest` is what was read between them.
+-- Why a session failed, if no write failed:
+-- - `Read`: a read of the next line failed.
+-- - `ReadsSpent`: the next line needs more reads than the session is allowed to make.
+-- - `OutOfMemory`: memory ran out at the next line (`RunsOutAtNextLine`).
+-- - `Journal`: the journal failed, and the next line was dropped (left without an answer).
+-- s is the state after the last answered line, s' the state at the end, and `rest` is what was read after that line.
 abbrev pub StopsFor : {S : Type 0} → (HandlerError → S → List ℕ → S → Type 0) → (List ℕ → Type 0) → SessionFault → S → S → List ℕ → Type 0
 StopsFor drops needs_memory session.Write s s' rest = ⊥
 StopsFor drops needs_memory session.Read s s' rest = ReadsOn s s' rest
@@ -219,12 +233,13 @@ is_write_fault (Err error.Write) = true
 is_write_fault (Err error.OutOfMemory) = false
 is_write_fault (Err error.Journal) = false
 
--- the most reads that a session makes (this profile)
+-- the most reads that a session makes (source: this project)
 abbrev pub session_reads : ℕ
 session_reads = 67108864
 
--- At most `most` reads were made, each of one byte; exactly `most` if the session needed more (`ReadsSpent`). The last
--- four arguments are the number of reads before and after, and the number of bytes asked for before and after.
+-- The session made k reads, and asked for k bytes in all. k is at most `most`. If the session failed because it needed
+-- more reads (`ReadsSpent`), k is `most`. The last four arguments are the number of reads before and after, and the
+-- number of bytes asked for before and after.
 abbrev pub SpendsReads : {T : Type 0} → ℕ → Result T SessionFault → ℕ → ℕ → ℕ → ℕ → Type 0
 SpendsReads most result reads_old reads_new asked_old asked_new =
     (k : ℕ) × (k ≤ most) × RoseBy k reads_old reads_new × (result ≡ Err session.ReadsSpent → k ≡ most) × RoseBy k asked_old asked_new

@@ -1,10 +1,13 @@
 -- Promises: the answers of a session while some of them are buffered to be written together.
-use Rattle.std.specs.Prelude.{◌≡◌, ◌⊎◌, ℕ, List, [], ◌++◌, Option, Some}
+use Rattle.std.specs.Prelude.{◌≡◌, ◌⊎◌, ℕ, List, [], ◌++◌, Option, Some, false}
 use Rattle.std.specs.Io.KnownBytes.{Appends}
+use Rattle.till_request.specs.declared.act.Answer.{Answer}
+use Rattle.till_request.specs.Answer.{answer_line}
 use Rattle.line_session.specs.declared.line_handler.HandlerError.{HandlerError}
 use Rattle.line_session.specs.declared.line_handler.HandlerError.TheVariants as error
 use Rattle.line_session.specs.declared.answering.SessionFault.{SessionFault}
 use Rattle.line_session.specs.declared.answering.SessionFault.TheVariants as session
+use Rattle.line_session.specs.Session.{IsUnwritten, ends_unwritten}
 
 -- a beginning of `bytes` was written, and `rest`, which is all bytes after it, was not
 pub record Sends (bytes rest : List ℕ) (out_old out_new : Option (List ℕ)) : Type 0 where
@@ -12,8 +15,8 @@ pub record Sends (bytes rest : List ℕ) (out_old out_new : Option (List ℕ)) :
   pub out : Appends out_old out_new sent
   pub in_order : sent ++ rest ≡ bytes
 
--- The promise `promise` holds for all bytes that were written or are buffered, as if they had been written to an empty
--- output.
+-- `promise` holds for an output that is empty at first, and at the end has the bytes that were written between
+-- `out_old` and `out_new`, followed by the buffered bytes `pending`.
 pub record HoldsWithBuffered (promise : Option (List ℕ) → Option (List ℕ) → Type 0) (out_old out_new : Option (List ℕ)) (pending : List ℕ) : Type 0 where
   pub sent : List ℕ
   pub as_if_out : promise (Some []) (Some (sent ++ pending))
@@ -41,9 +44,25 @@ pub record Keeps (pending after : List ℕ) (out_old out_new : Option (List ℕ)
   pub waits : after ≡ pending
   pub out : out_new ≡ out_old
 
--- Why the answer to a line is neither written whole nor buffered. `Write`: a write failed, and the rest of the buffered
--- bytes and the answer is lost. `OutOfMemory`: the line needed memory and changed nothing, or was dropped (left without
--- an answer) because memory ran out. `Journal`: the line was dropped because the journal failed.
+-- Why an answer is neither written whole nor buffered:
+-- - `Write`: a write failed. Of the buffered bytes and the answer after them, a beginning was written, and the rest is
+--   lost.
+-- - `OutOfMemory` or `Journal`: the answer is the one that ends the session with this error. It isn't written, and the
+--   buffer is unchanged.
+abbrev pub IsUnbuffered : SessionFault → Answer → List ℕ → List ℕ → Option (List ℕ) → Option (List ℕ) → Type 0
+IsUnbuffered session.Write answer pending after out_old out_new =
+    (ends_unwritten answer ≡ false) × (lost : List ℕ) × Sends (pending ++ answer_line answer) lost out_old out_new
+IsUnbuffered session.OutOfMemory answer pending after out_old out_new = IsUnwritten error.OutOfMemory answer × Keeps pending after out_old out_new
+IsUnbuffered session.Journal answer pending after out_old out_new = IsUnwritten error.Journal answer × Keeps pending after out_old out_new
+IsUnbuffered session.Read answer pending after out_old out_new = ⊥
+IsUnbuffered session.ReadsSpent answer pending after out_old out_new = ⊥
+
+-- Why the answer to a line is neither written whole nor buffered:
+-- - `Write`: a write failed. Of the buffered bytes and the answer after them, a beginning was written, and the rest is
+--   lost.
+-- - `OutOfMemory`: memory ran out. Either the line needed it and changed nothing, or the line was dropped (left without
+--   an answer). The buffer is unchanged, and nothing was written.
+-- - `Journal`: the journal failed, and the line was dropped. The buffer is unchanged, and nothing was written.
 abbrev pub FailsToBuffer : {S : Type 0} → (S → List ℕ → List ℕ → S → Type 0) → (HandlerError → S → List ℕ → S → Type 0) → (List ℕ → Type 0) → SessionFault
     → List ℕ → S → S → List ℕ → List ℕ → Option (List ℕ) → Option (List ℕ) → Type 0
 FailsToBuffer answers_with drops needs_memory session.Write line s s' pending after out_old out_new = LosesSome answers_with line s s' pending out_old out_new

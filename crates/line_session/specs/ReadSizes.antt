@@ -26,8 +26,8 @@ abbrev pub IsDetermined : {S : Type 0} → (S → List ℕ → List ℕ → S �
 IsDetermined {S} answers_with =
     (s : S) (line text other : List ℕ) (m n : S) → answers_with s line text m → answers_with s line other n → ¬ IsOutOfMemoryText text → ¬ IsOutOfMemoryText other → (text ≡ other) × (m ≡ n)
 
--- two sessions wrote the same, ended in the same state, answered the same number of lines, and ended with the same
--- fault of a line, if any
+-- two sessions wrote the same, ended in the same state, gave the same number of answers, and ended with the same fault
+-- of a line, or both without one
 pub record EndAlike {S : Type 0} (s t : S) (out_s out_t : List ℕ) (count_s count_t : ℕ) (cut_s cut_t : Option LineFault) : Type 0 where
   pub state : s ≡ t
   pub written : out_s ≡ out_t

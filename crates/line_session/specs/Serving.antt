@@ -23,7 +23,7 @@ one_good None = 0
 one_good (Some (Err fault)) = 0
 one_good (Some (Ok ended)) = 1
 
--- how many of these connections ended without a SessionFault
+-- how many of these connections had a session that ended without a SessionFault
 abbrev pub good : List Outcome → ℕ
 good [] = 0
 good (outcome ∷ outcomes) = one_good outcome + good outcomes
@@ -47,7 +47,7 @@ pub record RunsSession {S I O : Type 0} (answers_with : S → List ℕ → List 
   pub stopped : IfErr result
       (λ fault. fault ≢ Write → StopsAtDoor answers_with drops needs_memory fault s s' (remaining i) (remaining input) (written o) (written output))
 
--- `RunsSession` holds for a session of this role with a desk and a clock
+-- a session of this role, with a desk and a clock, had this result (`RunsSession`)
 abbrev pub RunsDeskSession : {C D I O : Type 0} → (D → Act → ℕ → Answer → D → Type 0) → (C → ℕ → C → Type 0) → Role → (I → Option (List ℕ)) → (I → ℕ) → (I → ℕ)
     → (O → Option (List ℕ)) → (O → ℕ) → Result Ended SessionFault → I → O → C × D → C × D → Type 0
 RunsDeskSession step tick role = RunsSession (desk_answers step tick role) (desk_drops step tick role) (desk_needs_memory role)
@@ -59,7 +59,8 @@ abbrev pub ServesConnection : {D S I O : Type 0} → (D → I → O → D → Ty
 ServesConnection opens fails reported runs_session None d s d' s' = fails d d' × (s' ≡ s)
 ServesConnection {D} {S} {I} {O} opens fails reported runs_session (Some result) d s d' s' = (i : I) × (o : O) × opens d i o d' × runs_session result i o s s' × reported d' result
 
--- these connections came one after another, and `ServesConnection` holds for each
+-- Connections with these outcomes came one after another, and `serves_connection` holds for each. This led the doors
+-- from state d to d', and the clock and the desk of the sessions from state s to s'.
 abbrev pub ServesConnections : {D S : Type 0} → (Outcome → D → S → D → S → Type 0) → List Outcome → D → S → D → S → Type 0
 ServesConnections serves_connection [] d s d' s' = (d' ≡ d) × (s' ≡ s)
 ServesConnections {D} {S} serves_connection (outcome ∷ outcomes) d s d' s' = (m : D) × (t : S) × serves_connection outcome d s m t × ServesConnections serves_connection outcomes m t d' s'

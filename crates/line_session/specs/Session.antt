@@ -1,7 +1,7 @@
--- Definitions: the answers of a desk to lines (this profile). The act of a line is answered at the moment that the
--- clock gives for it. A line that can't be read as an act is answered with its fault, and then neither the clock nor
--- the desk is asked. If the desk says that memory ran out at a line, or that the journal failed, no answer to this line
--- is written, and the session ends.
+-- Definitions: the answers of a desk to lines (source: this project). The act of a line is answered at the moment that
+-- the clock gives for it. A line that can't be read as an act is answered with its fault, and then neither the clock
+-- nor the desk is asked. If the desk says that memory ran out at a line, or that the journal failed, no answer to this
+-- line is written, and the session ends.
 use Rattle.std.specs.Prelude.{◌≡◌, ℕ, List, take, Option, Result, Ok, Err, Bool, true, false}
 use Rattle.std.specs.Io.KnownBytes.{Appends}
 use Rattle.till_request.specs.declared.act.Act.{Act}
@@ -27,12 +27,12 @@ ends_unwritten (Line fault.OutOfMemory) = true
 ends_unwritten JournalFailed = true
 ends_unwritten answer = false
 
--- the answer has a line, and this line was written
+-- the answer is one that gets a line (`ends_unwritten` is false), and this line was written
 pub record Writes {O : Type 0} (took : O → Option (List ℕ)) (answer : Answer) (o o' : O) : Type 0 where
   pub has_line : ends_unwritten answer ≡ false
   pub written : Appends (took o) (took o') (answer_line answer)
 
--- the answer has a line, and a beginning of this line was written
+-- the answer is one that gets a line (`ends_unwritten` is false), and a beginning of this line was written
 pub record WritesFront {O : Type 0} (took : O → Option (List ℕ)) (answer : Answer) (o o' : O) : Type 0 where
   pub has_line : ends_unwritten answer ≡ false
   pub kept : ℕ
@@ -44,8 +44,10 @@ IsUnwritten error.Write answer = ⊥
 IsUnwritten error.OutOfMemory answer = answer ≡ Line fault.OutOfMemory
 IsUnwritten error.Journal answer = answer ≡ JournalFailed
 
--- Why an answer isn't written in full. The device failed, and a beginning of the answer's line was written. Or the
--- answer has no line, and nothing was written.
+-- Why an answer isn't written in full:
+-- - `Write`: the answer gets a line, but the write failed after a beginning of the line.
+-- - `OutOfMemory` or `Journal`: the answer is the one that gets no line for this reason (`IsUnwritten`), and nothing
+--   was written.
 abbrev pub StaysUnwritten : {O : Type 0} → (O → Option (List ℕ)) → HandlerError → Answer → O → O → Type 0
 StaysUnwritten took error.Write answer o o' = WritesFront took answer o o'
 StaysUnwritten took error.OutOfMemory answer o o' = IsUnwritten error.OutOfMemory answer × (o' ≡ o)

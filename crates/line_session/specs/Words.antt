@@ -1,4 +1,4 @@
--- Definitions: the words for why a session failed (this profile).
+-- Definitions: the words for why a session failed (source: this project).
 use Rattle.std.specs.Prelude.{ℕ, List, codes}
 use Rattle.line_session.specs.declared.answering.SessionFault.{SessionFault}
 use Rattle.line_session.specs.declared.answering.SessionFault.TheVariants.{Read, Write, ReadsSpent, OutOfMemory, Journal}

@@ -38,7 +38,7 @@ pub enum SessionFault {
     ReadsSpent,
     OutOfMemory,
     /// The journal failed, and the site takes no further event. The last line that was read has no answer, or only a
-    /// beginning of its answer was written. This can be so for lines before it too.
+    /// beginning of its answer was written. The answers to lines before it can also be missing or cut short.
     Journal,
 }
 
@@ -137,7 +137,6 @@ fn end<O: LineOut>(
 /// fault, and the session ends there too. The error is that a read or a write failed, that a read is needed and `left`
 /// is 0, that memory ran out, or that the journal failed. An answer is written in part only if a write fails.
 pub fn answer_lines_within<I: LineIn, O: LineOut, C, D, S: LineHandler<C, D>>(
-    alloc: Global,
     input: &mut I,
     output: &mut O,
     handler: &S,
@@ -169,11 +168,12 @@ pub fn answer_lines_within<I: LineIn, O: LineOut, C, D, S: LineHandler<C, D>>(
         (clock.new, desk.new) (I.remaining input.old) (I.remaining input.new) (O.written output.old)
         (O.written output.new)) }
 {
+    let alloc = handler.alloc();
     let mut line = Vec::new(alloc);
     let mut count = 0u64;
     'turns: loop {
         match read_line_into(input, &mut line, left)? {
-            Found::Line => handler.handle_line(alloc, &line, clock, desk, output)?,
+            Found::Line => handler.handle_line(&line, clock, desk, output)?,
             found => return end(alloc, output, count, cut_of(found)),
         }
         count += 1;
@@ -184,7 +184,6 @@ pub fn answer_lines_within<I: LineIn, O: LineOut, C, D, S: LineHandler<C, D>>(
 /// is that a read or a write failed, that more reads are needed, that memory ran out, or that the journal failed.
 /// `answer_lines_within` says more.
 pub fn answer_lines<I: LineIn, O: LineOut, C, D, S: LineHandler<C, D>>(
-    alloc: Global,
     input: &mut I,
     output: &mut O,
     handler: &S,
@@ -213,5 +212,5 @@ pub fn answer_lines<I: LineIn, O: LineOut, C, D, S: LineHandler<C, D>>(
         (O.written output.new)) }
 {
     let mut left = READS;
-    answer_lines_within(alloc, input, output, handler, clock, desk, &mut left)
+    answer_lines_within(input, output, handler, clock, desk, &mut left)
 }

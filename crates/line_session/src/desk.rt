@@ -25,7 +25,8 @@ pub trait Clock {
     /// For proofs: in the first state, the clock can give this moment, and be in the second state afterwards.
     ghost tick: { Self → ℕ → Self → Type 0 };
 
-    /// Returns the current moment.
+    /// Returns the moment of this call. The clock decides the unit and the origin; where a site is served, a moment is
+    /// in seconds since the start of 1970.
     fn now(&mut self) -> u64
         ensures { tick self.old result self.new };
 }

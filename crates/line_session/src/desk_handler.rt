@@ -33,9 +33,9 @@ pub fn answer_to<C: Clock, D: Desk>(
     }
 }
 
-/// Returns the error of an answer that isn't written and ends the session: `OutOfMemory` for the answer
-/// `Line(OutOfMemory)`, and `Journal` for `JournalFailed`. Returns `None` for all other answers, `Answer::OutOfMemory`
-/// among them.
+/// Returns the error with which an answer ends the session, if it is one of the two answers that aren't written:
+/// `OutOfMemory` for `Answer::Line(LineFault::OutOfMemory)`, and `Journal` for `Answer::JournalFailed`. Returns `None`
+/// for all other answers, `Answer::OutOfMemory` among them.
 pub fn unwritten_error(answer: &Answer) -> Option<HandlerError>
     ensures some { IfSome result (λ fault. IsUnwritten fault answer.now) }
     ensures none { IfNone result (ends_unwritten answer.now ≡ false) }
@@ -80,6 +80,7 @@ fn write_line_of<O: LineOut>(
 /// fault. The answers `Line(OutOfMemory)` and `JournalFailed` aren't written: they end the session with an error.
 #[derive(Clone, Copy)]
 pub struct DeskHandler {
+    pub alloc: Global,
     pub role: Role,
 }
 
@@ -92,15 +93,18 @@ impl<C: Clock, D: Desk> LineHandler<C, D> for DeskHandler {
 
     ghost needs_memory = { λ a. desk_needs_memory a.role };
 
+    fn alloc(&self) -> Global {
+        self.alloc
+    }
+
     fn handle_line<O: LineOut>(
         &self,
-        alloc: Global,
         line: &[u8],
         clock: &mut C,
         desk: &mut D,
         output: &mut O,
     ) -> Result<(), HandlerError> {
-        let answer = answer_to(alloc, self.role, line, clock, desk);
-        write_line_of(alloc, output, &answer)
+        let answer = answer_to(self.alloc, self.role, line, clock, desk);
+        write_line_of(self.alloc, output, &answer)
     }
 }

@@ -42,5 +42,5 @@ pub fn session<I: LineIn, O: LineOut, C: Clock, D: Desk>(
         (clock.old, desk.old) (clock.new, desk.new) (I.remaining input.old) (I.remaining input.new)
         (O.written output.old) (O.written output.new)) }
 {
-    answer_lines(alloc, input, output, &DeskHandler { role }, clock, desk)
+    answer_lines(input, output, &DeskHandler { alloc, role }, clock, desk)
 }

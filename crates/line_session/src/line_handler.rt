@@ -32,11 +32,13 @@ pub trait LineHandler<C, D> {
     /// they were.
     ghost needs_memory: { Self → List ℕ → Type 0 };
 
+    /// Returns the allocator that gives the memory for lines and answers.
+    fn alloc(&self) -> Global;
+
     /// Writes the answer to a line. `line` doesn't include its LF. The error is that a write failed, that memory ran
     /// out, or that the journal failed. Any error ends the session.
     fn handle_line<O: LineOut>(
         &self,
-        alloc: Global,
         line: &[u8],
         clock: &mut C,
         desk: &mut D,

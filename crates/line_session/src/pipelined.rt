@@ -4,8 +4,8 @@ ghost use Rattle.std.specs.Prelude.{◌≡◌, ◌≢◌, ◌⊎◌, ◌++◌, �
 ghost use Rattle.till_request.specs.Answer.{answer_line};
 ghost use Rattle.till_request.specs.Count.{RoseBy, one_if};
 ghost use Rattle.till_request.specs.declared.act.LineFault.{LineFault};
-ghost use Rattle.line_session.specs.Buffering.{BuffersAnswer, Sends, FailsToBuffer, HoldsWithBuffered};
-ghost use Rattle.line_session.specs.Session.{desk_answers, desk_drops, desk_needs_memory};
+ghost use Rattle.line_session.specs.Buffering.{BuffersAnswer, Sends, FailsToBuffer, HoldsWithBuffered, IsUnbuffered};
+ghost use Rattle.line_session.specs.Session.{desk_answers, desk_drops, desk_needs_memory, ends_unwritten};
 ghost use Rattle.line_session.specs.Answering.{Ends, Breaks, SpendsReads, Stops, StopsAtDoor};
 ghost use Rattle.line_session.specs.Answering.{cut_line, is_read, is_write, session_reads};
 ghost use Rattle.line_session.specs.Found.{IsEnd};
@@ -14,9 +14,10 @@ use crate::answer_buffer::AnswerBuffer;
 use crate::answering::{Ended, READS, SessionFault, cut_of};
 use crate::connection::Connection;
 use crate::desk::{Clock, Desk};
-use crate::desk_handler::{answer_to, unwritten_error};
+use crate::desk_handler::unwritten_error;
 use crate::doors::Doors;
 use std::alloc::Global;
+use till_request::grammar::parse_line;
 use till_request::line::read_line_into;
 use till_request::{Answer, Found, LineFault, LineOut, Role};
 
@@ -68,6 +69,23 @@ impl Progress {
         self.pending.flush(&mut connection.output)
     }
 
+    /// Buffers an answer, or writes it at once if there is no memory to buffer it. If the answer is one that isn't
+    /// written, the error says why: memory ran out, or the journal failed. The only other error is that a write failed.
+    fn buffer<O: LineOut>(&mut self, output: &mut O, answer: &Answer) -> Result<(), SessionFault>
+        ensures ok { OnOk result ((ends_unwritten answer.now ≡ false)
+            × Sends (self.old.pending.held.bytes.items ++ answer_line answer.now) self.new.pending.held.bytes.items
+            (O.written output.old) (O.written output.new)) }
+        ensures err { IfErr result (λ fault. IsUnbuffered fault answer.now self.old.pending.held.bytes.items
+            self.new.pending.held.bytes.items (O.written output.old) (O.written output.new)) }
+        ensures failed { RoseBy (one_if (is_write result)) (O.failures output.old) (O.failures output.new) }
+        ensures left { self.new.left ≡ self.old.left }
+    {
+        if let Some(fault) = unwritten_error(answer) {
+            return Err(SessionFault::from(fault));
+        }
+        self.pending.put(self.alloc, output, answer)
+    }
+
     /// Answers the line that was read last. The answer is buffered, or written at once if there is no memory to buffer
     /// it. The error is that a write failed, that memory ran out, or that the journal failed.
     fn answer_line<O: LineOut, C: Clock, D: Desk>(
@@ -91,12 +109,14 @@ impl Progress {
         ensures failed { RoseBy (one_if (is_write result)) (O.failures output.old) (O.failures output.new) }
         ensures left { self.new.left ≡ self.old.left }
     {
-        let alloc = self.alloc;
-        let answer = answer_to(alloc, role, &self.line, clock, desk);
-        if let Some(fault) = unwritten_error(&answer) {
-            return Err(SessionFault::from(fault));
+        match parse_line(self.alloc, role, &self.line) {
+            Ok(act) => {
+                let moment = clock.now();
+                let answer = desk.answer(act, moment);
+                self.buffer(output, &answer)
+            }
+            Err(fault) => self.buffer(output, &Answer::Line(fault)),
         }
-        self.pending.put(alloc, output, &answer)
     }
 
     /// Ends a session after `lines` answers. `lines` must be at most `READS`. If `cut` isn't `None`, it is the fault of
@@ -131,10 +151,10 @@ impl Progress {
         }
     }
 
-    /// Answers the lines of a connection in order, and returns how the session ended. At first the buffer must be
-    /// empty, and at most `READS` reads must be left. At the end some answers are perhaps still in the buffer. The
-    /// error is that a read or a write failed, that more reads are needed, that memory ran out, or that the journal
-    /// failed.
+    /// Answers the lines of a connection in order, and returns how the session ended. Before the call the buffer must
+    /// be empty, and at most `READS` reads must be left. After the call some answers are perhaps still in the buffer.
+    /// The error is that a read or a write failed, that a read is needed and none is left, that memory ran out, or that
+    /// the journal failed.
     fn answer_lines<S: Doors, C: Clock, D: Desk>(
         &mut self,
         role: Role,

@@ -8,14 +8,12 @@ use crate::line_handler::LineHandler;
 
 /// Does nothing. Its contract is a law: the sizes of an input's reads change no answer. The law is for a handler with
 /// this property: in each state of the clock and the desk it can give only one answer to a line, and only one state
-/// follows, unless memory runs out. Such a handler gives the same answers to the same bytes from the same state, unless
-/// memory runs out or a session fails.
+/// follows, unless memory runs out.
 ///
-/// The contract of `answer_lines` describes what is read and written in terms of the input's bytes alone, whatever the
-/// device is. Let two calls with such a handler begin in the same state, with the same bytes to read and the same bytes
-/// written before. If both return `Ok`, and no answer says that memory ran out, then they write the same bytes, end in
-/// the same state, and return the same result. A loop that lost bytes after a line's LF, or took the bytes of one read
-/// for a line, could not have this contract.
+/// Let two sessions with such a handler begin in the same state, with the same bytes to read and the same bytes written
+/// before. If neither fails, and no answer says that memory ran out, then they write the same bytes, end in the same
+/// state, and return the same result. So a loop that lost bytes after a line's LF, or took the bytes of one read for a
+/// line, could not have the contract of `answer_lines`.
 pub fn law_of_read_sizes<C, D, S: LineHandler<C, D>>()
     ensures { (handler : S) → IsDetermined (S.answers_with handler)
         → IsIndependentOfReadSizes (S.answers_with handler) }

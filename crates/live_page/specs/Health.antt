@@ -11,8 +11,8 @@ abbrev pub without_worker : List RoleCounts → Option Role
 without_worker [] = None
 without_worker (role_counts ∷ more) = if role_counts.workers == 0 then Some role_counts.role else without_worker more
 
--- the health of a station whose journal hasn't failed and isn't nearly full; the argument is the first role that no
--- worker serves, or None
+-- The health of a station whose journal hasn't failed and isn't nearly full. The argument is the first role that no
+-- worker serves, or None if each role has a worker.
 abbrev pub worker_health : Option Role → Health
 worker_health None = Healthy
 worker_health (Some role) = NoWorker role

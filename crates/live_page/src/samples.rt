@@ -129,10 +129,10 @@ fn add_version(text: &mut TextBuilder, slot: Text, version: u32, decided: &Versi
     text.fill(DECISIONS, &[slot, version, granted, slot, version, denied]);
 }
 
-/// Adds how many requests each version of a rule granted and denied. These versions are shown:
+/// Adds how many requests each version of a rule granted and denied, for these versions:
 ///
-/// - those in `tally`: an entry loaded them, or they decided the request of an entry;
-/// - those in force: they are in `rules`, the version in slot 0 first.
+/// - First the versions in `tally`: an entry loaded them, or they decided the request of an entry.
+/// - Then the versions in force that `tally` lacks. `rules` has, for each slot from 0 on, the version in force, if any.
 fn add_decisions(text: &mut TextBuilder, tally: &Tally, rules: &[Option<Version>]) {
     text.add(
         head!("fc_decisions_total" is a "counter": "Decisions of rules in this journal, by version."),

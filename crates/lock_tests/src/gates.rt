@@ -97,9 +97,10 @@ impl Gate for Holding<'_> {
     }
 }
 
-/// Asks for a release as till 1. The gate runs the rule twice in vain: each time `other_calls` changes point 2 while
-/// the gate waits. So the request is then decided under the site's lock. Returns whether the gate was called twice, no
-/// wait took too long, and the request was granted as entry 6.
+/// Asks for a release as till 1. The gate of this request waits before it runs the rule, while the caller doesn't hold
+/// the site's lock. `other_calls` changes point 2 during each wait, so the gate's two runs are stale, and the request
+/// is then decided under the site's lock. Returns whether the gate was called twice, no wait took too long, and the
+/// request was granted as entry 6.
 fn held_call<L: SiteLedger, R: Wait>(
     rt: &R,
     forecourt: &Forecourt<L>,
@@ -117,10 +118,11 @@ fn held_call<L: SiteLedger, R: Wait>(
     is_granted(answered, 6) && gate.calls == 2 && gate.in_time
 }
 
-/// Changes point 2 twice while till 1's gate waits, and lets this gate go each time:
+/// Changes point 2 twice, each time while the gate in `held_call` waits before it runs the rule for till 1's request.
+/// Lets this gate go on after each change:
 ///
 /// - First a nozzle is lifted.
-/// - Then till 2 is granted a release as entry 5, with one call of its own gate.
+/// - Then till 2 is granted a release as entry 5. This request has another gate, which doesn't wait and is called once.
 ///
 /// Returns whether all this happened.
 fn other_calls<L: SiteLedger, R: Wait>(
@@ -158,7 +160,7 @@ fn beside<L: SiteLedger + Send + Sync, R: Threads + Wait + Sync>(
 }
 
 /// Calls `load`, which loads a program into slot 0, and `open`, which opens points 1 and 2. Then returns what `beside`
-/// returns for the first two passes. Returns `None` if there are fewer than two, or if `load` or `open` fails.
+/// returns for the first two passes. Returns `None` if there are fewer than two passes, or if `load` or `open` fails.
 fn are_granted<L: SiteLedger + Send + Sync, R: Threads + Wait + Sync>(
     rt: &R,
     alloc: Global,

@@ -72,9 +72,10 @@ ReportsHealth health page_answer =
     (page_answer.status ≡ status_of_health health) × (page_answer.kind ≡ kinds.Plain) × (page_answer.text ≡ health_text health ++ codes "\n")
 
 -- The answer fits this endpoint:
--- - `Page`, `Metrics` and `Journal`: the status is 200, and the text's kind is `Html`, `Metrics` or `Plain`, in this
---   order
--- - `Health`: the answer reports some health of the station; which one is left open here
+-- - `Page`: the status is 200, and the text is of the kind `Html`
+-- - `Metrics`: the status is 200, and the text is of the kind `Metrics`
+-- - `Health`: the answer reports some health of the station, and it is left open which
+-- - `Journal`: the status is 200, and the text is of the kind `Plain`
 abbrev pub FitsEndpoint : Endpoint → PageAnswer → Type 0
 FitsEndpoint endpoints.Page page_answer = IsOkOfKind kinds.Html page_answer
 FitsEndpoint endpoints.Metrics page_answer = IsOkOfKind kinds.Metrics page_answer

@@ -1,4 +1,4 @@
-//! A connection to the page port, on which a browser or a script looks at a site.
+//! A connection to the page port, on which a browser or a script looks at the petrol station that is served.
 use http_server::{Config, Connection, Service, State};
 use http1::Limits;
 use std::alloc::Global;

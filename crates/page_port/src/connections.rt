@@ -8,7 +8,7 @@ use till_request::Role;
 #[derive(Drop)]
 struct RoleCounters {
     workers: u32,
-    /// How many of the `workers` have served their last connection.
+    /// How many workers have served their last connection.
     left: AtomicU32,
     opened: AtomicU64,
     closed: AtomicU64,

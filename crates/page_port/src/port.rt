@@ -66,9 +66,9 @@ fn listen<H: Net<Listener = TcpListener, Stream = TcpStream>>(
     }
 }
 
-/// Calls `turn` of one client after another. A client that returns `Over` is removed, which closes its connection. The
-/// last client, unless it is the removed one, is then moved to the free position in `clients`. A moved client has no
-/// turn in this call; all others have one. Returns whether at least one client returned `Moved` or `Over`.
+/// Calls `turn` of one client after another. A client that returns `Over` is removed, which closes its connection. If
+/// it wasn't the last one in `clients`, the last client takes its position, and has no turn in this call. All other
+/// clients have a turn. Returns whether at least one client returned `Moved` or `Over`.
 fn take_turns<S: Service, R: Clock>(rt: &R, clients: &mut Vec<Client>, service: &mut S) -> bool {
     let mut has_progressed = false;
     for place in 0..clients.len() {
@@ -139,7 +139,7 @@ impl<'a> PagePort<'a> {
     }
 
     /// Returns whether a write or a sync of the journal's file failed, or false if the journal isn't kept in a file.
-    /// The site itself learns of a failed sync only at the next event.
+    /// The site itself learns of a failed sync only when the next event is entered.
     pub(crate) fn has_journal_failed(&self) -> bool {
         match self.journal {
             Some(counts) => counts.has_failed(),
@@ -156,8 +156,9 @@ impl<'a> PagePort<'a> {
         pages.parse::<u64>().ok()?.checked_mul(MEMORY_PAGE)
     }
 
-    /// Accepts the next connection, and adds its client to `clients`. If `clients` is empty, waits for a connection;
-    /// otherwise the error is `WouldBlock` if none has come. Other errors are the system's, or that memory ran out.
+    /// Accepts the next connection, and adds its client to `clients`. If `clients` is empty, waits for a connection. If
+    /// `clients` isn't empty and no connection has come, the error is `WouldBlock`. Other errors are the system's, or
+    /// that memory ran out.
     fn accept<R: Clock>(&self, rt: &R, clients: &mut Vec<Client>) -> io::Result<()> {
         self.listener.set_nonblocking(!clients.is_empty())?;
         let (stream, _) = self.listener.accept()?;

@@ -1,4 +1,4 @@
-//! Counts of how long something took.
+//! Counts of how often something was done, such as a sync of the journal's file, and of how long it took in all.
 use live_page::DurationSummary;
 use std::sync::atomic::{AtomicU64, Ordering};
 use std::time::Duration;
@@ -11,7 +11,7 @@ pub struct Timings {
 }
 
 impl Timings {
-    /// Makes a count of 0 and a total time of 0.
+    /// Makes a `Timings` for something that wasn't done yet: the count and the total time are 0.
     pub fn new() -> Timings {
         Timings {
             count: AtomicU64::new(0),
@@ -19,14 +19,14 @@ impl Timings {
         }
     }
 
-    /// Adds 1 to the count, and `taken` to the total time.
+    /// Counts that the thing was done once more, and that it took the time `taken`.
     pub fn add(&self, taken: Duration) {
         let nanoseconds = u64::try_from(taken.as_nanos()).unwrap_or(u64::MAX);
         self.nanoseconds.fetch_add(nanoseconds, Ordering::SeqCst);
         self.count.fetch_add(1, Ordering::SeqCst);
     }
 
-    /// Returns the count and the total time.
+    /// Returns how often the thing was done, and how many nanoseconds it took in all.
     pub fn times(&self) -> DurationSummary {
         DurationSummary {
             count: self.count.load(Ordering::SeqCst),

@@ -17,9 +17,9 @@ slice_get-earlier [] x k h = absurd (omega arith)
 slice_get-earlier (y ∷ ys) x zero h = refl
 slice_get-earlier (y ∷ ys) x (suc k) h = slice_get-earlier ys x k (omega arith)
 
--- The version in a slot that began with `opened`: version n, if that was the last to be installed there (Some n), or
--- `opened`, if none was installed there (None). `programs` are the programs of all versions after version `before`, in
--- the order of their numbers.
+-- The version in a slot. `Some n` is the number of the version that was installed there last: the result is this
+-- version. None means that none was installed: the result is `opened`, with which the slot began. `programs` are the
+-- programs of all versions after version `before`, in the order of their numbers.
 abbrev shown : ℕ → List ProgramText → Option Version → Option ℕ → Option Version
 shown before programs opened None = opened
 shown before programs opened (Some n) = option_map (λ program. record { number = n; program = program }) (slice_get programs (n - before - 1))

@@ -1,5 +1,5 @@
 -- Definitions: which version is in a slot. There are 16 slots, 0 to 15, and versions are numbered from 1 over all slots
--- (this profile).
+-- (source: this project).
 use Rattle.std.specs.Prelude.{◌≡◌, ◌≤◌, ℕ, ◌-◌, ◌==◌, nat_lt, if◌then◌else◌, List, [], ◌∷◌, slice_get, slice_index_or, Option, option_map, Some, None}
 use Rattle.std.specs.List.{repeat}
 use Rattle.bpf_model.specs.Program.{ProgramText, IsGood}

@@ -173,7 +173,7 @@ impl Slots {
         ensures same { IfOk result (λ rule. rule ≡ version_in self.now slot) }
         ensures good { IfOk result (λ rule. IsRule (self.now.before + length self.now.programs) rule) }
     {
-        // Reading a field gives the prover the invariant of `Slots`.
+        // Reading a field tells the prover that the invariant of `Slots` holds.
         let _before = &self.before;
         let Some((number, program)) = self.in_slot(slot) else {
             return Ok(None);

@@ -1,9 +1,10 @@
 //! Allocates all memory of the process, except one block that stays free.
 use std::alloc::Global;
 
-/// How many bytes `take_all_but` takes back of the block that it frees. To leave `size` bytes free, it allocates a
+/// How many bytes `take_all_but` allocates again after it has freed a block. To leave `size` bytes free, it allocates a
 /// block of `size + HELD` bytes, and then all other memory. Then it frees the block, and allocates `HELD` bytes of it
-/// again. Without these, a freed block of up to 1,032 bytes would be reused only for blocks of its own size.
+/// again. `HELD` is above 1,032, so the freed block is too: a freed block of up to 1,032 bytes would be reused only for
+/// blocks of its own size.
 const HELD: usize = 1080;
 
 /// How many times a script is played at most. All plays have little memory during the same line of the script, but each

@@ -50,9 +50,9 @@ some_is : (o : Option Form) → IsSome o → (form : Form) × (o ≡ Some form)
 some_is None h = absurd (cc)
 some_is (Some form) h = (form, refl)
 
--- ---- a unit's fact only gets weaker
+-- ---- if a fact is joined into what is known of a unit, each state that fitted before still fits
 
--- if there is a first fact, then there is a second one, and each state that fits the first fits the second
+-- if the first Option has a fact, then so has the second, and each state that fits the first fact fits the second
 abbrev pub IsWider : Option Fact → Option Fact → Type 0
 IsWider None o = ⊤
 IsWider (Some fact) o = (wider : Fact) × (o ≡ Some wider) × IsBelow fact wider
@@ -97,7 +97,7 @@ by_wider q fact (Err flaw) tos o = IsWider-refl o
 by_wider q fact (Ok e) None o = IsWider-refl o
 by_wider q fact (Ok e) (Some tos) o = all_wider q (fact_after fact e) tos o
 
--- after an edge has brought `fact` to unit `to`, each state that fits `fact` fits the fact of the unit
+-- after `fact` was joined into what is known of unit `to`, each state that fits `fact` fits the unit's fact
 arrived_here : (to : ℕ) (fact : Fact) (o : Option Fact) → IsWider (Some fact) (arrived to fact to o)
 arrived_here to fact o = (taken_in o fact, cond-true (to == to) (Some (taken_in o fact)) o (eq-eqb to to refl), taken_right o fact)
 
@@ -109,7 +109,7 @@ all_come fact (to ∷ tos) old = (
   all_come fact tos (λ q. arrived q fact to (old q)),
 )
 
--- ---- edges don't go back: what is known of earlier units stays the same
+-- ---- an instruction that leads only to later units doesn't change what is known of its own or of an earlier unit
 
 pub behind : (us : List ProgramUnit) (pc q : ℕ) (fact : Fact) → q ≤ pc → (tos : List ℕ) → AllByRecursion (IsAhead us pc) tos → (o : Option Fact)
     → arrived_all q fact tos o ≡ o
@@ -119,7 +119,7 @@ behind us pc q fact l (to ∷ tos) all o =
     let other : q ≢ to = omega (arith, further, l) in
     ap (arrived_all q fact tos) (cond-false (q == to) (Some (taken_in o fact)) o (ne_eqb q to other)) ∙ behind us pc q fact l tos all.1 o
 
--- ---- if `first_flaw_below` finds no flaw below unit n, no reached unit below n has one; a flaw that it finds stays
+-- ---- `first_flaw_below` is None only if no reached unit below n has a flaw; a flaw that it gives stays for greater n
 
 flawless_is : (pc : ℕ) (r : Result Effect Flaw) → flaw_in pc r ≡ None → (e : Effect) × (r ≡ Ok e)
 flawless_is pc (Ok e) h = (e, refl)
@@ -150,7 +150,7 @@ module _ (us : List ProgramUnit) (options : LoadOptions) where
         | inr other ↦ ap (λ o. or_else o (flaw_under us options n (inferred us options n))) (flaw_stays (suc m) n fault e (omega arith))
       ]
 
-  -- ---- what is known of a unit only gets weaker as the verifier's pass over the units goes on
+  -- ---- what is known of a unit can change during the verifier's pass, but each state that fitted before still fits
 
   from_wider : (pc : ℕ) (fact : Fact) (o : Option (Inst × Form)) (q : ℕ) (old : Option Fact) → IsWider old (passed_from us options pc fact o q old)
   from_wider pc fact None q old = IsWider-refl old

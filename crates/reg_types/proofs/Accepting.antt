@@ -145,7 +145,8 @@ compare_ok types dst src n a h p =
 exit_ok : (types : List RegType) → ArePlain types → Accepted (exited types (type_at types 0))
 exit_ok types p = (unmarked types, ap (λ b. cond b (ok_of (unmarked types)) (Err (NotANumber 0))) p.number, p)
 
--- an instruction of a plain form is accepted if R1 points to the context and R0 holds a number
+-- An instruction of a plain form is accepted if R1 points to the context and R0 holds a number. A form is plain if it
+-- is EXIT or a jump without condition, works on R0 alone, or loads into R0 from the context (`IsPlainForm`).
 plain_effect : (options : LoadOptions) (fact : Fact) (i : Inst) (upper : ℤ) (form : Form) → ArePlain fact.types → IsPlainForm options.layout i form
     → Accepted (effect options fact i upper form)
 plain_effect options fact i upper Ja p f = (unmarked fact.types, refl, p)
@@ -217,7 +218,7 @@ plain_join a b j l e p q =
       number = ap is_numeric (e 0) ∙ join_numeric (type_at a 0) (type_at b 0) p.number q.number;
     }
 
--- ---- no plain instruction runs past the last unit
+-- ---- no instruction of a plain program (one that works on R0 and the context only) runs past the last unit
 
 forms_same : (f g : Form) (o : Option Form) → o ≡ Some f → o ≡ Some g → f ≡ g
 forms_same f g o a b = cc
@@ -285,7 +286,7 @@ pub plain_accepts : (bytes : List ℕ) (us : List ProgramUnit) (options : LoadOp
 plain_accepts bytes us options reads plain =
     record { each = λ pc i fact at types upper form is. plain_here bytes us options reads plain pc i at fact upper form is types }
 
--- ---- what is known of a plain program
+-- ---- if each instruction is accepted with all types that a plain program can have there, no reached unit has a flaw
 
 long_joined : (a b : List RegType) → 2 ≤ length a → 2 ≤ length b → 2 ≤ length (join_types a b)
 long_joined [] b la lb = absurd (omega arith)

@@ -1,4 +1,5 @@
--- An instruction leads only to later units, and an instruction begins at each of these.
+-- If all jumps go forward to instructions, and a run can't fall off the program's end right after an instruction, then
+-- this instruction leads only to later units, and an instruction begins at each of these.
 use Rattle.std.proofs.Common.{◌≡◌, ℕ, zero, suc, ◌+◌, ◌<◌, ◌≤◌, List, [], ◌∷◌, Some, Bool, true, false, refl, sym, ap, ◌∙◌, arith, add-one, length}
 use Rattle.std.specs.Prelude.{ℤ, ◌&&◌, not, nat_le, cond, slice_get, IsSome, is_some}
 use Rattle.std.specs.List.{AllByRecursion}
@@ -26,8 +27,8 @@ get_inside [] pc l = absurd (omega arith)
 get_inside (u ∷ us) zero l = (u, refl)
 get_inside (u ∷ us) (suc pc) l = get_inside us pc (omega arith)
 
--- if by the bytes an instruction begins at unit pc (`begins`), then in `us`, the list of units that the bytes are
--- decoded as, unit pc is the first unit of an instruction
+-- Let `us` be the units that the bytes are decoded as, and let unit pc be one of them. If the bytes say that an
+-- instruction begins there (`begins`), then unit pc of `us` is the first unit of an instruction.
 begins_first : (bytes : List ℕ) (us : List ProgramUnit) (pc : ℕ) → units bytes ≡ Some us → begins bytes pc ≡ true → pc < length us
     → (i : Inst) × (slice_get us pc ≡ Some (First i))
 begins_first bytes us pc reads b l =
@@ -88,8 +89,8 @@ module _ (bytes : List ℕ) (us : List ProgramUnit) (reads : units bytes ≡ Som
   leads_ahead f (StoreRegister size) is more = ((pc + 1) ∷ [], refl, (goes_next (StoreRegister size) is refl more, tt))
   leads_ahead f Call is more = ((pc + 1) ∷ [], refl, (goes_next Call is refl more, tt))
 
--- The instruction is one of a program. Its unit is below 512 and inside the program, its registers are 0 to 10, and its
--- opcode has a form.
+-- What is true of each instruction of a program: its unit pc is below 512 and inside the program, its registers are 0
+-- to 10, and its opcode has a form.
 pub record IsThere (us : List ProgramUnit) (pc : ℕ) (i : Inst) : Type 0 where
   pub small : pc < 512
   pub inside : pc < length us

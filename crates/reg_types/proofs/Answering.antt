@@ -1,4 +1,5 @@
--- Which refusal `verify` returns, and what is then true of the program.
+-- If `verify` refuses a program, the refusal is the one that `refusal_of` defines, or that memory ran out. What the
+-- refusal says is then true of the program (`IsRefused`).
 use Rattle.std.proofs.Common.{◌≡◌, ◌≢◌, ℕ, zero, suc, ◌⊎◌, List, Option, Some, None, Bool, true, false, refl, sym, ap, ◌∙◌, inl, inr, length}
 use Rattle.std.specs.Prelude.{Result, Ok, Err, ◌/◌, ◌&&◌, cond, is_none, slice_get}
 use Rattle.bpf_model.specs.declared.instruction.Inst.{Inst}
@@ -33,7 +34,7 @@ use Rattle.reg_types.proofs.Accepting.{plain_accepts, plain_flawless}
 use Rattle.reg_types.proofs.Accepted.{instruction_is}
 use Rattle.reg_types.proofs.Showing.{checked_effect_shows}
 
--- ---- where the first flaw is
+-- ---- the first flaw is that of an instruction of the program, and one that this instruction can have (`MayHave`)
 
 one_of_two : (a b : Option TypeFault) (fault : TypeFault) → or_else a b ≡ Some fault → (a ≡ Some fault) ⊎ (b ≡ Some fault)
 one_of_two None b fault e = inr e
@@ -87,7 +88,7 @@ module _ (bytes : List ℕ) (us : List ProgramUnit) (options : LoadOptions) (rea
   type_numbers : (fault : TypeFault) → first_flaw us options ≡ Some fault → IsPossibleTypeFault bytes fault
   type_numbers fault e = let k = flaw_at us options (length us) fault e in shown_under k.0 (inferred us options k.0) fault k.1
 
-  -- ---- which refusal is returned
+  -- ---- the refusal that is returned is the one that `refusal_of` defines, or that memory ran out
 
   decoded : decode_refusal bytes ≡ None
   decoded = decoded_by us (has_valid_length bytes) (fault_below bytes (length bytes / 8)) (units_below bytes (length bytes / 8)) reads
@@ -202,7 +203,7 @@ begin_right bytes (BadRegister pc) h e = absurd (cc)
 begin_right bytes (HalfWide pc) h e = absurd (cc)
 begin_right bytes NoMemoryToDecode h e = h
 
--- if `HasValidFirstUnit` holds of bytes, their length isn't wrong: with a wrong length, any P would follow
+-- bytes of which `HasValidFirstUnit` holds can't have a wrong length: from the two together any P follows
 pub never_wrong : (P : Type 0) (bytes : List ℕ) → HasValidFirstUnit bytes → has_valid_length bytes ≡ false → P
 never_wrong P bytes right wrong = let never : true ≡ false = sym right.right_length ∙ wrong in absurd (cc)
 

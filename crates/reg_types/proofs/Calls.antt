@@ -174,8 +174,8 @@ module _ (declared : ℕ) (types : List RegType) (view : View) (va vb : Value) (
   abbrev second_of_two : Helper → Kind
   second_of_two h = kind_at (kinds h) 1
 
-  -- if a call has a result, changes only declared counters and leaves the stack as it was, and its effect e says that
-  -- nothing is written to the stack, then the call is answered, as `Answered` defines
+  -- a call is answered (`Answered`) if it has a result, changes only declared counters, leaves the stack as it was, and
+  -- has an effect e that writes nothing to the stack
   plainly : (given : Option HelperResult) (e : Effect) (reply : HelperResult) → given ≡ Some reply → Changes declared counters reply.counters → reply.stack ≡ stack
       → unmarked (after_call types) ≡ e → Answered declared types view counters stack given e
   plainly given e reply there changes same marks =

@@ -1,4 +1,5 @@
--- How many facts are stored.
+-- For an accepted program, one fact is stored for the first unit and one for each other unit that a reached jump goes
+-- to, and no others. So at most 512 facts are stored, and at most one more than there are different targets of jumps.
 use Rattle.std.proofs.Common.{◌≡◌, ◌≢◌, ℕ, zero, suc, ◌+◌, ◌<◌, ◌≤◌, ◌⊎◌, List, [], ◌∷◌, Option, Some, None, Bool, true, false, refl, sym, ap, ◌∙◌, subst, inl}
 use Rattle.std.proofs.Common.{inr, arith, length}
 use Rattle.std.specs.Prelude.{ℤ, ◌==◌, ◌&&◌, ◌||◌, cond, is_some}
@@ -92,7 +93,7 @@ one_less (suc n) p r h =
           ]
     ]
 
--- ---- the number of stored facts
+-- ---- if no unit has two stored facts, there are as many stored facts as units that have one
 
 stored_if : (t : Bool) (f : Fact) (o : Option Fact) → t ≡ false → is_some (cond t (Some f) o) ≡ is_some o
 stored_if t f o e = ap is_some (cond-false t (Some f) o e)
@@ -112,7 +113,7 @@ count_of_stored n (s ∷ rest) d inside =
     ap suc (count_of_stored n rest d.1 also)
     ∙ sym (one_more n s.at (λ q. is_some (stored rest q)) (λ q. is_some (stored (s ∷ rest) q)) (inside s.at here) (ap is_some d.0) here elsewhere)
 
--- ---- units for which a fact is stored
+-- ---- a stored fact is for the first unit or a jump's target; if jumps go forward, targets are inside the program
 
 either_true : (a b : Bool) → (a || b) ≡ true → (a ≡ true) ⊎ (b ≡ true)
 either_true true b e = inl refl

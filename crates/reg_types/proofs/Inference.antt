@@ -36,7 +36,6 @@ common_has (x ∷ a) [] p = (λ h. absurd (cc), λ h. h.1)
 common_has (x ∷ a) (y ∷ b) zero = (λ h. and_parts x y h, λ h. and_from x y h.0 h.1)
 common_has (x ∷ a) (y ∷ b) (suc p) = common_has a b p
 
--- `drop 1 set` is the list `set` without its first value: its value at p is the value of `set` at p + 1
 dropped : (set : List Bool) (p : ℕ) → slice_index_or (drop 1 set) p false ≡ slice_index_or set (suc p) false
 dropped [] zero = refl
 dropped [] (suc p) = refl
@@ -87,8 +86,8 @@ cleared_has zero (suc len) set (suc p) = apart_none (cleared zero len (drop 1 se
 cleared_has (suc at) len set zero = (λ has. (has, λ w. omega (arith, w.0)), λ e. e.0)
 cleared_has (suc at) len set (suc p) = apart_one (slice_index_or set 0 false) (cleared at len (drop 1 set)) set at len p (cleared_has at len (drop 1 set) p)
 
--- `HasAfter` for the Bool b holds if and only if place p is in the set after `len` bytes from `at` on were added to it
--- (if b is true) or removed from it (if b is false)
+-- `HasAfter` says which places are in the set after `len` places from `at` on were added to it (b is true) or removed
+-- from it (b is false)
 after_if : (b : Bool) (at len : ℕ) (set : List Bool) (p : ℕ) → Has (cond b (marked at len set) (cleared at len set)) p ↔ HasAfter b set at len p
 after_if true at len set p = marked_has at len set p
 after_if false at len set p = cleared_has at len set p
@@ -223,7 +222,7 @@ same_join a b j la lj e h n =
       spills = n;
     }
 
--- ---- typing one instruction
+-- ---- the typing rules give the same effect or flaw for two facts that are the same (`IsSame`)
 
 same_bit : (a b : Bool) → ((a ≡ true) ↔ (b ≡ true)) → a ≡ b
 same_bit true true h = refl
@@ -270,7 +269,7 @@ pub judged_same : (count pc : ℕ) (options : LoadOptions) (a b : Fact) → IsSa
     → checked_effect count pc options a i upper form ≡ checked_effect count pc options b i upper form
 judged_same count pc options a b f i upper form = ap (λ r. cond (falls_off count pc form) (Err FallsOff) r) (effect_same options a b f i upper form)
 
--- ---- what the verifier's pass over the units does at one unit
+-- ---- the verifier's pass does the same at a unit for two facts that are the same (`IsSame`)
 
 passed_by_same : (q : ℕ) (a b : Fact) (r : Result Effect Flaw) (tos : Option (List ℕ)) (x y : Option Fact) → IsSame a b → AreSame x y
     → AreSame (passed_by q a r tos x) (passed_by q b r tos y)

@@ -1,4 +1,5 @@
--- Pointers stored in the stack: what stores do to them, and how the spills of a fact describe them.
+-- Lemmas on pointers that are stored in the stack, and on spills. If the stack holds a pointer for each spill before a
+-- store, then it does so after the store too, for the spills as the store leaves them.
 use Rattle.std.proofs.Common.{◌≡◌, ◌≢◌, ℕ, zero, suc, ◌+◌, ◌-◌, ◌*◌, ◌<◌, ◌≤◌, ◌⊎◌, ◌↔◌, List, [], ◌∷◌, Option, Some, None, Bool, true, false, refl, sym, ap}
 use Rattle.std.proofs.Common.{◌∙◌, subst, inl, inr, arith, length}
 use Rattle.std.specs.Prelude.{pos, negsuc, ◌+ℤ◌, ◌/◌, ◌%◌, ◌==◌, ◌&&◌, cond, nat_le, nat_lt, slice_set, slice_index, ⊤}
@@ -20,7 +21,7 @@ use Rattle.reg_types.specs.Effects.{Effect}
 use Rattle.reg_types.specs.Facts.{FitsType, FitsSpill, HasAfter, IsAfter}
 use Rattle.reg_types.specs.Inference.{no_spills, touches, respilled, join_spills}
 
--- ---- cells that a store doesn't change
+-- ---- a store changes no cell outside the bytes that it writes
 
 apart : (at n p : ℕ) → (p < at) ⊎ (at + suc n ≤ p) → ((p < suc at) ⊎ (suc at + n ≤ p)) × (p ≢ at)
 apart at n p (inl l) = (inl (omega (arith, l)), omega (arith, l))
@@ -43,7 +44,7 @@ pub length-pieces : (stack : List Cell) (at : ℕ) (v : Value) (i n : ℕ) → l
 length-pieces stack at v i zero = refl
 length-pieces stack at v i (suc n) = length-pieces (slice_set stack at (Piece v i)) (suc at) v (suc i) n ∙ length-set stack at (Piece v i)
 
--- ---- a pointer is held by its eight cells
+-- ---- whether eight cells hold a pointer depends on these cells only; after a store of a pointer, they hold it
 
 has_pieces_same : (a b : List Cell) (v : Value) (at i n : ℕ) → ((p : ℕ) → at ≤ p → p < at + n → cell_at a p ≡ cell_at b p)
     → has_pieces a at v i n ≡ has_pieces b at v i n
@@ -205,8 +206,8 @@ joined_spill (x ∷ a) [] k = inr refl
 joined_spill (x ∷ a) (y ∷ b) zero = join_if x y (x == y) (eqb-true x y)
 joined_spill (x ∷ a) (y ∷ b) (suc k) = joined_spill a b k
 
--- The spill of an aligned place after a store is `new`. It is 0; or it is `old`, the spill before, and
--- the store didn't touch the place; or it is n, the spill of what the store writes, and the store touched the place.
+-- `old` is the spill of an aligned place before a store, and `new` the one after it. The store writes a value with the
+-- spill n. If the store touches the place, `new` is n or 0. If it doesn't, `new` is `old` or 0.
 abbrev IsRespilled : Bool → ℕ → ℕ → ℕ → Type 0
 IsRespilled touched n old new = (new ≡ 0) ⊎ (((touched ≡ false) × (new ≡ old)) ⊎ ((touched ≡ true) × (new ≡ n)))
 
@@ -243,8 +244,9 @@ touched at k z e =
 abbrev AllSpillsFit : List ℕ → List Cell → Type 0
 AllSpillsFit spills stack = (k : ℕ) → FitsSpill (spilled_type (slice_index spills k)) stack (8 * k)
 
--- if the stack holds a pointer for each spill, then after a store of plain bytes it holds a pointer for each spill in
--- `after`: the spills of the places that the store touched are 0 there
+-- Let the stack hold a pointer for each spill of `spills`. After a store of plain bytes it holds a pointer for each
+-- spill of `after`, in which the places that the store touches have the spill 0, and all others the spill that they had
+-- before.
 pub kept_after_bytes : (spills after : List ℕ) (stack : List Cell) (at : ℕ) (bytes : List ℕ) → after ≡ respilled 0 at (length bytes) 0 spills → AllSpillsFit spills stack
     → AllSpillsFit after (written stack at bytes)
 kept_after_bytes spills after stack at bytes e all k =
@@ -289,7 +291,7 @@ outside at len p out = elim (cases_lt p at) [
   | inr l ↦ elim (cases_lt p (at + len)) [ inl m ↦ absurd (out (l, m)) | inr m ↦ inr m ]
 ]
 
--- ---- spills as the code computes them
+-- ---- the loops of the code over the spills compute what `join_spills` and `respilled` define
 
 abbrev pub both_spill : ℕ → ℕ → ℕ
 both_spill a b = cond (a == b) a 0
@@ -307,8 +309,9 @@ length-joined_spills [] (y ∷ b) e = absurd (omega (arith, e))
 length-joined_spills (x ∷ a) [] e = absurd (omega (arith, e))
 length-joined_spills (x ∷ a) (y ∷ b) e = ap suc (length-joined_spills a b (omega (arith, e)))
 
--- Let the first r spills of the list `ts` be the joins of those of `a` and `b`, and let spill r of `ts` be that of `a`.
--- If spill r of `ts` is set to its join with spill r of `b`, then the first r + 1 spills of `ts` are these joins.
+-- One step of the loop that joins the spills of `b` into those of `a`. After r steps the first r spills of `ts` are
+-- joined, and spill r is still that of `a`. If spill r is set to its join with spill r of `b`, the first r + 1 spills
+-- are joined.
 pub spill_step : (ts a b : List ℕ) (r v : ℕ) → r < length ts → v ≡ both_spill (slice_index ts r) (slice_index b r) → slice_index ts r ≡ slice_index a r
     → ((k : ℕ) → k < r → slice_index ts k ≡ both_spill (slice_index a k) (slice_index b k)) → (k : ℕ) → k < r + 1
     → slice_index (slice_set ts r v) k ≡ both_spill (slice_index a k) (slice_index b k)
@@ -384,7 +387,7 @@ all_put n at len k old new lo enough least h =
     ])
     ∙ sym (spill_at-respilled n at len 0 old j j (omega arith) (omega (arith, l, lo, room))))
 
--- ---- an instruction that writes nothing
+-- ---- a write of 0 bytes at byte 0 changes neither the set of stack bytes nor the spills
 
 second_false : (a b : Bool) → b ≡ false → (a && b) ≡ false
 second_false true b e = e
@@ -416,9 +419,9 @@ unwritten fact after e at len types stack spills =
           ∙ ap (λ l. respilled (spill_of e.spilled) e.at l 0 fact.spills) (sym len);
     }
 
--- The fact after an instruction with effect e doesn't depend on the register types before it. Let `typed` and `fact`
--- have the same set of stack bytes and the same spills. If `after` is the fact after the instruction when `typed` is
--- known before it (`IsAfter`), then `after` is also the fact after it when `fact` is known before it.
+-- The fact after an instruction with effect e (`IsAfter`) doesn't depend on the register types before the instruction.
+-- If `typed` and `fact` have the same set of stack bytes and the same spills, then the fact after `typed` is also the
+-- fact after `fact`.
 pub after_of : (fact typed after : Fact) (e : Effect) → typed.stack ≡ fact.stack → typed.spills ≡ fact.spills → IsAfter typed e after → IsAfter fact e after
 after_of fact typed after e stack spills h =
     record {

@@ -38,13 +38,13 @@ constant : refusal_of (on_one (0xb700000001000000 ∷ 0x9500000000000000 ∷ [])
 unfolding refusal_of known first_flaw_below
 constant = refl
 
--- a program is refused if R0 is set on only one of the two edges to its exit
+-- a program is refused if R0 is set on only one of the two paths to its exit
 half_an_answer : refusal_of (on_one (0x61120c0000000000 ∷ 0x1502010004000000 ∷ 0xb700000001000000 ∷ 0x9500000000000000 ∷ []))
     ≡ Some (TypeRefusal (NotANumber 3 0))
 unfolding refusal_of known first_flaw_below
 half_an_answer = refl
 
--- a load from the stack is accepted if its bytes are set on both edges to it, and refused if they are set on only one
+-- a load from the stack is accepted if its bytes are set on both paths to it, and refused if they are set on only one
 stored_before : refusal_of (on_one (0xb700000000000000 ∷ 0x620af8ff07000000 ∷ 0x1500010001000000 ∷ 0xb700000005000000 ∷ 0x61a0f8ff00000000
     ∷ 0x9500000000000000 ∷ [])) ≡ None
 unfolding refusal_of known first_flaw_below
@@ -60,12 +60,12 @@ unreached : refusal_of (on_one (0xb700000001000000 ∷ 0x9500000000000000 ∷ 0x
 unfolding refusal_of known first_flaw_below
 unreached = refl
 
--- a branch whose two edges lead to the same unit is accepted
+-- a program is accepted although its branch leads to the same unit whether it is taken or not
 one_unit_twice : refusal_of (on_one (0xb700000001000000 ∷ 0x1500000001000000 ∷ 0x9500000000000000 ∷ [])) ≡ None
 unfolding refusal_of known first_flaw_below
 one_unit_twice = refl
 
--- ---- pointers stored in the stack
+-- ---- a pointer can be stored only in an aligned place of eight bytes, and can be loaded again only as a whole
 pointer_found_again : refusal_of (on_one (0x7b1af8ff00000000 ∷ 0x79a2f8ff00000000 ∷ 0x7920180000000000 ∷ 0x9500000000000000 ∷ [])) ≡ None
 unfolding refusal_of known first_flaw_below
 pointer_found_again = refl

@@ -1,4 +1,6 @@
--- Which cells of the stack hold bytes, by a fact's set of places, before and after a store.
+-- Lemmas on the cells of the stack. If the cells in a fact's set of stack bytes all hold bytes (`Covered`), then a load
+-- of bytes that are all in the set gives a number. After a store of bytes inside the stack, each cell that held a byte
+-- still holds one, and so does each cell that the store wrote.
 use Rattle.std.proofs.Common.{◌≡◌, ℕ, zero, suc, ◌+◌, ◌-◌, ◌*◌, ◌<◌, ◌≤◌, List, [], ◌∷◌, Option, Some, None, Bool, true, false, refl, sym, ap, ◌∙◌, subst, inl}
 use Rattle.std.proofs.Common.{inr, arith, length}
 use Rattle.std.specs.Prelude.{ℤ, pos, negsuc, ◌&&◌, cond, nat_le, nat_lt, slice_set, slice_index_or}
@@ -98,7 +100,7 @@ size_small Half = omega arith
 size_small Word = omega arith
 size_small Double = omega arith
 
--- ---- sets as lists of truth values
+-- ---- `all_in` is true exactly if the set has each of the `len` places from `at` on
 
 pub same_bool : (a b : Bool) → (a ≡ true → b ≡ true) → (b ≡ true → a ≡ true) → a ≡ b
 same_bool true b f g = sym (f refl)

@@ -1,4 +1,5 @@
--- A well typed instruction doesn't lead to a stuck machine, and the state after it fits the fact after it.
+-- A well typed instruction doesn't lead to a stuck machine, and the state after the instruction fits the verifier's
+-- fact after the instruction.
 use Rattle.std.proofs.Common.{◌≡◌, ◌≢◌, ℕ, zero, suc, ◌+◌, ◌-◌, ◌*◌, ◌<◌, ◌≤◌, ◌⊎◌, List, [], ◌∷◌, Option, Some, None, Bool, true, false, refl, sym, ap, ◌∙◌}
 use Rattle.std.proofs.Common.{subst, inl, inr, arith, length}
 use Rattle.std.specs.Prelude.{Result, Ok, Err, ℤ, ◌^◌, ◌==◌, ◌/◌, ◌%◌, cond, drop, slice_set, slice_index}
@@ -80,7 +81,7 @@ set_is types dst r e h =
     let y = put_is types dst r e x.1 in
     (y.0, y.1, x.0, y.2)
 
--- ---- a register is written
+-- ---- if a value fits a type, and a register gets this value and this type, the register's value fits its type
 
 written_type : (types : List RegType) (dst : ℕ) (t : RegType) (v : Value) → FitsType t v → FitsType (type_at (slice_set types dst t) dst) v
 written_type [] dst t v h = tt
@@ -122,7 +123,7 @@ exit_test : (a : Bool) (x : Flaw) (r e : Effect) → cond a (ok_of r) (Err x) �
 exit_test true x r e h = refl
 exit_test false x r e h = absurd (cc)
 
--- ---- what is known of an accepted load or store: its place, its type or its effect
+-- ---- these lemmas give the place, the type or the effect of an accepted load or store
 
 set_test : (b : Bool) (t : RegType) → cond b (typed_as Num) (Err UnsetBytes) ≡ typed_as t → (b ≡ true) × (Num ≡ t)
 set_test true t h = (refl, cc)
@@ -138,8 +139,8 @@ mark_is types size None e h = absurd (cc)
 mark_is types size (Some at) e h = (at, refl, same_effect h)
 
 -- Let x be the effect of a store of a number, and e the effect of a store of a value of type `value` to the same place.
--- The value isn't a pointer, and e is x. Or it is a pointer and its place can hold it (eight bytes at a multiple of
--- eight); then e is x with `value` as the type of the spilled pointer.
+-- If the value isn't a pointer, e is x. If it is a pointer, then the place can hold a pointer (it is eight bytes at a
+-- multiple of eight), and e is x with `value` as the type of the spilled pointer.
 abbrev StoresPointerOrNot : RegType → Bool → Effect → Effect → Type 0
 StoresPointerOrNot value pointer x e = ((pointer ≡ false) × (x ≡ e)) ⊎ ((pointer ≡ true) × (is_aligned x.len x.at ≡ true) × (record x { spilled = value } ≡ e))
 
@@ -206,7 +207,6 @@ called_fits types values n (suc (suc (suc (suc (suc (suc r)))))) h =
     (subst (FitsType (type_at types (6 + r))) (sym (get_or-drop 6 values r Unset)) (h (6 + r)))
 
 module _ (options : LoadOptions) (fact after : Fact) (s : State) (fits : Fits fact s) where
-  -- the types after an instruction are those of its effect
   after_types : (e x : Effect) → IsAfter fact e after → x ≡ e → after.types ≡ x.types
   after_types e x h same = h.types ∙ ap (λ y. y.types) (sym same)
 
@@ -478,7 +478,7 @@ module _ (options : LoadOptions) (fact after : Fact) (s : State) (fits : Fits fa
       (λ at. Continues (record s { pc = s.pc + 1; stack = written s.stack at (little_bytes size n) })))) (sym x.1)
       (inl refl, fits_stored e x.0 (little_bytes size n) (s.pc + 1) is same (omega (arith, long, inside)), Changes-refl options.mask s.counters)
 
-  -- ---- a jump leads to one of its successor units, whether it is taken or not, in a state that fits the fact after it
+  -- ---- a jump, taken or not, leads to one of its successor units, in a state that fits the fact after the jump
 
   cons_is : (o : Option ℕ) (rest tos : List ℕ) → option_cons o rest ≡ Some tos → (to : ℕ) × (o ≡ Some to) × ((to ∷ rest) ≡ tos)
   cons_is None rest tos e = absurd (cc)
@@ -505,7 +505,7 @@ module _ (options : LoadOptions) (fact after : Fact) (s : State) (fits : Fits fa
   some_list : (x y : List ℕ) → Some x ≡ Some y → x ≡ y
   some_list x y e = cc
 
-  -- ---- the state after a well typed call fits the fact after it; then all instructions are taken together
+  -- ---- the state after a well typed call fits the fact after the call
 
   call_fits : (e : Effect) → IsAfter fact e after → (a : HelperResult) (at : ℕ) (bytes : List ℕ) → marked_by (after_call fact.types) at (length bytes) ≡ e
       → a.stack ≡ written s.stack at bytes → at + length bytes ≤ 512

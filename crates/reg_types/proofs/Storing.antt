@@ -1,4 +1,5 @@
--- Stored facts: where they are found, changed and added.
+-- Lemmas on the list of stored facts and on its index (`IsIndexed`). If the fact of one unit is replaced or added, the
+-- other units keep their facts, and each fact is still found by the index.
 use Rattle.std.proofs.Common.{◌≡◌, ◌≢◌, ℕ, zero, suc, ◌+◌, ◌<◌, ◌≤◌, List, [], ◌∷◌, ◌++◌, Option, Some, None, Bool, true, false, refl, sym, ap, ◌∙◌, subst, inl}
 use Rattle.std.proofs.Common.{inr, arith, length}
 use Rattle.std.specs.Prelude.{◌==◌, cond, slice_index, slice_index_or, slice_set, is_some, replicate, IfSome, IsTrue}
@@ -136,7 +137,7 @@ entered_at facts new at fact (Some k) true some place joined none q = (joined re
 entered_at facts new at fact (Some k) false some place joined none q =
     absurd (no_some (ap is_some (sym (stored_at facts at k (stored_fact at fact) place) ∙ none refl)))
 
--- ---- the index of each stored fact
+-- ---- after a stored fact was changed, or one was added, the index still gives the place of each fact (`IsIndexed`)
 
 none_stored : (facts : List StoredFact) (at : ℕ) → stored facts at ≡ None → (j : ℕ) (d : StoredFact) → j < length facts → (slice_index_or facts j d).at ≢ at
 none_stored [] at none j d l = absurd (omega (arith, l))

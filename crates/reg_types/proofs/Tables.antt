@@ -1,5 +1,5 @@
--- The order of facts: a fact is below another if each state that fits it also fits the other (`IsBelow`). Each of
--- two facts is below their join, which can be made register by register.
+-- The order of facts: a fact is below another if each state that fits it also fits the other (`IsBelow`). Each of two
+-- facts is below their join. The code joins the register types of two facts register by register.
 use Rattle.std.proofs.Common.{◌≡◌, ◌≢◌, ℕ, ◌+◌, ◌<◌, ◌≤◌, List, Bool, true, false, refl, sym, ap, ◌∙◌, subst, inl, inr, arith, length}
 use Rattle.std.specs.Prelude.{◌==◌, ◌*◌, cond, slice_set, slice_index}
 use Rattle.std.specs.Ordering.{int_eq}
@@ -19,7 +19,7 @@ use Rattle.reg_types.specs.Facts.{FitsType, FitsSpill, IsBelow}
 use Rattle.reg_types.specs.Inference.{join_spills}
 use Rattle.reg_types.proofs.Keeping.{joined_spill, no_spill_fits}
 
--- ---- the order of facts
+-- ---- `IsBelow` is reflexive and transitive; each value that fits one of two types also fits their join
 
 pub IsBelow-refl : (a : Fact) → IsBelow a a
 IsBelow-refl a = record { weakens = λ s f. f }
@@ -120,8 +120,9 @@ below_right a b j e h n =
           };
     }
 
--- if the types of all registers below r in `ts` are the joins of those in `a` and `b`, and the type of register r is
--- set to the join of its types in `a` and `b`, then the types of all registers below r + 1 are these joins
+-- One step of the loop that joins the types of `a` and `b`. After r steps the types of the registers below r in `ts`
+-- are joined. If the type of register r is set to the join of its types in `a` and `b`, the types of the registers
+-- below r + 1 are joined.
 pub join_step : (ts a b : List RegType) (r : ℕ) (v : RegType) → r < length ts → v ≡ join_type (type_at a r) (type_at b r)
     → ((k : ℕ) → k < r → type_at ts k ≡ join_type (type_at a k) (type_at b k)) → (k : ℕ) → k < r + 1
     → type_at (slice_set ts r v) k ≡ join_type (type_at a k) (type_at b k)

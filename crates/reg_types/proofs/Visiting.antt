@@ -1,4 +1,6 @@
--- The verifier's pass over the units: what it does at one unit, and the whole pass.
+-- The verifier's pass goes from unit to unit, and computes what is known of each (`known`). It ends early at the first
+-- flaw (`first_flaw_below`), or if memory runs out. The first lemmas are on the pass at one unit, the last on the whole
+-- pass.
 use Rattle.std.proofs.Common.{◌≡◌, ◌≢◌, ℕ, suc, ◌+◌, ◌<◌, ◌≤◌, List, [], ◌∷◌, Option, Some, None, Bool, true, false, refl, sym, ap, ◌∙◌, subst, inl, inr, arith}
 use Rattle.std.proofs.Common.{add-one, length}
 use Rattle.std.specs.Prelude.{Result, Ok, Err, OnOk, IfErr, IfSome, IsSome, is_some, ◌&&◌, ◌||◌, ℤ, slice_get, ◌==◌, cond}
@@ -53,7 +55,7 @@ never_none o tos a b = cc
 same_tos : (o : Option (List ℕ)) (x y : List ℕ) → some_of x ≡ o → o ≡ some_of y → y ≡ x
 same_tos o x y a b = cc
 
--- ---- units that have a stored fact
+-- ---- at an instruction, no unit but the target of its jump gains a stored fact
 
 same_some : (a b : Option Fact) → AreSame a b → is_some a ≡ is_some b
 same_some None None h = refl
@@ -85,8 +87,9 @@ jumped_some q fact (Next to) old = or_no (is_some old)
 jumped_some q fact (Jump to) old = entered_if (q == to) (taken_in old fact) old
 jumped_some q fact (Either to next) old = entered_if (q == to) (taken_in old fact) old
 
--- There are two ways to pass on `fact` after an instruction. Either all edges of the instruction bring it, or only its
--- jump's edge does, and `fact` is carried to the next instruction. Both ways, the same is known of unit q afterwards.
+-- `fact`, the fact after an instruction, can be passed on in two ways. It is joined into each unit that the instruction
+-- leads to. Or it is joined only into the jump's target, and is carried to the next instruction. What is known of unit
+-- q afterwards is the same in both cases.
 seen_led : (q : ℕ) (fact : Fact) (next : Successors) (old new : Option Fact) → AreSame new (arrived_all q fact (jumps_of next) old)
     → AreSame (brought q (carried_of fact next) new) (arrived_all q fact (list_of next) old)
 seen_led q fact End old new h = h
@@ -98,43 +101,43 @@ entry_by : (t : Bool) (f : Fact) → IsSame f entry_fact → AreSame (cond t (So
 entry_by true f h = h
 entry_by false f h = tt
 
-module _ (us : List ProgramUnit) (options : LoadOptions) (pc : ℕ) (i : Inst) (fact : Fact) (form : Form) (upper : ℤ) (sound : IsSound us)
+module _ (us : List ProgramUnit) (options : LoadOptions) (pc : ℕ) (i : Inst) (fact : Fact) (form : Form) (sound : IsSound us)
     (at : slice_get us pc ≡ Some (First i)) (is : form_of i.opcode ≡ Some form) where
-  ahead_of : (e : Effect) → ok_of e ≡ checked_effect (length us) pc options fact i upper form → (tos : List ℕ) × (successor_units pc i form ≡ Some tos)
+  ahead_of : (e : Effect) → ok_of e ≡ checked_effect (length us) pc options fact i (upper_of us pc) form → (tos : List ℕ) × (successor_units pc i form ≡ Some tos)
       × AllByRecursion (IsAhead us pc) tos
-  ahead_of e j = leads_ahead sound.bytes us sound.reads pc i at sound.forward form is (judged_is (length us) pc options fact i upper form e (sym j)).0
+  ahead_of e j = leads_ahead sound.bytes us sound.reads pc i at sound.forward form is (judged_is (length us) pc options fact i (upper_of us pc) form e (sym j)).0
 
   -- an accepted instruction has defined successors: `successor_units` isn't None
-  pub leads_somewhere : (e : Effect) → ok_of e ≡ checked_effect (length us) pc options fact i upper form → None ≡ successor_units pc i form → ⊥
+  pub leads_somewhere : (e : Effect) → ok_of e ≡ checked_effect (length us) pc options fact i (upper_of us pc) form → None ≡ successor_units pc i form → ⊥
   leads_somewhere e j none = let a = ahead_of e j in never_none (successor_units pc i form) a.0 none a.1
 
-  pub next_ahead : (e : Effect) (next : Successors) → ok_of e ≡ checked_effect (length us) pc options fact i upper form → some_of (list_of next) ≡ successor_units pc i form
+  pub next_ahead : (e : Effect) (next : Successors) → ok_of e ≡ checked_effect (length us) pc options fact i (upper_of us pc) form → some_of (list_of next) ≡ successor_units pc i form
       → AllByRecursion (IsAhead us pc) (list_of next)
   next_ahead e next j to = let a = ahead_of e j in subst (AllByRecursion (IsAhead us pc)) (same_tos (successor_units pc i form) (list_of next) a.0 to a.1) a.2
 
-  passed_is : (e : Effect) (next : Successors) → upper ≡ upper_of us pc → ok_of e ≡ checked_effect (length us) pc options fact i upper form
+  passed_is : (e : Effect) (next : Successors) → ok_of e ≡ checked_effect (length us) pc options fact i (upper_of us pc) form
       → some_of (list_of next) ≡ successor_units pc i form → (q : ℕ) (old : Option Fact)
       → passed us options pc (Some fact) q old ≡ arrived_all q (fact_after fact e) (list_of next) old
-  passed_is e next up j to q old =
+  passed_is e next j to q old =
       ap (λ o. passed_from us options pc fact o q old) (instruction_from us pc i form at is)
-      ∙ ap (λ r. passed_by q fact r (successor_units pc i form) old) (sym (j ∙ ap (λ u. checked_effect (length us) pc options fact i u form) up))
+      ∙ ap (λ r. passed_by q fact r (successor_units pc i form) old) (sym j)
       ∙ ap (λ o. passed_by q fact (Ok e) o old) (sym to)
 
   -- Let the fact after an accepted instruction at unit pc be joined into what is known of each unit that it leads to.
   -- Then what is known of unit q afterwards, `new`, is what `passed` gives: what is known of q after the verifier's
   -- pass over the units has visited unit pc.
-  passed_to : (e : Effect) (after : Fact) (next : Successors) → upper ≡ upper_of us pc → ok_of e ≡ checked_effect (length us) pc options fact i upper form
+  passed_to : (e : Effect) (after : Fact) (next : Successors) → ok_of e ≡ checked_effect (length us) pc options fact i (upper_of us pc) form
       → IsAfter fact e after → some_of (list_of next) ≡ successor_units pc i form → (q : ℕ) (old new : Option Fact) → AreSame new (arrived_all q after (list_of next) old)
       → AreSame new (passed us options pc (Some fact) q old)
-  passed_to e after next up j after_is to q old new same =
-      subst (AreSame new) (sym (passed_is e next up j to q old))
+  passed_to e after next j after_is to q old new same =
+      subst (AreSame new) (sym (passed_is e next j to q old))
       (AreSame-trans new (arrived_all q after (list_of next) old) (arrived_all q (fact_after fact e) (list_of next) old) same
       (arrived_all_same q (list_of next) old old after (fact_after fact e) (AreSame-refl old) (same_after fact e after after_is)))
 
-  flaw_is : (r : Result Effect Flaw) → upper ≡ upper_of us pc → r ≡ checked_effect (length us) pc options fact i upper form
+  flaw_is : (r : Result Effect Flaw) → r ≡ checked_effect (length us) pc options fact i (upper_of us pc) form
       → flaw_under us options pc (Some fact) ≡ flaw_in pc r
-  flaw_is r up j =
-      ap (flaw_of us options pc fact) (instruction_from us pc i form at is) ∙ ap (flaw_in pc) (sym (j ∙ ap (λ u. checked_effect (length us) pc options fact i u form) up))
+  flaw_is r j =
+      ap (flaw_of us options pc fact) (instruction_from us pc i form at is) ∙ ap (flaw_in pc) (sym j)
 
   jumps_ahead : (next : Successors) → AllByRecursion (IsAhead us pc) (list_of next) → AllByRecursion (IsAhead us pc) (jumps_of next)
   jumps_ahead End h = tt
@@ -170,21 +173,21 @@ module _ (us : List ProgramUnit) (options : LoadOptions) (pc : ℕ) (i : Inst) (
   small_jump (Jump to) h = let l = h.0.inside in let n = (count_of_units sound.bytes us sound.reads).1 in omega (arith, l, n)
   small_jump (Either to next) h = let l = h.0.inside in let n = (count_of_units sound.bytes us sound.reads).1 in omega (arith, l, n)
 
-  pub jump_small : (e : Effect) (next : Successors) → ok_of e ≡ checked_effect (length us) pc options fact i upper form → some_of (list_of next) ≡ successor_units pc i form
+  pub jump_small : (e : Effect) (next : Successors) → ok_of e ≡ checked_effect (length us) pc options fact i (upper_of us pc) form → some_of (list_of next) ≡ successor_units pc i form
       → IfSome (jump_of next) (λ to. to ≤ 512)
   jump_small e next j to = small_jump next (jumps_ahead next (next_ahead e next j to))
 
   -- `IsVisited` holds if an instruction is accepted, and the fact after it is joined into its jump's target (if it has
   -- a jump) and carried to the next instruction (if a run can continue there)
-  pub visited : (e : Effect) (after : Fact) (next : Successors) (carried : Option StoredFact) (old new : Facts) → upper ≡ upper_of us pc
-      → ok_of e ≡ checked_effect (length us) pc options fact i upper form → IsAfter fact e after → some_of (list_of next) ≡ successor_units pc i form → IsNext pc form next
+  pub visited : (e : Effect) (after : Fact) (next : Successors) (carried : Option StoredFact) (old new : Facts)
+      → ok_of e ≡ checked_effect (length us) pc options fact i (upper_of us pc) form → IsAfter fact e after → some_of (list_of next) ≡ successor_units pc i form → IsNext pc form next
       → jump_of next ≡ target_by pc form i → carried ≡ carried_of after next → ((q : ℕ) → AreSame (new q) (arrived_all q after (jumps_of next) (old q)))
       → IsVisited us options pc fact carried old new
-  visited e after next carried old new up j after_is to n jump is_carried same =
+  visited e after next carried old new j after_is to n jump is_carried same =
       let ahead = next_ahead e next j to in
       subst (λ c. IsVisited us options pc fact c old new) (sym is_carried) (record {
-        flawless = flaw_is (Ok e) up j;
-        ahead = λ q l. passed_to e after next up j after_is to q (old q) (seen (carried_of after next) new q) (seen_led q after next (old q) (new q) (same q));
+        flawless = flaw_is (Ok e) j;
+        ahead = λ q l. passed_to e after next j after_is to q (old q) (seen (carried_of after next) new q) (seen_led q after next (old q) (new q) (same q));
         behind = λ q l. subst (AreSame (new q)) (behind us pc q after l (jumps_of next) (jumps_ahead next ahead) (old q)) (same q);
         goes_on = goes_to after next n ahead;
         occupied =
@@ -195,11 +198,11 @@ module _ (us : List ProgramUnit) (options : LoadOptions) (pc : ℕ) (i : Inst) (
 
   -- if the instruction at unit pc is accepted and is a jump, then the verifier's pass over the units can return
   -- `OutOfMemory` there
-  pub ran_out : (e : Effect) (next : Successors) → upper ≡ upper_of us pc → ok_of e ≡ checked_effect (length us) pc options fact i upper form
+  pub ran_out : (e : Effect) (next : Successors) → ok_of e ≡ checked_effect (length us) pc options fact i (upper_of us pc) form
       → jump_of next ≡ target_by pc form i → (jump_of next ≡ None → ⊥) → IsUnitRefused us options pc (Some fact) OutOfMemory
-  ran_out e next up j jump some = (flaw_is (Ok e) up j, λ none. some (jump ∙ sym target_is ∙ none))
+  ran_out e next j jump some = (flaw_is (Ok e) j, λ none. some (jump ∙ sym target_is ∙ none))
 
--- ---- what the verifier's pass over the units does at one unit
+-- ---- at one unit, the verifier's pass does what `IsPassed` says, or returns a refusal that `IsUnitRefused` allows
 
 brought_elsewhere : (q pc : ℕ) (c : Option StoredFact) → IsCarriedAt pc c → q ≢ pc → (old : Option Fact) → brought q c old ≡ old
 brought_elsewhere q pc None at n old = refl
@@ -316,9 +319,7 @@ module _ (us : List ProgramUnit) (options : LoadOptions) (pc : ℕ) (carried : O
               ∙ ap (λ o. is_some (old q) || (is_some (seen carried old pc) && goes o q)) (sym no_jump);
         }
 
--- ---- the fact before a unit: the stored and the carried one joined
-
--- ---- the verifier's whole pass over the units
+-- ---- the invariant of the verifier's pass (`IsReached`) holds at the start and stays true from unit to unit
 
 pub start_same : (us : List ProgramUnit) (options : LoadOptions) (f : Fact) → IsEntry f → (q : ℕ)
     → AreSame (stored (record { at = 0; fact = f } ∷ []) q) (known us options 0 q)
@@ -326,9 +327,9 @@ unfolding known
 start_same us options f entry q = entry_by (q == 0) f (same_entry f entry)
 
 -- The invariant of the verifier's pass over the units when it comes to unit pc. No reached unit below pc has a flaw. If
--- a fact is stored for a unit below pc, it is the same as the unit's inferred fact. For each unit from pc on, what the
--- stored facts and the carried one give (`seen`) is the same as what is known of the unit from the entry and from the
--- edges of the units below pc (`known`).
+-- a fact is stored for a unit below pc, it is the same as the unit's inferred fact. For each unit from pc on, the
+-- stored facts and the carried one together (`seen`) give what is known of the unit from the start of a run and from
+-- the instructions at the units below pc (`known`).
 pub record IsReached (us : List ProgramUnit) (options : LoadOptions) (carried : Option StoredFact) (facts : Facts) (pc : ℕ) : Type 0 where
   pub behind : (q : ℕ) → q < pc → AreStored (facts q) (inferred us options q)
   pub ahead : (q : ℕ) → pc ≤ q → AreSame (seen carried facts q) (known us options pc q)

@@ -34,6 +34,6 @@ PlainAt us pc options i fact =
 abbrev pub PlainTypesAt : ℕ → List RegType → Type 0
 PlainTypesAt pc types = ((pc ≡ 0) × (types ≡ entry_types)) ⊎ ArePlain types
 
--- each instruction is accepted with all types that a plain program can have at its unit
+-- each instruction is accepted with any types that a plain program can have at the instruction's unit
 pub record AcceptsAll (us : List ProgramUnit) (options : LoadOptions) : Type 0 where
   pub each : (pc : ℕ) (i : Inst) (fact : Fact) → slice_get us pc ≡ Some (First i) → PlainTypesAt pc fact.types → PlainAt us pc options i fact

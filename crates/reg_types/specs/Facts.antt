@@ -1,4 +1,6 @@
--- Promises: what facts (what is known before a unit) mean, and when they cover a program.
+-- Promises: when a state fits a fact (what is known before a unit), and when facts cover a program. Facts cover a
+-- program if the fact of unit 0 holds when a run begins, and each instruction whose unit has a fact is well typed. Then
+-- no run of the program gets stuck.
 use Rattle.std.specs.Prelude.{◌≡◌, ◌≢◌, ℕ, suc, ◌≤◌, slice_index, ◌+◌, ◌*◌, ◌<◌, ◌==◌, if◌then◌else◌, ◌/◌, ◌%◌, ◌^◌, ◌⊎◌, ◌↔◌, Bool, true, false, pos, ◌+ℤ◌}
 use Rattle.std.specs.Prelude.{List, [], ◌∷◌, length, Option, Some, None, Ok, slice_get, slice_index_or, ⊤}
 use Rattle.std.specs.List.{AllByRecursion}
@@ -121,7 +123,7 @@ IsNext pc form (Either to next) = next ≡ pc + 1
 abbrev pub Facts : Type 0
 Facts = ℕ → Option Fact
 
--- the stored facts of a list, found by their units: the first one of unit q, or None if q has none
+-- the fact that the list has for unit q: the first one whose unit is q; None if there is none
 abbrev pub stored : List StoredFact → Facts
 stored [] q = None
 stored (s ∷ rest) q = if q == s.at then Some s.fact else stored rest q

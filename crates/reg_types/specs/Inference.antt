@@ -60,14 +60,14 @@ abbrev pub respilled : ℕ → ℕ → ℕ → ℕ → List ℕ → List ℕ
 respilled n at len k [] = []
 respilled n at len k (m ∷ rest) = (if touches at len k then n else m) ∷ respilled n at len (suc k) rest
 
--- ---- these are the join of two facts, the fact when a run begins, and the fact after an instruction
+-- ---- the join of two facts, the fact when a run begins, and the fact after an instruction
 
 abbrev pub join_types : List RegType → List RegType → List RegType
 join_types [] bs = []
 join_types (a ∷ rest) [] = []
 join_types (a ∷ rest) (b ∷ bs) = join_type a b ∷ join_types rest bs
 
--- the join of two facts: what is known whichever of the two holds
+-- the join of two facts: what the two facts agree on
 abbrev pub join_fact : Fact → Fact → Fact
 join_fact a b =
     record { types = join_types a.types b.types; stack = common a.stack b.stack; spills = join_spills a.spills b.spills }
@@ -98,7 +98,7 @@ fact_after fact effect =
       spills = respilled (spill_of effect.spilled) effect.at effect.len 0 fact.spills;
     }
 
--- ---- these are the instruction at a unit, the units that it leads to, and its effect or its flaw
+-- ---- the instruction at a unit, the units that it leads to, and its effect or its flaw
 
 abbrev pub option_cons : Option ℕ → List ℕ → Option (List ℕ)
 option_cons None tos = None
@@ -144,15 +144,15 @@ abbrev pub flaw_under : List ProgramUnit → LoadOptions → ℕ → Option Fact
 flaw_under us options pc None = None
 flaw_under us options pc (Some fact) = flaw_of us options pc fact (instruction_at us pc)
 
--- ---- edges
+-- ---- facts that an instruction passes on to the units that it leads to
 
--- An edge is the way from an instruction to one that can follow it in a run. After an edge has brought `fact` to a
--- unit, the unit's fact is the join of its old fact and `fact`, or `fact` itself if the unit had no fact before.
+-- what is known of a unit after `fact` was joined into it: the join of the old fact and `fact`, or `fact` itself if the
+-- unit had no fact before (None)
 abbrev pub taken_in : Option Fact → Fact → Fact
 taken_in None fact = fact
 taken_in (Some old) fact = join_fact old fact
 
--- what is known of unit q after an edge has brought `fact` to unit `to`; before the edge, it was `old`
+-- what is known of unit q after `fact` was joined into what is known of unit `to`; `old` is what was known of q before
 abbrev pub arrived : ℕ → Fact → ℕ → Option Fact → Option Fact
 arrived q fact to old = if q == to then Some (taken_in old fact) else old
 
@@ -160,8 +160,9 @@ abbrev pub arrived_all : ℕ → Fact → List ℕ → Option Fact → Option Fa
 arrived_all q fact [] old = old
 arrived_all q fact (to ∷ tos) old = arrived_all q fact tos (arrived q fact to old)
 
--- what is known of unit q after all edges of an instruction have brought the fact after it; a refused instruction has
--- no edges
+-- What is known of unit q after an instruction was checked. `fact` is the fact before the instruction, and `old` is
+-- what was known of q before the check. The fact after the instruction is joined into what is known of each unit that
+-- the instruction leads to. A refused instruction changes nothing, and neither does a jump outside the units 0 to 512.
 abbrev pub passed_by : ℕ → Fact → Result Effect Flaw → Option (List ℕ) → Option Fact → Option Fact
 passed_by q fact (Err flaw) tos old = old
 passed_by q fact (Ok effect) None old = old
@@ -177,15 +178,17 @@ abbrev pub passed : List ProgramUnit → LoadOptions → ℕ → Option Fact →
 passed us options pc None q old = old
 passed us options pc (Some fact) q old = passed_from us options pc fact (instruction_at us pc) q old
 
--- ---- these are what is known before each unit of a program, and the program's first flaw
+-- ---- what is known before each unit of a program, and the program's first flaw
 
--- what is known of unit q from the entry and from the edges of the units below n; None if none of these reaches it
+-- What is known of unit q from the start of a run (at unit 0) and from those instructions at the units below n that are
+-- reached and not refused. None if q isn't unit 0 and none of these instructions leads to q.
 unfoldable pub known : List ProgramUnit → LoadOptions → ℕ → ℕ → Option Fact
 known us options zero q = if q == 0 then Some entry_fact else None
 known us options (suc n) q = passed us options n (known us options n n) q (known us options n q)
 
--- what is known before unit q: the join of the facts that the edges from earlier reached units bring to it, and at unit
--- 0 the fact on entry; None if the unit isn't reached
+-- What is known before unit q. At unit 0 this is the fact on entry. At each other unit it is the join of the facts
+-- after all earlier instructions that are reached, aren't refused and lead to q, or None if there are none: then q
+-- isn't reached.
 abbrev pub inferred : List ProgramUnit → LoadOptions → ℕ → Option Fact
 inferred us options q = known us options q q
 
@@ -193,8 +196,8 @@ abbrev pub or_else : Option TypeFault → Option TypeFault → Option TypeFault
 or_else None b = b
 or_else (Some fault) b = Some fault
 
--- The first fault among the first n units. It is that of the lowest unit that is reached and refused, and there the one
--- with the lowest fault number (V1 to V20). It is None if no reached unit is refused.
+-- The fault of the lowest of the first n units that is reached and refused. If this unit has several faults, it is the
+-- one with the lowest fault number (V1 to V20). None if none of the first n units is reached and refused.
 unfoldable pub first_flaw_below : List ProgramUnit → LoadOptions → ℕ → Option TypeFault
 first_flaw_below us options zero = None
 first_flaw_below us options (suc n) = or_else (first_flaw_below us options n) (flaw_under us options n (inferred us options n))

@@ -1,4 +1,4 @@
--- Definitions: what a program is loaded with (this profile).
+-- Definitions: the options that a program is loaded with (source: this project).
 use Rattle.std.specs.Prelude.{ℕ, List}
 use Rattle.bpf_model.specs.Program.{ProgramText}
 use Rattle.reg_types.specs.declared.types.LoadOptions.{LoadOptions}

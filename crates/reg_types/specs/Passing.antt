@@ -37,7 +37,8 @@ AreSame (Some a) (Some b) = IsSame a b
 AreSame None (Some b) = ⊥
 AreSame (Some a) None = ⊥
 
--- if a fact is stored for the unit, it is the same as `fact`
+-- The first argument is the fact that is stored for a unit, and `fact` is a fact with the same types, stack bytes and
+-- spills. Always true if no fact is stored (None).
 abbrev pub AreStored : Option Fact → Option Fact → Type 0
 AreStored None fact = ⊤
 AreStored (Some a) fact = AreSame (Some a) fact
@@ -45,13 +46,14 @@ AreStored (Some a) fact = AreSame (Some a) fact
 -- ---- the stored facts, and the carried fact: the fact after an instruction, for the unit of the next instruction
 
 -- A carried fact is the fact after an instruction, with the unit of the next instruction. `brought` is what is known of
--- unit q after the carried fact, if there is one, was joined into what is known of its unit; `old` is what was known of
--- q before.
+-- unit q after the carried fact, if there is one, was joined into what is known of the next instruction's unit. `old`
+-- is what was known of q before.
 abbrev pub brought : ℕ → Option StoredFact → Option Fact → Option Fact
 brought q None old = old
 brought q (Some s) old = arrived q s.fact s.at old
 
--- what is known of each unit from the stored facts and the carried fact
+-- What is known of each unit: its stored fact, or None if it has none. At the unit of the carried fact (the fact after
+-- an instruction, for the unit of the next instruction), the carried fact is joined in too.
 abbrev pub seen : Option StoredFact → Facts → Facts
 seen carried facts q = brought q carried (facts q)
 
@@ -76,8 +78,9 @@ pub record IsJoined (at : ℕ) (fact : Fact) (old new : Facts) : Type 0 where
   pub each : (q : ℕ) → AreSame (new q) (arrived q fact at (old q))
   pub occupied : (q : ℕ) → is_some (new q) ≡ is_some (old q)
 
--- `fact` is what is known before unit pc: the stored fact, the carried fact, or the join of both; None if there is
--- neither. If a fact was stored for the unit, `fact` is stored for it now. No other stored fact has changed.
+-- `fact` is what is known before unit pc: the stored fact of the unit, the fact that was carried to it from the
+-- instruction before (`carried`), or the join of both. It is None if there is neither. If a fact was stored for unit
+-- pc, then `fact` is stored for it now. The facts stored for other units haven't changed.
 pub record IsMerged (pc : ℕ) (carried : Option StoredFact) (fact : Option Fact) (old new : Facts) : Type 0 where
   pub is : AreSame fact (seen carried old pc)
   pub others : (q : ℕ) → q ≢ pc → AreSame (new q) (old q)

@@ -1,5 +1,5 @@
 -- Definitions: plain programs, which work on R0 and the context only. They are always accepted unless memory runs out
--- (this profile).
+-- (source: this project).
 use Rattle.std.specs.Prelude.{◌≡◌, ℕ, ◌-◌, List, length, Some, None, IsSome, slice_get, ⊤}
 use Rattle.bpf_model.specs.declared.instruction.Inst.{Inst}
 use Rattle.bpf_model.specs.declared.instruction.Source.TheVariants.{Immediate, Register}

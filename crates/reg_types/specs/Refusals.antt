@@ -1,5 +1,5 @@
--- Definitions: the numbers that a refusal has: of its fault (V1 to V20), of its unit, and of its register or argument
--- (this profile).
+-- Definitions: the numbers of a refusal: its fault number (V1 to V20), its unit, and its register or argument (this
+-- profile).
 use Rattle.std.specs.Prelude.{ℕ, Option, Some, None}
 use Rattle.bpf_decode.specs.declared.DecodeFault.{DecodeFault}
 use Rattle.bpf_decode.specs.declared.DecodeFault.TheVariants.{Length, BadOpcode, BadField, BadRegister, HalfWide, OutOfMemory as NoMemoryToDecode}

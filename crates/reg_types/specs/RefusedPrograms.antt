@@ -34,7 +34,7 @@ use Rattle.reg_types.specs.Refusals.{located}
 use Rattle.reg_types.specs.LoadOptions.{options_of}
 use Rattle.reg_types.specs.Inference.{first_flaw}
 
--- a run would continue after this instruction, but the program has no unit there
+-- a run can continue with the unit after this instruction, but the program has no such unit
 abbrev pub FallsOffEnd : ℕ → ℕ → Form → Type 0
 FallsOffEnd count pc Exit = ⊥
 FallsOffEnd count pc Ja = ⊥
@@ -101,7 +101,8 @@ TakesNumbers i (Arithmetic Mov Bits64 Register) = ¬ (i.offset ≡ pos 0)
 TakesNumbers i (Arithmetic op w s) = ⊤
 TakesNumbers i form = ⊥
 
--- the instruction is a call, and P holds of the helper that it calls, or of None if no helper has its number
+-- the instruction is a call, and P holds of the helper whose number is the immediate, or of None if there is no such
+-- helper
 abbrev pub CallsBy : Inst → Form → (Option Helper → Type 0) → Type 0
 CallsBy i Call P = P (helper_of i.imm)
 CallsBy i form P = ⊥
@@ -176,13 +177,14 @@ IsRefused p (Flow fault) = IsFlowRefused p.bytes fault
 IsRefused p (TypeRefusal fault) = IsPossibleTypeFault p.bytes fault
 IsRefused p OutOfMemory = ⊤
 
--- memory may run out for this program: its bytes are 1 to 512 whole units, and the first of them has no fault
+-- What is true of a program for which memory can run out: its bytes are 1 to 512 whole units, and the first unit has no
+-- fault of decoding.
 abbrev pub MayRunOutOfMemory : ProgramText → Type 0
 MayRunOutOfMemory p = HasValidFirstUnit p.bytes
 
 -- ---- which refusal is returned
 
--- the first of two refusals, if there is one, else the second
+-- the first refusal; if it is None, the second
 abbrev pub or_refused : Option Refusal → Option Refusal → Option Refusal
 or_refused None b = b
 or_refused (Some refusal) b = Some refusal
@@ -206,7 +208,8 @@ abbrev pub code_refusal : LoadOptions → Option (List ProgramUnit) → Option R
 code_refusal options None = None
 code_refusal options (Some us) = or_refused (flow_refusal (flow_fault us)) (type_refusal (first_flaw us options))
 
--- a program's refusal: its first fault of decoding, else of a jump, else of a type; None if the program is accepted
+-- The refusal of a program: its first fault of decoding. If it has none, the refusal is its first fault of a jump, and
+-- if it has none of these either, its first type fault. None if nothing is wrong with the program.
 unfoldable pub refusal_of : ProgramText → Option Refusal
 refusal_of p = or_refused (decode_refusal p.bytes) (code_refusal (options_of p) (units p.bytes))
 
@@ -217,8 +220,8 @@ IsRefusal wanted (Decode fault) = wanted ≡ Some (Decode fault)
 IsRefusal wanted (Flow fault) = wanted ≡ Some (Flow fault)
 IsRefusal wanted (TypeRefusal fault) = wanted ≡ Some (TypeRefusal fault)
 
--- the result of `verify` for the program `asked` is right: it is that program if nothing is wrong with it, else its
--- refusal; or it is that memory ran out
+-- The result of `verify` for the program `asked` is right. If the result is a program, it is `asked`, and nothing is
+-- wrong with `asked`. If the result is an error, it is the refusal of `asked`, or that memory ran out.
 abbrev pub IsVerdict : ProgramText → Result ProgramText Refusal → Type 0
 IsVerdict asked (Ok p) = (p ≡ asked) × (refusal_of asked ≡ None)
 IsVerdict asked (Err refusal) = IsRefusal (refusal_of asked) refusal

@@ -126,14 +126,15 @@ put_type types dst (Err e) = Err e
 put_type types dst (Ok t) = Ok (unmarked (slice_set types dst t))
 
 -- The effect or the flaw of an instruction that writes a result of this type to register dst. If dst is R10, which
--- can't be written, the flaw is `WriteR10`. Else, if there is a flaw instead of the type, that is the flaw.
+-- can't be written, the flaw is `WriteR10`. If dst is another register, and a flaw is given instead of a type, the
+-- result is the given flaw.
 abbrev pub set_type : List RegType → ℕ → Result RegType Flaw → Result Effect Flaw
 set_type types dst r = if dst == 10 then Err WriteR10 else put_type types dst r
 
 -- ---- loads and stores
 
--- `natural` is the integer itself, or 0 if it is negative; `lowest` is where the stack pointer Stk k points, in bytes
--- from the stack's lowest byte, or 0 for a pointer below that byte
+-- `natural` gives an integer as a natural number, or 0 if the integer is negative. `lowest` is where the stack pointer
+-- Stk k points, in bytes from the stack's lowest byte, or 0 for a pointer below that byte.
 abbrev pub natural : ℤ → ℕ
 natural (pos n) = n
 natural (negsuc n) = 0
@@ -188,7 +189,7 @@ reload_type spills Unset i size = Unset
 abbrev pub reload_or : RegType → Result RegType Flaw → Result RegType Flaw
 reload_or t r = if is_unset t then r else Ok t
 
--- the type that a load gives: that of the spilled pointer if it loads one, else that of a number; or the load's flaw
+-- the type that a load gives: the type of a spilled pointer if the load reads one, or else `Num`; or the load's flaw
 abbrev pub loaded_type : Layout → List Bool → List ℕ → RegType → Inst → ℕ → Result RegType Flaw
 loaded_type layout set spills base i size = reload_or (reload_type spills base i size) (load_type layout set base i size)
 
@@ -203,14 +204,14 @@ store_type types (Const c) i size = Err NotAPointer
 store_type types (Ctx k) i size = Err StoreToContext
 store_type types (Stk k) i size = marks types size (shifted (lowest k) i.offset (512 - size))
 
--- given the effect `e` of a store of a number, the effect of a store of a pointer of type `value` to the same place; or
--- the flaw `StorePointer`, if the place isn't eight bytes at a multiple of eight
+-- The effect of a store of a pointer of type `value`. `e` is the effect that the store of a number to the same place
+-- would have. The result is the flaw `StorePointer` if the place isn't eight bytes at a multiple of eight.
 abbrev pub stores_pointer : RegType → Effect → Result Effect Flaw
 stores_pointer value e = if is_aligned e.len e.at then Ok (record e { spilled = value }) else Err StorePointer
 
--- The effect or the flaw of a store of a value of type `value`. The result of a store of a number to the same place is
--- given. If that is a flaw, it stays. If it is an effect, it stays too, unless the value is a pointer: then
--- `stores_pointer` gives the result.
+-- The effect or the flaw of a store of a value of type `value`, which must not be `Unset`. The second argument is the
+-- effect or the flaw that the store of a number to the same place would have. If the value is a number, this is the
+-- result. If the value is a pointer, the result is the same flaw, or else what `stores_pointer` gives.
 abbrev pub stores_if_pointer : RegType → Result Effect Flaw → Result Effect Flaw
 stores_if_pointer value (Err e) = Err e
 stores_if_pointer value (Ok e) = if is_pointer value then stores_pointer value e else Ok e
@@ -314,7 +315,7 @@ effect options f i upper (Branch c w s) =
 effect options f i upper Call = call_type options.mask f.types (signature i.imm)
 effect options f i upper Exit = exited f.types (type_at f.types 0)
 
--- whether a run would continue after this instruction, but the program has no unit there
+-- whether a run can continue with the unit after this instruction, but the program has no such unit
 abbrev pub falls_off : ℕ → ℕ → Form → Bool
 falls_off count pc Exit = false
 falls_off count pc Ja = false

@@ -55,8 +55,8 @@ pub fn join_spills(spills: &mut [u16; 64], others: &[u16; 64])
 }
 
 /// Writes `spill` for each aligned place of eight bytes that overlaps the `len` bytes beginning at byte `at`, counted
-/// from the stack's lowest byte. These bytes must be inside the stack. `len` is meant to be at least 1: if it is 0, the
-/// place that has byte `at` still gets `spill`, unless `at` is that place's first byte.
+/// from the stack's lowest byte. These bytes must be inside the stack. Even if `len` is 0, the place that has byte `at`
+/// gets `spill`, unless `at` is the first byte of that place.
 pub fn put_spill(spills: &mut [u16; 64], spill: u16, at: u32, len: u32)
     requires { at + len ≤ STACK_BYTES }
     ensures { spills.new ≡ respilled spill at len 0 spills.old }

@@ -1,5 +1,5 @@
-// The table of the facts that the verifier stores (what is known before a unit). A fact is found by its unit without a
-// search.
+// The table of the facts that the verifier stores. The fact of a unit is what is known so far of the state in which a
+// run comes to the unit. An index gives a unit's fact without a search.
 
 ghost use Rattle.std.specs.Prelude.{◌≡◌, ℕ, ◌≤◌, ◌+◌, ◌∷◌, [], IfOk, IfSome, OnOk, IsTrue};
 ghost use Rattle.std.specs.Prelude.{false, Some, None, replicate};
@@ -13,7 +13,8 @@ use crate::types::{Fact, StoredFact};
 use std::alloc::{AllocError, Global};
 use std::marker::Model;
 
-/// A table of stored facts (what is known before a unit), with at most one fact for each of the units 0 to 512.
+/// A table of stored facts, with at most one fact for each of the units 0 to 512. The fact of a unit is what is known
+/// so far of the state in which a run comes to the unit.
 #[derive(Drop)]
 pub struct Table {
     facts: Vec<StoredFact>,
@@ -123,7 +124,8 @@ impl Table {
         Ok(())
     }
 
-    /// Returns the stored facts, in the order in which their units got one.
+    /// Returns the stored facts, at most one for each unit. Only the code, not the contract, gives them the order in
+    /// which the units first got a fact.
     pub fn into_facts(self) -> Vec<StoredFact>
         ensures same { result.items ≡ self }
         ensures distinct { AreDistinct result.items }

@@ -24,8 +24,8 @@ pub enum RegType {
     Stk(i32),
 }
 
-/// The options that a program is loaded with: the mask of the counters that it declares, and the layout of its
-/// contexts.
+/// The options that a program is loaded with. Bit c of `mask` is 1 if the program declares counter c. `layout` is the
+/// layout of the contexts that the program is run on.
 #[derive(Clone, Copy)]
 pub struct LoadOptions {
     pub mask: u32,
@@ -177,7 +177,9 @@ impl Fact {
         }
     }
 
-    /// Joins two facts: sets both to what is known whichever of the two holds.
+    /// Joins two facts: sets both to the same fact, which says only what both facts said. Each register gets the join
+    /// of its two types. A byte of the stack is then set exactly if it was set in both. A place keeps its spill if the
+    /// spill was the same in both, and else gets 0 (no pointer).
     pub fn join(&mut self, other: &mut Fact)
         ensures joined { IsSame self.new (join_fact self.old other.old) }
         ensures both { other.new ≡ self.new }
@@ -204,9 +206,9 @@ impl Fact {
         }
     }
 
-    // Applies a write to the stack. It must be inside the stack, and is meant to have at least one byte. The bytes of a
-    // number become set, and are no longer part of a spill. The bytes of a pointer become a spill, and are no longer
-    // set.
+    // Applies a write to the stack. The written bytes must be inside the stack. The bytes of a number become set, and
+    // are no longer part of a spill. The bytes of a pointer become a spill, and are no longer set. A write of 0 bytes
+    // sets and clears no byte, but it can change the spill of the aligned place that has byte `mark.at`.
     fn write(&mut self, mark: StackWrite)
         requires { mark.at + mark.len ≤ STACK_BYTES }
         ensures types { self.new.types ≡ self.old.types }

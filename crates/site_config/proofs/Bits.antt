@@ -1,4 +1,5 @@
--- Setting a bit in a number. The points that a door takes are the bits of a number.
+-- Setting bit i of a number makes this bit 1, and leaves the other bits as they are. The points that a door takes are
+-- the bits of a number.
 use Rattle.std.proofs.Common.{◌≡◌, ◌≢◌, ℕ, zero, suc, ◌+◌, ◌-◌, ◌*◌, ◌/◌, ◌%◌, ◌^◌, ◌<◌, ◌≤◌, ◌==◌, ◌||◌, nat_lt, Bool, true, false, cond, refl, sym, subst, ap, ◌∙◌, arith}
 use Rattle.std.specs.Prelude.{bit_or}
 use Rattle.std.proofs.lemmas.Nat.{or_shr, or_mod, pow_below, pow-add, shl-shr, shr_below, mul-mod_first, mod_below}

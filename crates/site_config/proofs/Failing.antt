@@ -11,8 +11,8 @@ use Rattle.site_config.specs.Doors.{with_point, with_points}
 fails_on : {A B : Type 0} (flaw : ConfigFlaw) (r : Result A ConfigFlaw) (g : A → Result B ConfigFlaw) → r ≡ Err flaw → (r >>= g) ≡ Err flaw
 fails_on flaw r g e = rw e
 
--- If reading the first item of `zs`, the items that aren't read yet, fails with a flaw other than `OutOfMemory`, then
--- reading the whole list fails with this flaw.
+-- `zs` are the items of a list that aren't read yet, and `front` is what the earlier items were read as. If reading the
+-- first item of `zs` fails with a flaw other than `OutOfMemory`, then reading the whole list fails with this flaw.
 pub fails_front : {A B : Type 0} (one : ℕ → A → Result B ConfigFlaw) (place : ℕ) (flaw : ConfigFlaw) (front : List B) (zs : List A) (z : A) (rest : List A)
     (whole : Result (List B) ConfigFlaw) → with_front front (each_of one place zs) ≡ whole → zs ≡ z ∷ rest → (flaw ≢ OutOfMemory → one place z ≡ Err flaw)
     → flaw ≢ OutOfMemory → whole ≡ Err flaw
@@ -25,8 +25,9 @@ pushed : {B : Type 0} (front : List B) (y : B) (rest : Result (List B) ConfigFla
 pushed front y (Ok ys) = ap Ok (append_assoc front (y ∷ []) ys)
 pushed front y (Err e) = refl
 
--- If the first item of `zs`, the items that aren't read yet, is read as `y`, then reading `rest` after `front` and `y`
--- has the same result as reading the whole list.
+-- `zs` are the items of a list that aren't read yet, and `front` is what the earlier items were read as. If the first
+-- item of `zs` is read as `y`, then reading `rest` and appending it to `front` and `y` has the same result as reading
+-- the whole list.
 pub read_front : {A B : Type 0} (one : ℕ → A → Result B ConfigFlaw) (place : ℕ) (front : List B) (zs : List A) (z : A) (rest : List A) (y : B)
     (whole : Result (List B) ConfigFlaw) → with_front front (each_of one place zs) ≡ whole → zs ≡ z ∷ rest → one place z ≡ Ok y
     → with_front (front ++ y ∷ []) (each_of one (place + 1) rest) ≡ whole
@@ -36,8 +37,8 @@ read_front {B = B} one place front zs z rest y whole read split e =
     ∙ ap (λ xs. with_front front (each_of one place xs)) (sym split)
     ∙ read
 
--- If adding the next point, `z`, to those so far fails with a flaw other than `OutOfMemory`, then adding all points
--- fails with this flaw.
+-- `bits` are the points that were added so far, and `z` is the next point. If adding `z` fails with a flaw other than
+-- `OutOfMemory`, then adding all points fails with this flaw.
 pub fails_points : (list : Place) (place points bits : ℕ) (flaw : ConfigFlaw) (zs : List ℤ) (z : ℤ) (rest : List ℤ) (whole : Result ℕ ConfigFlaw)
     → with_points list place points bits zs ≡ whole → zs ≡ z ∷ rest → (flaw ≢ OutOfMemory → with_point list place points bits z ≡ Err flaw)
     → flaw ≢ OutOfMemory → whole ≡ Err flaw

@@ -1,6 +1,6 @@
--- From a door's role in the configuration, `role_of` makes the role of the door's sessions. By its role in the
--- configuration the door takes a line exactly if the role of its sessions is allowed to send this line. The line is a
--- till's, or a dispenser's for one of the points 1 to 32.
+-- A door takes a line exactly if the role of its sessions is allowed to send the line. `role_of` makes this role from
+-- the door's role in the configuration. This holds for each till's line, and for each dispenser's line that names a
+-- point from 1 to 32.
 use Rattle.std.proofs.Common.{◌≡◌, ℕ, ◌+◌, ◌-◌, ◌/◌, ◌%◌, ◌^◌, ◌≤◌, ◌==◌, ◌&&◌, ◌||◌, nat_le, not, length, ℤ, pos, negsuc, List, [], ◌∷◌, Bool, true, false, cond}
 use Rattle.std.proofs.Common.{Result, Ok, Err, refl, sym, subst, ap, ◌∙◌, arith}
 use Rattle.std.specs.Prelude.{bit_or}

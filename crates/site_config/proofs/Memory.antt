@@ -1,4 +1,5 @@
--- What takes memory while a list is read, and that a blank text takes none.
+-- If memory is taken to keep an item of a list, it is taken to keep the first one. Reading a blank text takes no
+-- memory.
 use Rattle.std.proofs.Common.{◌≡◌, inl, inr, ℕ, zero, suc, ◌≤◌, List, ◌∷◌, drop, Bool, true, false, Some, None, Result, IsOk, if◌then◌else◌, refl, sym, subst, arith}
 use Rattle.std.specs.Str.{is_utf8}
 use Rattle.toml.specs.Data.{Members, no_members}
@@ -9,9 +10,8 @@ use Rattle.site_config.specs.Document.{document_of}
 use Rattle.site_config.specs.Typed.{typed_of}
 use Rattle.site_config.specs.Memory.{MakesFirst, TakesTyped, TakesDocument}
 
--- If `one` finds no flaw in `x`, the item at place i of `xs`, then it finds none in the first item (`MakesFirst`). If i
--- is 0, `x` is the first item. If i is 1 or more, the first item was read before `x`, and it is a premise that `one`
--- found no flaw in it.
+-- If `one` finds no flaw in the item at place i of `xs`, then it finds none in the first item (`MakesFirst`). If i is
+-- 0, the two are the same item. If i is 1 or more, the claim itself is a premise.
 pub made : {A B : Type 0} (one : ℕ → A → Result B ConfigFlaw) (xs : List A) (i : ℕ) (x : A) (rest : List A)
     → drop i xs ≡ x ∷ rest → (1 ≤ i → MakesFirst (one 0) xs) → IsOk (one i x) → MakesFirst (one 0) xs
 made one xs zero x rest split before now = subst (MakesFirst (one 0)) (sym split) now

@@ -1,4 +1,6 @@
--- Trying the numbers of tills or points from 1 up finds the lowest one whose lines no door takes, if there is one.
+-- A till has a door if some door takes the till's lines. A point has a door if some door takes the dispensers' lines
+-- that name the point. Trying the numbers from 1 up finds the lowest number of a till or point without a door, if there
+-- is one.
 use Rattle.std.proofs.Common.{◌≡◌, ℕ, zero, suc, ◌+◌, ◌-◌, ◌≤◌, List, Option, Some, None, true, false, Bool, cond, sym, subst, arith}
 use Rattle.site_config.specs.declared.flaw.ConfigFlaw.{ConfigFlaw}
 use Rattle.site_config.specs.declared.flaw.ConfigFlaw.TheVariants.{WithoutDoor}
@@ -27,14 +29,16 @@ left_above : (side : Side) (ds : List RawDoor) (n : ℕ) (flaw : ConfigFlaw) (j 
 left_above side ds n flaw zero found = rw (none_and n) found
 left_above side ds n flaw (suc j) found = rw (one_and j n) (found_before (first_without_door side ds (j + n)) _ flaw (left_above side ds n flaw j found))
 
--- If each number below m has a door that takes its lines, and m has one too, then each number up to m has one.
+-- If each till or point with a number below m has a door (`is_taken`), and m has one too, then each number up to m has
+-- one.
 pub none_left : (side : Side) (ds : List RawDoor) (n m : ℕ) → m ≡ n + 1 → None ≡ first_without_door side ds n → is_taken side ds m ≡ true
     → None ≡ first_without_door side ds m
 none_left side ds n m is none taken =
     let e : m ≡ suc n = omega (arith, is) in
     rw e (sym (found_none (first_without_door side ds n) (is_taken side ds (suc n)) (WithoutDoor side (suc n)) (sym none) (rw e at taken)))
 
--- If each number below m has a door that takes its lines, and m lacks one, then m is the lowest number that lacks one.
+-- If each till or point with a number below m has a door (`is_taken`), and m has none, then m is the lowest number
+-- without a door.
 pub one_left : (side : Side) (ds : List RawDoor) (n m most : ℕ) → m ≡ n + 1 → m ≤ most → None ≡ first_without_door side ds n → is_taken side ds m ≡ false
     → Some (WithoutDoor side m) ≡ first_without_door side ds most
 one_left side ds n m most is le none taken =

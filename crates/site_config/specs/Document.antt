@@ -1,4 +1,4 @@
--- Definitions: how the steps of a reading are joined if each can fail with a flaw, and which document some bytes are.
+-- Definitions: the TOML document in a configuration's bytes, and operations on results that are a value or a flaw.
 use Rattle.std.specs.Prelude.{◌≡◌, ◌≢◌, ℕ, ◌+◌, List, [], ◌∷◌, ◌++◌, Bool, true, false, Option, Some, None, Result, Ok, Err, if◌then◌else◌}
 use Rattle.std.specs.Str.{is_utf8}
 use Rattle.toml.specs.Data.{Members}
@@ -33,20 +33,23 @@ abbrev pub first_of : Option ConfigFlaw → Option ConfigFlaw → Option ConfigF
 first_of (Some flaw) other = Some flaw
 first_of None other = other
 
--- `Finds view call read`: what a call returned, `call`, agrees with `read`, which a definition gives:
+-- `Finds view call read`: `call`, which the code returned, agrees with `read`, which the definitions give:
 -- - If `call` is a value, `read` is `view` of this value.
--- - If `call` is a flaw, `read` is the same flaw. If the flaw is that memory ran out, nothing is claimed.
+-- - If `call` is a flaw other than `OutOfMemory`, `read` is the same flaw.
+-- - If `call` is the flaw `OutOfMemory`, nothing is claimed.
 abbrev pub Finds : {X Y : Type 0} → (X → Y) → Result X ConfigFlaw → Result Y ConfigFlaw → Type 0
 Finds view (Ok x) read = read ≡ Ok (view x)
 Finds view (Err flaw) read = flaw ≢ OutOfMemory → read ≡ Err flaw
 
--- If this fault isn't that memory ran out, then `read`, which a definition gives, is the same fault. If memory ran out,
--- nothing is claimed. Below, `Gives`: what a call returned agrees with `read`. If the call returned a value, `read` is
--- `view` of this value. If it returned a fault, `Fails` holds for the fault.
+-- `Fails fault read`: `read` is this fault. If the fault is `OutOfMemory`, nothing is claimed.
 abbrev pub Fails : {Y : Type 0} → ConfigFault → Result Y ConfigFault → Type 0
 Fails fault.OutOfMemory read = Unit {0}
 Fails f read = read ≡ Err f
 
+-- `Gives view call read`: `call`, which the code returned, agrees with `read`, which the definitions give:
+-- - If `call` is a value, `read` is `view` of this value.
+-- - If `call` is a fault other than `OutOfMemory`, `read` is the same fault.
+-- - If `call` is the fault `OutOfMemory`, nothing is claimed.
 abbrev pub Gives : {X Y : Type 0} → (X → Y) → Result X ConfigFault → Result Y ConfigFault → Type 0
 Gives view (Ok x) read = read ≡ Ok (view x)
 Gives view (Err e) read = Fails e read

@@ -65,7 +65,7 @@ abbrev pub item_of : Place → ℕ → Place
 item_of (At section key) n = Item section key n
 item_of place n = place
 
--- Checks an address. A port must be 1 to 65,535, and a path must not be empty.
+-- The checked address, or a flaw if a port isn't from 1 to 65,535 or a path is empty.
 unfoldable pub address_of : Place → RawAddress → Result AddressValue ConfigFlaw
 address_of place (Port z) = do
   n ← ranged place 1 65535 z
@@ -88,15 +88,16 @@ with_points list place points bits (z ∷ zs) = do
   more ← with_point list place points bits z
   with_points list (place + 1) points more zs
 
--- The points in the list at `list`, as bits (point p is bit p - 1), at a site that has points 1 to `points`. The list
--- must have at least one point, and none twice.
+-- The points in the list at `list`, as bits (point p is bit p - 1). The result is a flaw if the list is empty, has a
+-- point twice, or has a point that isn't from 1 to `points`.
 unfoldable pub bits_of : Place → ℕ → List ℤ → Result ℕ ConfigFlaw
 bits_of list points zs = do
   some ← demand (WrongCount list 0 1 points) (not (length zs == 0))
   with_points list 0 points 0 zs
 
--- Whose lines a door takes, at a site that has tills 1 to `tills` and points 1 to `points`. `place` is where the
--- configuration has the door's address.
+-- The role of a door (whose lines it takes), at a site that has tills 1 to `tills` and points 1 to `points`. The result
+-- is a flaw if the door is for a till that the site doesn't have, or for a list of points that is empty, has a point
+-- twice, or has a point that the site doesn't have. `place` is where the configuration has the door's address.
 unfoldable pub role_of : ℕ → ℕ → Place → RawRole → Result Role ConfigFlaw
 role_of tills points place Tills = Ok roles.Till
 role_of tills points place (OneTill z) = do
@@ -114,7 +115,8 @@ address_fits place address = do
   a ← address_of place address
   Ok tt
 
--- Ok if `address_of` finds no flaw in the door's address, and `role_of` none in its role, or else the first flaw.
+-- Ok if neither the door's address nor its role has a flaw, or else the first flaw. The address is checked first
+-- (`address_of`), and then the role (`role_of`).
 unfoldable pub door_fits : ℕ → ℕ → RawDoor → Result (Unit {0}) ConfigFlaw
 door_fits tills points d = do
   a ← address_of d.place d.address
@@ -127,15 +129,16 @@ doors_fit tills points (d ∷ ds) = do
   fits ← door_fits tills points d
   doors_fit tills points ds
 
--- The flaw if two doors have the same port, or paths with the same text. `first` and `second` are the places of the
--- addresses.
+-- The flaw `SamePort` or `SameSocket` if two doors have the same port, or paths with the same text. Otherwise None.
+-- `first` and `second` are the places of the addresses.
 abbrev pub address_clash : Place → Place → RawAddress → RawAddress → Option ConfigFlaw
 address_clash first second (Port y) (Port z) = if int_eq y z then Some (SamePort first second y) else None
 address_clash first second (Socket p) (Socket q) = if bytes_eq p q then Some (SameSocket first second) else None
 address_clash first second (Port y) (Socket q) = None
 address_clash first second (Socket p) (Port z) = None
 
--- The flaw if two doors are each for the same single till. `first` and `second` are the places of the doors' addresses.
+-- The flaw `SameTill` if both doors are for the same single till. Otherwise None. `first` and `second` are the places
+-- of the doors' addresses.
 abbrev pub till_clash : Place → Place → RawRole → RawRole → Option ConfigFlaw
 till_clash first second (OneTill y) (OneTill z) = if int_eq y z then Some (SameTill first second y) else None
 till_clash first second a b = None
@@ -179,19 +182,19 @@ workers_of till_workers dispenser_workers Tills = till_workers
 workers_of till_workers dispenser_workers Dispensers = dispenser_workers
 workers_of till_workers dispenser_workers role = 1
 
--- The door is one till's, if the side is tills, or some points', if the side is dispensers.
+-- For tills: whether a door of this role is for one till. For dispensers: whether it is for some points only.
 abbrev pub is_single : Side → RawRole → Bool
 is_single sides.Tills (OneTill z) = true
 is_single sides.Dispensers (SomePoints zs) = true
 is_single side role = false
 
--- How many doors are for a single till, if the side is tills, or for some points only, if the side is dispensers.
+-- For tills: how many doors are for one till each. For dispensers: how many doors are for some points only.
 abbrev pub count_single : Side → List RawDoor → ℕ
 count_single side [] = 0
 count_single side (d ∷ ds) = (if is_single side d.role then 1 else 0) + count_single side ds
 
--- A door of this role takes the lines of till `n`, if the side is tills, or those that name point `n`, if the side is
--- dispensers.
+-- For tills: whether a door of this role takes the lines of till `n`. For dispensers: whether it takes the dispensers'
+-- lines that name point `n`.
 abbrev pub takes : Side → ℕ → RawRole → Bool
 takes sides.Tills n Tills = true
 takes sides.Tills n (OneTill z) = int_eq z (pos n)
@@ -199,20 +202,22 @@ takes sides.Dispensers n Dispensers = true
 takes sides.Dispensers n (SomePoints zs) = list_any (λ z. int_eq z (pos n)) zs
 takes side n role = false
 
--- One of the doors takes the lines of till `n`, if the side is tills, or those that name point `n`, if the side is
--- dispensers.
+-- For tills: whether some door takes the lines of till `n`. For dispensers: whether some door takes the dispensers'
+-- lines that name point `n`.
 abbrev pub is_taken : Side → List RawDoor → ℕ → Bool
 is_taken side ds n = list_any (λ d. takes side n d.role) ds
 
--- The flaw of the lowest number, from 1 to the given one, of a till or a point whose lines no door takes. None if there
--- is no such number.
+-- The flaw `WithoutDoor` for the lowest number from 1 to the last argument such that no door takes the lines of the
+-- till with this number (for tills), or the dispensers' lines that name the point with this number (for dispensers).
+-- None if there is no such number.
 abbrev pub first_without_door : Side → List RawDoor → ℕ → Option ConfigFlaw
 first_without_door side ds zero = None
 first_without_door side ds (suc n) = first_of (first_without_door side ds n) (if is_taken side ds (suc n) then None else Some (WithoutDoor side (suc n)))
 
--- Checks one side: tills or dispensers. Its shared door has `shared` workers (0 if there is no such door), and each of
--- its other doors (for one till, or for some points) has one worker. There must be at most `most` of these workers in
--- all. Each till or point, from 1 to `n`, must have a door that takes its lines.
+-- Checks the doors of tills, or those of dispensers. They must have at most `most` workers in all: `shared` at the
+-- shared door (0 if there is no such door), and one at each door for one till or for some points. For each number from
+-- 1 to `n`, some door must take the lines of the till with this number, or the dispensers' lines that name the point
+-- with this number.
 unfoldable pub side_fits : Side → ℕ → ℕ → ℕ → List RawDoor → Result (Unit {0}) ConfigFlaw
 side_fits side shared most n ds = do
   few ← demand (TooManyWorkers side (shared + count_single side ds) most) (nat_le (shared + count_single side ds) most)
@@ -231,9 +236,9 @@ each_door one (d ∷ ds) = do
   xs ← each_door one ds
   Ok (x ∷ xs)
 
--- Where and how to serve a site of this many tills and points. The flaw is that of the first step that fails: the
--- doors' addresses and roles, clashes among them, the numbers of `[serve]`, the page's port, and last whether each side
--- has few enough workers, and a door for each till or point.
+-- Where and how to serve a site of this many tills and points, or the first flaw. The checks come in this order: the
+-- doors' addresses and roles, clashes among the doors, the numbers of `[serve]`, the page's port, and then, for tills
+-- and after that for dispensers, the number of their workers and a door for each till or point.
 unfoldable pub serve_of : ℕ → ℕ → TypedServe → Result ServeValue ConfigFlaw
 serve_of tills points s = do
   fit ← doors_fit tills points s.doors
@@ -248,7 +253,8 @@ serve_of tills points s = do
   doors ← each_door (door_of tills points t w) s.doors
   Ok (record { doors = doors; connections = n; idle_seconds = i; page_port = p })
 
--- The code's `Address` as an `AddressValue`. Below: its `Door` as a `DoorValue`, and its `Serve` as a `ServeValue`.
+-- The code's `Address` as an `AddressValue`. Below: the code's `Door` as a `DoorValue`, and the code's `Serve` as a
+-- `ServeValue`.
 abbrev pub address_seen : Address → AddressValue
 address_seen (addresses.Port n) = port n
 address_seen (addresses.Socket path) = socket (string_bytes path)

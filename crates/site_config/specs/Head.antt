@@ -1,4 +1,4 @@
--- Definitions: a configuration that comes before a script in one stream (this profile). A line `---` ends it.
+-- Definitions: a configuration that comes before a script in one stream (source: this project). A line `---` ends it.
 use Rattle.std.specs.Prelude.{◌≡◌, ◌⊎◌, ℕ, ◌<◌, ◌≤◌, ◌+◌, ◌-◌, ◌++◌, ◌||◌, nat_le, Bool, true, false, if◌then◌else◌, List, [], ◌∷◌, length, take, drop, Option, Some, None}
 use Rattle.std.specs.Str.{bytes_eq}
 use Rattle.std.specs.Io.KnownBytes.{Consumes, IsAtEnd}
@@ -16,16 +16,16 @@ before_end bytes = if ends_head bytes then take (length bytes - 4) bytes else by
 abbrev pub head_part : List ℕ → Option (List ℕ)
 head_part bytes = if nat_le (length (before_end bytes)) 65536 then Some (before_end bytes) else None
 
--- The bytes `bytes` were taken from the input. They end with the first line `---`, or the input ends after them, or
--- there are 65,541 of them, which is the most.
+-- `bytes`, at most 65,541 of them, were taken from the input. A whole line `---` with its LF comes only at their end,
+-- if at all. They end with this line, or the input ends after them, or there are exactly 65,541 of them.
 pub record IsHead (old new : Option (List ℕ)) (bytes : List ℕ) : Type 0 where
   pub taken : Consumes old new bytes
   pub first : (k : ℕ) → k < length bytes → ends_head (take k bytes) ≡ false
   pub few : length bytes ≤ 65541
   pub ended : (ends_head bytes ≡ true) ⊎ IsAtEnd new ⊎ (65540 < length bytes)
 
--- These bytes are no whole head (a configuration and its line `---`) yet: there are at most 65,540 of them, and neither
--- all of them nor a beginning of them ends with a line `---`.
+-- These bytes are no whole head (a configuration and its line `---`) yet: there are at most 65,540 of them, and they
+-- contain no whole line `---` with its LF.
 abbrev pub IsOpen : List ℕ → Type 0
 IsOpen bytes = ((k : ℕ) → k ≤ length bytes → ends_head (take k bytes) ≡ false) × (length bytes ≤ 65540)
 
@@ -33,13 +33,13 @@ IsOpen bytes = ((k : ℕ) → k ≤ length bytes → ends_head (take k bytes) �
 abbrev pub TakesOpen : Option (List ℕ) → Option (List ℕ) → Type 0
 TakesOpen old new = (bytes : List ℕ) × Consumes old new bytes × IsOpen bytes
 
--- Bytes that are no whole head yet (`IsOpen`), and then one more byte, were taken from the input, each by a read of its
--- own. `before` reads were allowed, and `after` of them are left.
+-- One or more bytes were taken from the input, each by a read of its own. Without the last one they are no whole head
+-- yet (`IsOpen`). `before` reads were allowed, and `after` of them are left.
 abbrev pub TakesByReads : Option (List ℕ) → Option (List ℕ) → ℕ → ℕ → Type 0
 TakesByReads old new before after =
     (bytes : List ℕ) × (byte : ℕ) × Consumes old new (bytes ++ byte ∷ []) × IsOpen bytes × (length bytes + 1 + after ≡ before)
 
--- `before` reads were allowed, and `after` of them are left. Either `count` reads were made, one for each of `count`
--- bytes, or one more was made, which found that the input is at its end.
+-- Each of `count` bytes was read by a read of its own. One more read may have been made, if it found that the input is
+-- at its end. `before` reads were allowed, and `after` of them are left.
 abbrev pub TakesReads : Option (List ℕ) → ℕ → ℕ → ℕ → Type 0
 TakesReads new count before after = (count + after ≡ before) ⊎ ((count + after + 1 ≡ before) × IsAtEnd new)

@@ -1,4 +1,4 @@
--- Definitions: the keys and the places of a configuration as they are written (this profile).
+-- Definitions: the keys and the places of a configuration as they are written (source: this project).
 use Rattle.std.specs.Prelude.{ℕ, ◌+◌, List, [], ◌++◌, codes, min}
 use Rattle.std.specs.Fmt.{decimal}
 use Rattle.site_config.specs.declared.flaw.Key.{Key}

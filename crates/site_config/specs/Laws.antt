@@ -14,8 +14,9 @@ use Rattle.site_config.specs.declared.raw.RawRole.{RawRole}
 use Rattle.site_config.specs.Doors.{role_of, takes}
 
 -- `raw` is a door's role in the configuration, and `role` is the role of its sessions. The door takes a till's lines
--- exactly if `role` allows tills' lines and isn't limited to another till. The door takes the dispensers' lines that
--- name a point from 1 to 32 exactly if `role` allows dispensers' lines and isn't limited to other points.
+-- exactly if `role` allows tills' lines and isn't limited to another till. For each point from 1 to 32, the door takes
+-- the dispensers' lines that name this point exactly if `role` allows dispensers' lines and isn't limited to a set of
+-- points that lacks this one.
 pub record TakesOwnLines (raw : RawRole) (role : Role) : Type 0 where
   pub of_tills : (number : ℕ) (request : Request)
       → takes sides.Tills number raw ≡ (allows role roles.Till && is_within_role role (acts.Till number request))

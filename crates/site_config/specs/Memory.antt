@@ -1,6 +1,6 @@
--- Definitions: what takes memory while the settings are read from a TOML document (this profile). Memory is taken for a
--- copy of a text that isn't empty, and for each item of a list, once the item is read. No other step of the reading
--- reports that memory ran out.
+-- Definitions: what takes memory while the settings are read from a TOML document (source: this project). Memory is
+-- taken for a copy of a text that isn't empty, and for each item of a list, once the item is read. No other step of the
+-- reading reports that memory ran out.
 use Rattle.std.specs.Prelude.{◌≡◌, ◌<◌, ◌⊎◌, ℕ, ℤ, List, [], ◌∷◌, length, codes, Option, Some, None, Result, IsOk, IsOkAnd, IsSomeAnd}
 use Rattle.toml.specs.Data.{Data, Items, Members, no_items, item, get_member}
 use Rattle.site_config.specs.declared.flaw.ConfigFlaw.{ConfigFlaw}
@@ -35,8 +35,7 @@ Then takes step rest = takes ⊎ (IsOk step × rest)
 abbrev pub CopiesKey : Section → Members → Type 0
 CopiesKey section ms = IsSomeAnd (other_key (is_key_of section) ms) (λ name. 0 < length name)
 
--- Reading the first item of the list takes memory, or it succeeds. In both cases memory is taken for this item: to read
--- it, or to keep it. This never holds for an empty list.
+-- The list has a first item, and memory is taken for it: to read it, or, if it is read without a flaw, to keep it.
 abbrev pub KeepsFirst : {A : Type 0} → (ℕ → Data → Result A ConfigFlaw) → (ℕ → Data → Type 0) → Items → Type 0
 KeepsFirst one takes no_items = ⊥
 KeepsFirst one takes (item d ds) = takes 0 d ⊎ IsOk (one 0 d)
@@ -64,7 +63,9 @@ unfoldable pub TakesCounters : Members → Type 0
 TakesCounters ms =
     IsSomeAnd (get_member (codes "counter") ms) (λ d. IsOkAnd (array_of (At Top key.Counter) d) (KeepsFirst counter_in TakesCounter))
 
--- Of a door's two keys only the socket's is given, and its path isn't empty. `place` is the place of the path.
+-- Reading a door's address copies the path of a socket: the socket's key is given with a path that isn't empty, and the
+-- port's key isn't given. The two optional values are those of the port's key and of the socket's key. `place` is the
+-- place of the path.
 abbrev pub CopiesPath : Place → Option Data → Option Data → Type 0
 CopiesPath place None (Some d) = IsOkAnd (text_of place d) (λ path. 0 < length path)
 CopiesPath place None None = ⊥
@@ -73,8 +74,7 @@ CopiesPath place (Some x) socket = ⊥
 unfoldable pub TakesDoor : Section → Key × Key → Members → Type 0
 TakesDoor section keys ms = CopiesPath (At section keys.1) (get_member (name_of keys.0) ms) (get_member (name_of keys.1) ms)
 
--- Reading a door of `[serve]` takes memory, or it succeeds. In both cases memory is taken for this door: to read it, or
--- to keep it.
+-- Memory is taken for a door of `[serve]`: to read it, or, if it is read without a flaw, to keep it.
 unfoldable pub TakesShared : Key × Key → RawRole → Members → Type 0
 TakesShared keys role ms = TakesDoor Serve keys ms ⊎ IsOk (door_at Serve keys role ms)
 
@@ -124,21 +124,21 @@ abbrev pub HasPath : RawAddress → Type 0
 HasPath (Port z) = ⊥
 HasPath (Socket path) = 0 < length path
 
--- The list has a first item, and `one` finds no flaw in it. Then keeping the item takes memory.
+-- Keeping the first item of a list takes memory: there is such an item, and `one` finds no flaw in it.
 abbrev pub MakesFirst : {A B : Type 0} → (A → Result B ConfigFlaw) → List A → Type 0
 MakesFirst one [] = ⊥
 MakesFirst one (x ∷ xs) = IsOk (one x)
 
--- There are 8 prices, and the first one is in its range. Then keeping it takes memory.
+-- Making the prices takes memory: there are 8 of them, and the first one is in its range.
 unfoldable pub TakesPrices : List ℤ → Type 0
 TakesPrices zs = (length zs ≡ 8) × MakesFirst (price_of 0) zs
 
--- There is at least one door. Making the doors takes memory, once all of them were checked.
+-- Making the doors takes memory: there is at least one door.
 abbrev pub HasDoors : ServeValue → Type 0
 HasDoors s = 0 < length s.doors
 
--- Making the settings takes memory: the number of tills and the price slot, which are checked first, are in range, and
--- then making the prices takes memory.
+-- Making the settings takes memory: the number of tills and the price slot are in range, and making the prices takes
+-- memory.
 unfoldable pub TakesSettings : Typed → Type 0
 TakesSettings d = IsOk (ranged (At Top key.Tills) 1 64 d.tills) × IsOk (ranged (At Top key.PriceSlot) 0 15 d.price_slot) × TakesPrices d.prices
 

@@ -18,7 +18,8 @@ use Rattle.site_config.specs.Typed.{Typed, TypedServe, typed_of}
 use Rattle.site_config.specs.Demands.{ranged}
 use Rattle.site_config.specs.Doors.{ServeValue, serve_of, serve_seen}
 
--- The slots of a point's releases and of its presets, each from 0 to 15. The place of the point is counted from 0.
+-- The slots of a point's releases and of its presets. Each must be from 0 to 15. `place` is the point's index in the
+-- list of points, counted from 0.
 unfoldable pub point_of : ℕ → ℤ × ℤ → Result (ℕ × ℕ) ConfigFlaw
 point_of place p = do
   r ← ranged (At (Point place) key.Release) 0 15 p.0
@@ -80,8 +81,8 @@ settings_of_typed d = do
 abbrev pub settings_view : Settings → SettingsValue
 settings_view s = record { config = s.config; serve = option_map serve_seen s.serve }
 
--- The settings in a document, or its first flaw. Any flaw in the keys or the types of their values (K2) comes
--- before any flaw in the values themselves (K3).
+-- The settings in a document, or its first flaw. The keys and the types of their values are checked first (K2), and
+-- then the values themselves (K3).
 unfoldable pub settings_of : Members → Result SettingsValue ConfigFlaw
 settings_of ms = typed_of ms >>= settings_of_typed
 
@@ -89,8 +90,8 @@ abbrev pub config_in : Option Members → Result SettingsValue ConfigFault
 config_in None = Err K1
 config_in (Some ms) = numbered (settings_of ms)
 
--- The settings in the text of a configuration, or the fault of its first flaw. That the text isn't a TOML document (K1)
--- comes before any flaw in the keys or the types of their values (K2), and these come before any flaw in the values
--- themselves (K3).
+-- The settings in the text of a configuration, or the fault of its first flaw. The checks come in this order: whether
+-- the text is a TOML document (K1), then the keys and the types of their values (K2), and then the values themselves
+-- (K3).
 unfoldable pub config_of : List ℕ → Result SettingsValue ConfigFault
 config_of bytes = config_in (document_of bytes)

@@ -26,8 +26,9 @@ use Rattle.site_config.specs.declared.raw.RawRole.TheVariants.{Tills, OneTill, D
 use Rattle.site_config.specs.Document.{or_flaw, demand, ◌>>=◌, with_front}
 use Rattle.site_config.specs.Keys.{name_of}
 
--- The document is allowed to have a key of this name at its top. Below: the same for the other kinds of tables. The one
--- for `[serve]` is `is_serve_key`. `is_port_key`, `is_socket_key` and `is_number_key` are only parts of `is_serve_key`.
+-- The top table of a document is allowed to have a key of this name. Below: the same for each other kind of table. For
+-- `[serve]` this is `is_serve_key`. The three definitions before it list the ports, the sockets and the numbers among
+-- the keys of `[serve]`.
 unfoldable pub is_top_key : List ℕ → Bool
 is_top_key k =
     bytes_eq k (codes "tills")
@@ -126,8 +127,10 @@ integer_in section key place d = integer_of (Item section key place) d
 unfoldable pub integers_at : Section → Key → Members → Result (List ℤ) ConfigFlaw
 integers_at section key ms = array_at section key ms >>= each_in (integer_in section key) 0
 
--- Reads the numbers of two keys from `d`, the value at `place`. The result is a flaw if `d` isn't a table, has a key
--- that isn't one of `section`, or lacks one of the two keys, or if the value of one of them isn't a whole number.
+-- Reads the numbers of two keys from `d`, the value at `place`. The result is a flaw in these cases:
+-- - `d` isn't a table.
+-- - The table has a key that a table of this section isn't allowed to have.
+-- - One of the two keys isn't given, or its value isn't a whole number.
 unfoldable pub pair_in : Place → Section → Key × Key → Data → Result (ℤ × ℤ) ConfigFlaw
 pair_in place section keys d = do
   ms ← table_of place d
@@ -156,8 +159,8 @@ counters_at ms = counters_from (get_member (codes "counter") ms)
 abbrev pub has_key : Key → Members → Bool
 has_key key ms = is_some (get_member (name_of key) ms)
 
--- A door whose port is the value of one key, or whose socket is the value of another one. Exactly one of these keys
--- must be given. The door's place is that of the key that is given.
+-- A door that has a port or a socket. The two optional values are those of the port's key and of the socket's key, and
+-- `port` and `socket` are their places. Exactly one of the two values must be given, and its place is the door's place.
 abbrev pub door_by : Place → Place → RawRole → Option Data → Option Data → Result RawDoor ConfigFlaw
 door_by port socket role (Some d) None = do
   z ← integer_of port d
@@ -172,14 +175,14 @@ unfoldable pub door_at : Section → Key × Key → RawRole → Members → Resu
 door_at section keys role ms =
     door_by (At section keys.0) (At section keys.1) role (get_member (name_of keys.0) ms) (get_member (name_of keys.1) ms)
 
--- The key of a shared door's port, or that of its socket, is given.
+-- The key of a shared door's port or the key of its socket is given.
 abbrev pub has_shared : Key × Key → Members → Bool
 has_shared keys ms = has_key keys.0 ms || has_key keys.1 ms
 
--- The shared door as a list. The first argument says whether a key of this door is given.
--- - If any is given, the list has this door alone, or the result is the flaw of reading this door.
--- - If none is given, there is no such door. The list is empty if `tables`, the key of the side's other doors, is
---   given; its value isn't checked here. If `tables` isn't given either, the result is the flaw `Missing`.
+-- The shared door as a list. The first argument says whether the key of this door's port or of its socket is given.
+-- - If so, the list has this door alone, or the result is the flaw of reading this door.
+-- - If not, the list is empty, or the result is the flaw `Missing` if `tables` isn't given. `tables` is the key of the
+--   doors that aren't shared. Its value isn't checked here.
 abbrev pub shared_if : Bool → Key × Key → Key → RawRole → Members → Result (List RawDoor) ConfigFlaw
 shared_if true keys tables role ms = do
   door ← door_at Serve keys role ms
@@ -191,8 +194,8 @@ shared_if false keys tables role ms = do
 unfoldable pub shared_at : Key × Key → Key → RawRole → Members → Result (List RawDoor) ConfigFlaw
 shared_at keys tables role ms = shared_if (has_shared keys ms) keys tables role ms
 
--- How many workers a shared door has, or None if there is no such door. The key `key` must be given exactly if there is
--- such a door.
+-- How many workers a shared door has, or None if there is no such door. The first argument says whether there is such a
+-- door. If so, `key` must be given. If not, `key` must not be given.
 abbrev pub workers_if : Bool → Key × Key → Key → Members → Result (Option ℤ) ConfigFlaw
 workers_if true keys key ms = do
   z ← integer_at Serve key ms
@@ -220,7 +223,8 @@ dispenser_in place d = do
   zs ← integers_at (Dispenser place) key.Points ms
   door_at (Dispenser place) (key.Port, key.Socket) (SomePoints zs) ms
 
--- The door of one till, if the side is tills, or that of some points, if the side is dispensers.
+-- Reads a table as the door of one till, if the side is tills, or as the door of some points, if the side is
+-- dispensers.
 abbrev pub single_in : Side → ℕ → Data → Result RawDoor ConfigFlaw
 single_in sides.Tills = till_in
 single_in sides.Dispensers = dispenser_in
@@ -242,8 +246,8 @@ owner_at ms = do
   door ← door_at Serve (key.OwnerPort, key.OwnerSocket) Owner ms
   Ok (door ∷ [])
 
--- All doors in their order: the tills' shared one, those of single tills, the dispensers' shared one, those of some
--- points, the owner's.
+-- All doors in their order: the shared door of all tills, the doors of single tills, the shared door of all dispensers,
+-- the doors of some points, the owner's door.
 unfoldable pub doors_at : Members → Result (List RawDoor) ConfigFlaw
 doors_at ms = do
   shared ← shared_at (key.TillPort, key.TillSocket) key.Till Tills ms
@@ -264,8 +268,8 @@ page_from (Some d) = do
   z ← integer_of (At Serve key.PagePort) d
   Ok (Some z)
 
--- The values of the keys of `[serve]`. If a shared door isn't given, its number of workers is None, and so is the
--- page's port if there is no page.
+-- The values of the keys of `[serve]`. A number of workers is None if its shared door isn't given. `page_port` is None
+-- if there is no page.
 pub record TypedServe : Type 0 where
   pub doors : List RawDoor
   pub till_workers : Option ℤ
@@ -316,7 +320,7 @@ typed_of ms = do
   serve ← served_at ms
   Ok (record { tills = tills; price_slot = slot; prices = prices; points = points; counters = counters; serve = serve })
 
--- The code's `Served` as a `TypedServe`. Below: its `Raw` as a `Typed`.
+-- The code's `Served` as a `TypedServe`. Below: the code's `Raw` as a `Typed`.
 abbrev pub seen_serve : Served → TypedServe
 seen_serve s = record {
   doors = s.doors.items;

@@ -1,4 +1,4 @@
--- Definitions: the text that describes a flaw of a configuration (this profile).
+-- Definitions: the text that describes a flaw of a configuration (source: this project).
 use Rattle.std.specs.Prelude.{ℕ, ℤ, nat_lt, List, [], ◌++◌, codes, string_bytes, if◌then◌else◌}
 use Rattle.std.specs.Fmt.{decimal, signed_decimal}
 use Rattle.site_config.specs.declared.flaw.«Type».{«Type» as ValueType}
@@ -37,7 +37,7 @@ outside_text value low high = signed_decimal value ++ (codes " is not " ++ (deci
 abbrev pub over_text : ℕ → ℕ → List ℕ
 over_text value bound = decimal value ++ (codes " is over its bound, " ++ decimal bound)
 
--- The text for a flaw of the doors of `[serve]`; empty for other flaws.
+-- The text for a flaw of the doors of `[serve]`. It is empty for other flaws.
 abbrev pub doors_text : ConfigFlaw → List ℕ
 doors_text (BothThere first second) =
     codes "'" ++ (place_text first ++ (codes "' and '" ++ (place_text second ++ codes "' are both there")))

@@ -36,16 +36,16 @@ fn position_behind(text: &[u8]) -> (usize, usize)
     at
 }
 
-/// Returns the line and the column of the byte at the index `at`, as `position_behind` counts them. If `bytes` has no
-/// such index, returns those of the end of `bytes`.
+/// Returns the line and the column of the byte at the index `at`, both counted from 1. The column counts characters. If
+/// `bytes` has no such index, returns the line and the column of the end of `bytes`.
 fn position_at(bytes: &[u8], at: usize) -> (usize, usize)
     ensures { result ≡ position_at bytes.now at }
 {
     position_behind(bytes.get(..at).unwrap_or(bytes))
 }
 
-/// Returns the flaw `NotToml` for an error that the TOML reader found in `text` at the byte with the index `at`: the
-/// line and the column of this byte, and a copy of `message`, the reader's message. `at` must be at most the length of
+/// Returns the flaw `NotToml` for an error that the TOML reader found in `text`. The flaw has the line and the column
+/// of the byte at the index `at`, and a copy of `message`, the reader's message. `at` must be at most the length of
 /// `text` in bytes. If `at` is this length, the error is at the end of `text`. If memory ran out, returns
 /// `OutOfMemory`.
 fn not_toml(alloc: Global, text: &str, at: usize, message: &str) -> ConfigFlaw

@@ -39,8 +39,8 @@ fn beside(place: Place, key: Key) -> Place
     }
 }
 
-/// Returns the place of an item in a list. `list` is the place of the list's key, and `place` is the item's place in
-/// the list, counted from 0. If `list` isn't the place of a key, returns `list` itself.
+/// Returns the place of an item of the list at `list`. `place` is the item's index, counted from 0. If `list` isn't the
+/// place of a key, returns `list` itself.
 fn item_of(list: Place, place: usize) -> Place
     ensures { result ≡ item_of list place }
 {
@@ -128,8 +128,9 @@ fn add_points(list: Place, points: u32, values: &[i64]) -> Result<u32, ConfigFla
 }
 
 /// Returns the points in `values`, the list at `list`, as bits: point p is bit p - 1. The site has `points` points,
-/// which must be at most 32. The error is `WrongCount` if the list is empty. Else it is the flaw of the first wrong
-/// value: `OutOfRange` if it isn't from 1 to `points`, or `PointTwice` if it comes a second time.
+/// which must be at most 32. The error is `WrongCount` if the list is empty. Otherwise the error is the flaw of the
+/// first wrong value: `OutOfRange` if the value isn't from 1 to `points`, or `PointTwice` if the value comes a second
+/// time.
 #[tactic(auto, unfolding(crate::specs::Doors::bits_of))]
 fn make_bits(list: Place, points: u32, values: &[i64]) -> Result<u32, ConfigFlaw>
     requires { points ≤ POINTS }
@@ -142,16 +143,17 @@ fn make_bits(list: Place, points: u32, values: &[i64]) -> Result<u32, ConfigFlaw
     add_points(list, points, values)
 }
 
-/// Does nothing. Its contract is a law: a door's role in the configuration and the role of its sessions agree. The door
-/// takes a till's line, or a dispenser's line for one of the points 1 to 32, exactly if the role of its sessions is
-/// allowed to send that line.
+/// Does nothing. Its contract is a law: a door takes a line exactly if the door's sessions are allowed to send the
+/// line. The door's `RawRole`, its role in the configuration, says which lines the door takes. The `Role` that is made
+/// from this `RawRole` says which lines the door's sessions are allowed to send. The law covers each till's line, and
+/// each dispenser's line that names a point from 1 to 32.
 pub fn law_of_own_lines()
     ensures { DoorsTakeOwnLines }
 {}
 
 /// Makes the role of a door, at a site with `tills` tills and `points` points. `points` must be at most 32. `place` is
-/// where the configuration has the door's address. The error is that a number names no till or point of the site, that
-/// a point is listed twice, or that no point is listed.
+/// where the configuration has the door's address. The error is `OutOfRange` if a number names no till or point of the
+/// site, `PointTwice` if a point is listed twice, or `WrongCount` if no point is listed.
 #[tactic(auto, unfolding(crate::specs::Doors::role_of))]
 fn make_role(tills: u32, points: u32, place: Place, role: &RawRole) -> Result<Role, ConfigFlaw>
     requires { points ≤ POINTS }
@@ -323,8 +325,8 @@ fn is_one(side: Side, role: &RawRole) -> bool
     }
 }
 
-/// Returns how many doors are for a single till, if the side is tills, or for some points only, if the side is
-/// dispensers.
+/// If `side` is tills, returns how many doors are for one till each. If `side` is dispensers, returns how many doors
+/// are for some points only.
 fn count_of(side: Side, doors: &[RawDoor]) -> usize
     ensures count { result ≡ count_single side doors.now }
     ensures bound { result ≤ length doors.now }
@@ -336,8 +338,8 @@ fn count_of(side: Side, doors: &[RawDoor]) -> usize
     count
 }
 
-/// Returns whether a door of this role takes the lines of till `number`, if the side is tills, or the dispensers' lines
-/// that name point `number`, if the side is dispensers.
+/// If `side` is tills, returns whether a door of this role takes the lines of till `number`. If `side` is dispensers,
+/// returns whether it takes the dispensers' lines that name point `number`.
 fn takes_lines(side: Side, number: u32, role: &RawRole) -> bool
     ensures { result ≡ takes side number role.now }
 {
@@ -363,8 +365,11 @@ fn is_taken(side: Side, number: u32, doors: &[RawDoor]) -> bool
     false
 }
 
-/// Returns the flaw `WithoutDoor` for the lowest number, from 1 to `most`, of a till (if the side is tills) or a point
-/// (if the side is dispensers) whose lines no door takes. Returns `None` if there is no such number.
+/// Looks for a till or a point without a door, and returns the flaw `WithoutDoor` for the one with the lowest number
+/// from 1 to `most`. Returns `None` if there is none.
+///
+/// - If `side` is tills, looks for a till whose lines no door takes.
+/// - If `side` is dispensers, looks for a point such that no door takes the dispensers' lines that name this point.
 fn first_without_door(side: Side, doors: &[RawDoor], most: u32) -> Option<ConfigFlaw>
     ensures found { result ≡ first_without_door side doors.now most }
     ensures memory { IfSome result (λ flaw. flaw ≢ ConfigFlaw.OutOfMemory) }
@@ -379,9 +384,12 @@ fn first_without_door(side: Side, doors: &[RawDoor], most: u32) -> Option<Config
     None
 }
 
-/// Checks the doors of one side. `most` is how many workers the side is allowed to have in all. `shared`, the number of
-/// the shared door's workers, must be at most `most`. `numbers` is how many tills or points the site has. The error is
-/// `TooManyWorkers`, or else `WithoutDoor` for the first till or point whose lines no door takes.
+/// Checks the doors of tills if `side` is tills, or those of dispensers if `side` is dispensers. `shared` is how many
+/// workers the shared door has, or 0 if there is no such door. `shared` must be at most `most`.
+///
+/// The error is `TooManyWorkers` if these doors have more than `most` workers in all. Otherwise it is `WithoutDoor` for
+/// the first number from 1 to `numbers` such that no door takes the lines of the till with this number, or the
+/// dispensers' lines that name the point with this number.
 #[tactic(auto, unfolding(crate::specs::Doors::side_fits))]
 fn check_side(
     side: Side,
@@ -417,8 +425,8 @@ fn workers_for(till_workers: u32, dispenser_workers: u32, role: &RawRole) -> u32
     }
 }
 
-/// How many tills and points a site has, and how many workers the shared door of the tills and that of the dispensers
-/// have, 0 if there is no such door.
+/// The numbers of a site's tills and points, and the numbers of workers of its shared doors: the door for all tills,
+/// and the door for all dispensers. A shared door that doesn't exist has 0 workers.
 #[derive(Clone, Copy)]
 struct Counts {
     tills: u32,

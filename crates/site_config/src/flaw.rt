@@ -157,7 +157,8 @@ impl fmt::Display for Place {
     }
 }
 
-/// One of the two kinds of peers whose lines name a number: tills (their own number), or dispensers (a point).
+/// One of two kinds of peers: tills, whose lines name the till's number, or dispensers, whose lines name a point's
+/// number.
 #[derive(Clone, Copy)]
 pub enum Side {
     Tills,
@@ -256,31 +257,33 @@ pub enum ConfigFlaw {
     WrongType(Place, Type),
     /// K2: two keys are given, and only one of them is allowed.
     BothThere(Place, Place),
-    /// K2: a number of workers is given, but neither the port nor the socket of their door. The places are those of
-    /// these three keys, in this order.
+    /// K2: the number of a shared door's workers is given, but neither the port nor the socket of this door. The places
+    /// are those of three keys, in this order: the number of workers, the port, the socket.
     Needless(Place, Place, Place),
     /// K3: a value isn't in its range. The numbers are the value, and the least and the greatest that are allowed.
     OutOfRange(Place, i64, u64, u64),
     /// K3: a list has a wrong number of items. The numbers are how many it has, and the least and the greatest number
     /// that are allowed.
     WrongCount(Place, usize, usize, usize),
-    /// K3: a counter's value is over its bound. The numbers are the counter's own number (counted from 0), its value
-    /// and its bound.
+    /// K3: a counter's value is over its bound. The numbers are, in this order: the counter's number, counted from 0,
+    /// its value, and its bound.
     OverBound(usize, u64, u64),
     /// K3: the path of a socket is empty.
     Empty(Place),
-    /// K3: two keys give the same port, which is this one.
+    /// K3: two keys give the same port. The number is this port.
     SamePort(Place, Place, i64),
     /// K3: two keys give the same path of a socket.
     SameSocket(Place, Place),
-    /// K3: two keys each give the address of a door for the same single till, which has this number.
+    /// K3: two doors are for the same single till. The places are those of the doors' addresses. The number is the
+    /// till's.
     SameTill(Place, Place, i64),
     /// K3: a list of points has this point twice.
     PointTwice(Place, u32),
-    /// K3: the doors of one side have too many workers. The numbers are how many, and the most that are allowed.
+    /// K3: the doors of tills, or those of dispensers, have too many workers. The numbers are how many they have, and
+    /// how many are allowed at most.
     TooManyWorkers(Side, usize, usize),
-    /// K3: no door takes the lines of the till with this number, or the dispensers' lines that name the point with this
-    /// number.
+    /// K3: a till or a point has no door. If the side is tills, no door takes the lines of the till with this number.
+    /// If the side is dispensers, no door takes the dispensers' lines that name the point with this number.
     WithoutDoor(Side, u32),
     OutOfMemory,
 }

@@ -12,7 +12,7 @@ use till_request::{InputFault, LineIn};
 /// The greatest number of bytes that a configuration is allowed to have.
 pub const MOST_BYTES: usize = 65_536;
 
-/// Returns whether the bytes end with a line that is `---` and its LF.
+/// Returns whether the bytes end with a whole line `---` and its LF.
 fn is_head_end(bytes: &[u8]) -> bool
     ensures { result ≡ ends_head bytes.now }
 {
@@ -20,13 +20,13 @@ fn is_head_end(bytes: &[u8]) -> bool
     bytes == b"---\n".as_slice() || &bytes[from..] == b"\n---\n".as_slice()
 }
 
-/// Reads and returns the bytes up to the end of the first line that is `---` and its LF. What follows the line stays
-/// unread. If there is no such line, reads and returns all bytes. Also stops after 65,541 bytes, which are too many for
-/// a configuration and its line `---`, and returns these bytes.
+/// Reads and returns the bytes up to the end of the first line `---`, with its LF. What follows this line stays unread.
+/// If there is no such line, reads and returns all bytes. Also stops after 65,541 bytes, which are too many for a
+/// configuration and its line `---`, and returns these bytes.
 ///
-/// Each read asks for one byte, and subtracts 1 from `left`, the number of reads that are still allowed. So does the
-/// read that finds the end of the input. The error is `ReadsSpent` if a read is needed and `left` is 0, `Read` if the
-/// input failed, or `OutOfMemory` if there was no memory for a byte that was read.
+/// Each read asks for one byte, and subtracts 1 from `left`, the number of reads that are still allowed. The read that
+/// finds the end of the input also subtracts 1. The error is `ReadsSpent` if a read is needed and `left` is 0, `Read`
+/// if the input failed, or `OutOfMemory` if there was no memory for a byte that was read.
 pub fn read_head<I: LineIn>(
     alloc: Global,
     input: &mut I,

@@ -12,7 +12,8 @@ macro_rules! value_of {
     };
 }
 
-/// Gives what an allocation made. If memory ran out, the function that uses the macro returns the flaw `OutOfMemory`.
+/// Gives the value that an allocation returned. If memory ran out, the function that uses the macro returns the flaw
+/// `OutOfMemory`.
 macro_rules! room_for {
     ($result:expr) => {
         match $result {

@@ -46,7 +46,8 @@ fn not_negative(place: Place, value: i64) -> Result<u64, ConfigFlaw>
     }
 }
 
-/// Returns the flaw that the list at the key `key` of the document has `count` items, and not `low` to `high`.
+/// Returns the flaw `WrongCount` for the list at the key `key` of the document: the list has `count` items, but must
+/// have `low` to `high`.
 fn wrong_count(key: Key, count: usize, low: usize, high: usize) -> ConfigFlaw
     ensures { result ≡ ConfigFlaw.WrongCount (Place.At Section.Top key) count low high }
 {
@@ -176,8 +177,9 @@ fn each_counter(alloc: Global, pairs: &[(i64, i64)]) -> Result<Vec<(u64, u64)>, 
     Ok(counters)
 }
 
-/// Copies a list, which must have at most 32 counters, into an array. The array's counters after those of the list have
-/// value 0 and bound 0.
+/// Copies a list of counters into an array, and fills the rest of the array with counters of value 0 and bound 0. The
+/// list must have at most 32 counters. Each counter must have a value that is at most its bound, and a bound that is at
+/// most 9,223,372,036,854,775,807.
 fn table_of(list: &[(u64, u64)]) -> [(u64, u64); 32]
     requires room { length list.now ≤ COUNTERS }
     requires range { All IsCounter list.now }
@@ -245,8 +247,8 @@ fn make_settings(alloc: Global, raw: &Raw) -> Result<Settings, ConfigFlaw>
     }
 }
 
-/// Reads the settings from a document. The error is that memory ran out, or the document's first flaw: any in the keys
-/// or the types of their values (K2) comes before any in the values themselves (K3).
+/// Reads the settings from a document. The error is the document's first flaw, or that memory ran out. The keys and the
+/// types of their values are checked first (K2), and then the values themselves (K3).
 #[tactic(auto, unfolding(crate::specs::Ranges::settings_of, crate::specs::Memory::TakesDocument))]
 fn settings_in(alloc: Global, document: &Table) -> Result<Settings, ConfigFlaw>
     ensures read { Finds settings_view result (settings_of (table_view document.now)) }
@@ -256,9 +258,12 @@ fn settings_in(alloc: Global, document: &Table) -> Result<Settings, ConfigFlaw>
     make_settings(alloc, &raw)
 }
 
-/// Reads the settings from a text. The error is that memory ran out, or the first flaw in the order of the checks: a
-/// flaw of the document (K1) comes before one of a key or a type (K2), and these come before one of a range, a count or
-/// a condition (K3).
+/// Reads the settings from a text. The error is the text's first flaw, or that memory ran out. The checks come in this
+/// order:
+///
+/// - Is the text a TOML document (K1)?
+/// - Are the keys and the types of their values right (K2)?
+/// - Are the values themselves right: ranges, counts and other conditions (K3)?
 #[tactic(auto, unfolding(crate::specs::Ranges::config_of))]
 pub fn read_settings(alloc: Global, bytes: &[u8]) -> Result<Settings, ConfigFlaw>
     ensures found { Gives settings_view (numbered result) (config_of bytes.now) }

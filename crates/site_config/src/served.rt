@@ -85,11 +85,14 @@ fn is_shared(table: &Table, keys: (Key, Key)) -> bool
     has_key(table, keys.0) || has_key(table, keys.1)
 }
 
-/// Reads the shared door of tills or of dispensers, and appends it to `doors`. `keys` are the keys of `[serve]` for its
-/// port and for its socket. If neither of them is given, there is no such door, and `doors` is returned as it is. Then
-/// `tables`, the key of the side's other doors, must be given in their place, but its value isn't checked here. The
-/// error is `Missing` if none of the three keys is given, `BothThere` if both of `keys` are given, `WrongType` if the
-/// port isn't a number or the socket isn't a text, or that memory ran out.
+/// Reads the shared door of all tills, or of all dispensers, and appends it to `doors`. `keys` are the keys of
+/// `[serve]` for the door's port and for its socket. `tables` is the key of the doors that aren't shared (of single
+/// tills, or of some points).
+///
+/// - If any of `keys` is given, the error is `BothThere` if both are given, `WrongType` if the port isn't a number or
+///   the socket isn't a text, or that memory ran out.
+/// - If none of `keys` is given, there is no shared door, and `doors` is returned as it is. The error is `Missing` if
+///   `tables` isn't given either. The value of `tables` isn't checked here.
 #[tactic(auto, unfolding(crate::specs::Typed::shared_at, crate::specs::Memory::TakesShared))]
 fn add_shared(
     alloc: Global,
@@ -204,9 +207,10 @@ fn each_single(
     Ok(doors)
 }
 
-/// Reads doors from the tables at the key `key`, and appends them to `doors`: each table is the door of one till, or of
-/// some points, as `side` says. If the key isn't given, returns `doors` as it is. The error is `WrongType` if the key's
-/// value isn't an array, or an error of `each_single`, which can be that memory ran out.
+/// Reads doors from the tables at the key `key`, and appends them to `doors`. If `side` is tills, each table is the
+/// door of one till. If `side` is dispensers, each table is the door of some points. If the key isn't given, returns
+/// `doors` as it is. The error is `WrongType` if the key's value isn't an array, an error of `each_single`, or that
+/// memory ran out.
 fn add_singles(
     alloc: Global,
     table: &Table,

@@ -8,7 +8,7 @@ use till_request::Role;
 pub enum Address {
     /// A port of 127.0.0.1, 1 to 65,535.
     Port(u32),
-    /// The path of a local socket. It isn't empty.
+    /// The path of a local socket. The path isn't empty.
     Socket(String),
 }
 
@@ -22,15 +22,17 @@ pub struct Door {
     pub workers: u32,
 }
 
-/// Where and how to serve the site. Each worker serves `connections` connections, 1 to 1,000,000, one after another. A
-/// connection ends after `idle_seconds` seconds without a byte, or never for that reason if `idle_seconds` is 0.
-/// `idle_seconds` is at most 86,400. `page_port`, 1 to 65,535, is the port of the page on which the site is shown while
-/// it is served, or `None` if there is no page.
+/// Where and how to serve the site:
 ///
-/// The doors are in the order in which workers get their passes (rights to call the site): the tills' shared one, those
-/// of one till each, the dispensers' shared one, those of some points each, the owner's. All doors have different
-/// addresses, and none has the page's port. Each till has at most one door of its own. Tills have 1 to 64 workers in
-/// all, dispensers 1 to 31, and the owner has one.
+/// - `doors`: the doors, in the order in which workers get their passes (rights to call the site): the shared door of
+///   all tills, the doors of one till each, the shared door of all dispensers, the doors of some points each, the
+///   owner's door. All doors have different addresses. Each till has at most one door of its own. Tills have 1 to 64
+///   workers in all, dispensers 1 to 31, and the owner has one.
+/// - `connections`: how many connections each worker serves, one after another, 1 to 1,000,000.
+/// - `idle_seconds`: after how many seconds without a byte a connection ends, at most 86,400. If it is 0, no connection
+///   ends for that reason.
+/// - `page_port`: the port of the page on which the site is shown while it is served, 1 to 65,535, or `None` if there
+///   is no page. No door has this port.
 #[derive(Drop)]
 pub struct Serve {
     pub doors: Vec<Door>,

@@ -1,4 +1,4 @@
-//! A text. In contracts its value is the list of its bytes.
+//! A text that is copied from a configuration.
 ghost use Rattle.std.specs.Prelude.{◌≡◌, ◌<◌, IfOk, OnErr, length, string_bytes};
 ghost use Rattle.std.specs.Str.{bytes_eq};
 

@@ -1,4 +1,6 @@
--- A request that asks a program a question in one state also does so in another state that gives the same context.
+-- If a request asks a program a question in one state, and its question in another state (`routed`) has the same
+-- context, then it asks a program this question in the other state too. In this other state the counts that the context
+-- holds must fit into their bytes (`FitsContext`).
 use Rattle.std.proofs.Common.{◌≡◌, ℕ, ◌<◌, ◌≤◌, ◌&&◌, Bool, true, false, length, Option, Some, None, Ok, Err, refl, ap, ◌∙◌, sym, arith}
 use Rattle.std.specs.Prelude.{if◌then◌else◌, nat_lt}
 use Rattle.std.specs.Result.{result_ok}
@@ -35,7 +37,7 @@ none-some q h = cc
 some-same : (p q : Question) → ◌≡◌ {A = Option Question} (Some p) (Some q) → p ≡ q
 some-same p q h = cc
 
--- ---- presets and prices that a program is asked about
+-- ---- if a preset asks a program, its amount is in range and its point ready; for a price change no point is busy
 
 -- The question `q` is a preset of `amount` at point `n`. The point is ready, and the amount is in its range.
 record AsksPreset (config : ConfigValue) (s : SiteState) (n amount : ℕ) (q : Question) : Type 0 where
@@ -78,7 +80,7 @@ asks-price config s product price q h =
     let all = price-ok (is_within 1 product 8 && is_within 1 price 9999999) bad_amount (first_busy s) asked q h in
     record { question = all.2; within = all.0; free = all.1 }
 
--- ---- the question that a request asks a program, even if the state refuses it
+-- ---- if a request asks a program a question in a state, then `routed` gives the same question for the request
 
 at-none : (s : SiteState) (n : ℕ) (q : Question) → at_number s.points n ≡ None → at_point s n q ≡ None
 unfolding at_point
@@ -122,7 +124,7 @@ pub asked-routed : (config : ConfigValue) (s : SiteState) (till : ℕ) (r : Requ
     → routed config s till r ≡ Some q
 asked-routed config s till r q h = asked-routed-till config s r q (is_till config till) h
 
--- ---- questions with the same context
+-- ---- a request that asks a program in one state also does so in one with the same context, if `FitsContext` holds
 
 release-again : (config : ConfigValue) (s : SiteState) (n amount : ℕ) (p : PointState) → at_number s.points n ≡ Some p → is_within 1 amount 999999999 ≡ true
     → is_ready p.state ≡ true → nat_lt (length p.unpaid) 2 ≡ true → release_question config s n amount ≡ Ok (record {

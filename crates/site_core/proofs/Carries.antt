@@ -1,7 +1,7 @@
 -- What a site leaves for the next day is an opening, unless one of these numbers, which only grow, is too great:
 -- - the number of a point's newest transaction
--- - the total in cents of what was cleared
--- - the count of what was cleared
+-- - the total of cleared amounts in cents
+-- - the count of cleared transactions
 -- - the count of versions
 use Rattle.std.proofs.Common.{◌≡◌, ℕ, ◌+◌, ◌-◌, ◌≤◌, ◌<◌, List, [], ◌∷◌, length, get_or, Bool, true, false, zero, suc, arith, Option, Some, None, refl, sym, ◌∙◌, subst}
 use Rattle.std.specs.Prelude.{All, ◌==◌, reverse, if◌then◌else◌, nat_le, slice_get, slice_index_or}
@@ -73,7 +73,6 @@ there_held : (tills : ℕ) (points : List PointState) (n : ℕ) (p : PointState)
 there_held tills points n p true at all = get_held tills points (n - 1) p at all
 there_held tills points n p false at all = absurd (let e : ◌≡◌ {A = Option PointState} None (Some p) = at in cc)
 
--- If `IsHeldWithin` holds for each point, it holds for the point of number n.
 at_held : (tills : ℕ) (points : List PointState) (n : ℕ) (p : PointState) → at_number points n ≡ Some p → All (IsHeldWithin tills) points
     → IsHeldWithin tills p
 at_held tills points n p at all = there_held tills points n p (nat_le 1 n) at all
@@ -151,10 +150,9 @@ all_reversed P entries all = λ k d lt.
 
 -- ---- what a site leaves is an opening, unless the number of a transaction, a total or a count is too great
 
--- An opening has these numbers, which only grow: those of its points' newest transactions, the total in cents and the
--- count of what was cleared, and the count of versions. Let the opening `o` have `count` points and no price above
--- 9,999,999 thousandths, and let `f` be the fault of the first of these numbers that is too great. Then `f` is the
--- first fault of `o`.
+-- Let an opening have `count` points and no price above 9,999,999 thousandths. If the number of a transaction, a total
+-- or a count is too great for an opening, then the fault of the first such number (`IsFirstLimitFault`) is the first
+-- fault that the opening has.
 pub limit_fault_is_first : (count : ℕ) (o : OpeningValue) (f : OpeningFault) → length o.points ≡ count → All (λ price. price ≤ 9999999) o.prices
     → IsFirstLimitFault o.points o.cleared o.clears o.versions (Some f) → Misfits count o f
 limit_fault_is_first count o fault.Points points prices h = absurd h
@@ -169,7 +167,8 @@ limit_fault_is_first count o fault.DuplicateVersion points prices h = absurd h
 limit_fault_is_first count o fault.OutOfMemory points prices h = absurd h
 
 -- In this module a site has this configuration, history, state and slots. `points` are its points, `totals` are the
--- total in cents and the count of what was cleared, and `n` is how many versions there have been.
+-- total of cleared amounts in cents and the count of cleared transactions, and `n` is how many versions there have
+-- been.
 module _ (config : ConfigValue) (history : List Entry) (s : SiteState) (slots : SlotsValue) (site : SiteValue)
     (site_is : record { config = config; history = history; state = s } ≡ site) (good : IsConfig config) (k : IsConsistent config history s slots)
     (points : List PointState) (totals : ℕ × ℕ) (n : ℕ) (points_are : points ≡ s.points) (totals_are : totals ≡ (s.cleared, s.clears))

@@ -1,5 +1,8 @@
--- If two states give equal contexts, then they agree on whether the question's point is ready, on how many transactions
--- are unpaid there, and on whether a point is busy.
+-- What two states have in common if they give the same context:
+-- - The question's point is ready in both, or in neither.
+-- - The point has equally many unpaid transactions in both, if they are fewer than 2^32 in one and fewer than 2 in the
+--   other.
+-- - No point is busy in either, if none is busy in one and fewer than 2^32 are busy in the other.
 use Rattle.std.proofs.Common.{◌≡◌, ℕ, ◌+◌, ◌%◌, ◌<◌, Bool, true, false, List, [], ◌∷◌, ◌++◌, length, take, map, replicate, Option, Some, None, refl, ap, ◌∙◌}
 use Rattle.std.proofs.Common.{sym, arith, get_or, zero, suc, cond}
 use Rattle.std.specs.Prelude.{◌==◌, ◌||◌, ◌-◌, count_by, find, option_map}
@@ -97,7 +100,7 @@ context-unpaid : (layout : Layout) (s : SiteState) (till moment : ℕ) (q : Ques
     ≡ little_bytes 4 (field_of_question_point s q (λ p. length p.unpaid))
 context-unpaid layout s till moment q = ap (λ bytes. four bytes 48) (context-bytes layout s till moment q) ∙ fields-unpaid layout s till moment q
 
--- ---- a context tells whether the question's point is ready, and its number of unpaid transactions, if below 2^32
+-- ---- a context tells whether the question's point is ready, and how many transactions are unpaid there, if below 2^32
 
 ready-byte : ℕ → Bool
 ready-byte x = x == 3 || x == 4

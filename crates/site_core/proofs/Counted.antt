@@ -39,8 +39,8 @@ kept-if : (d : Bool) (before after left new : ℕ × ℕ) → new ≡ (if d then
 kept-if true before after left new is = ap (λ (x : ℕ × ℕ). Some (before.0, x.0)) (sym is)
 kept-if false before after left new is = refl
 
--- `own` are the counters before a run. If `new` has the declared counters of `after` and all other counters of `own`,
--- then an entry has the same values of counters, whether the counters after the run are `after` or `new`.
+-- An entry has the same values of counters, whether the counters after the run are `after` or `new`. `own` are the
+-- counters before the run. `new` must have the declared counters of `after`, and all other counters of `own`.
 pub counts-adopted : (mask : ℕ) (own after new : Counters) → ((c : ℕ) → counter new c ≡ adopted mask after own c) → counts mask own after ≡ counts mask own new
 unfolding counts
 counts-adopted mask own after new is =

@@ -63,8 +63,8 @@ next-number : (site : SiteValue) (later : List Entry) → versions_before site.c
     ≡ versions_before (next_day site) + versions later + 1
 next-number site later = let n = versions-followed site later in omega arith
 
--- The version in force in a slot after an entry: the program that the entry loaded into this slot, with this number, or
--- else the older version.
+-- The version in force in slot `slot` after an entry. If the entry loaded a program into this slot, the version is this
+-- program with the version number `number`. Otherwise it is `older`, the version in force before the entry.
 abbrev newest : ℕ → ℕ → Option Version → Option (ℕ × ProgramText) → Option Version
 newest slot number older None = older
 newest slot number older (Some l) = if l.0 == slot then Some (record { number = number; program = l.1 }) else older

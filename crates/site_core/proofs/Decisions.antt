@@ -1,5 +1,5 @@
--- The effect of a question in three cases: it is refused before a program is looked for, its slot has no program, or
--- its slot has one.
+-- The reply to a refused question is the refusal. For a question that isn't refused, the reply is S23 if its slot has
+-- no program. If the slot has a program, the program's answer decides (`verdict`).
 use Rattle.std.proofs.Common.{◌≡◌, ℕ, List, Some, None, Ok, Err, refl, ap, ◌∙◌}
 use Rattle.decision_journal.specs.declared.entries.Entry.{Entry}
 use Rattle.till_request.specs.declared.act.Reply.{Reply}

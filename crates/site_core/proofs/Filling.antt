@@ -1,5 +1,5 @@
--- If a list of fixed length is filled from the front, one place after another, the places behind keep their first
--- value. If a station's point is replaced, and so is its place in the view for helpers, the view stays right.
+-- Filling one place after another from the front of a list leaves the later places at their initial value. Replacing a
+-- point of a station, both in the list of points and in the view for helpers, keeps the station's invariant.
 use Rattle.std.proofs.Common.{◌≡◌, ℕ, zero, suc, ◌-◌, ◌<◌, ◌≤◌, List, [], ◌∷◌, ◌++◌, length, map, take, replicate, set, get_or, refl, ap, arith, ◌∙◌, sym, drop, max}
 use Rattle.std.proofs.lemmas.List.{length-set, drop-replicate}
 use Rattle.bpf_model.specs.declared.machine.View.{View}
@@ -33,12 +33,11 @@ pub view-is : (s : SiteState) (v : View) → v.count ≡ length s.points → v.p
 unfolding view_of
 view-is s v count points prices = λ i. record { count = count i; points = points i; prices = prices i }
 
--- If n is from 1 to m, then its place, which is n - 1, is below m.
 pub place-below : (n m : ℕ) → 1 ≤ n → n ≤ m → n - 1 < m
 place-below n m one le = omega arith
 
--- The invariant of a station still holds after `p` replaces the point at place i, and `one`, which is what programs see
--- of `p`, replaces what the station's view has at place i.
+-- The invariant of a station still holds after `p` replaces the point at place i, and `one` replaces the item at place
+-- i of the view's points. `one` must be what programs see of `p`.
 pub keeps-seen : (points : List PointState) (view : View) (i : ℕ) (p : PointState) (one : PointView) → i < length points → length points ≤ 32
     → length view.prices ≡ 8 → view.count ≡ length points → view.points ≡ seen_points points → one ≡ seen p
     → (length (set points i p) ≤ 32) × (length view.prices ≡ 8) × (view.count ≡ length (set points i p))

@@ -1,4 +1,9 @@
--- The effect of a grant: what is granted, and the point or the price after it.
+-- What a grant does after a program answered a till's question about a release, a preset or a price. If the question's
+-- point exists, the grant is a command of the till to this point, with the amount `granted_amount`. If not, the grant
+-- sets the price of the question's product.
+-- `verdict` gives the same reply and the same new state as `applied_answer` does in the state with the counters that
+-- the program left. One more transaction of a point, or a program's run, keeps the state's numbers within their bounds
+-- (`Bounded`).
 use Rattle.std.proofs.Common.{◌≡◌, ℕ, ◌+◌, ◌-◌, ◌*◌, ◌≤◌, true, false, length, Option, Some, None, Result, Ok, Err, slice_set, arith, ap, ◌∙◌, sym, subst}
 use Rattle.std.proofs.Common.{get_or, refl, Bool}
 use Rattle.decision_journal.specs.declared.entries.Run.{Run}
@@ -19,8 +24,8 @@ use Rattle.site_core.specs.Context.{context}
 use Rattle.site_core.specs.Decide.{Effect, denied, grant, granted_amount, command_of, after_command, verdict, counts}
 use Rattle.site_core.proofs.Points.{at_number-read}
 
--- If `FollowsTable` holds, then the new point is the one that the table gives, or the old point if the table refuses
--- the command.
+-- If a call did what the table says (`FollowsTable`), then the new point is the one that the table gives, or the old
+-- point if the table refuses the command.
 after-is : (a : StepResult (Option ℕ)) (p new : PointState) (outcome : Result (Option ℕ) PointFault) → FollowsTable a p outcome new
     → (elim a as (λ _. PointState) [ Ok o ↦ o.0 | Err f ↦ p ]) ≡ new
 after-is (Ok (q, given)) p new outcome h = sym h.1
@@ -45,9 +50,8 @@ grant-is s till r q p new outcome one le is answers =
     grant-some s till r q p (at_number-read s.points q.point p one le is) ∙ ap
     (λ x. (g, with_point s q.point x)) (after-is (command_step p till (command_of q.kind g)) p new outcome answers)
 
--- `Bounded k` says of a site that the numbers of its points' newest transactions, and the total and count of what was
--- cleared, are within the bounds that hold once a day has k entries. If it holds, and one point gets at most one more
--- transaction, then `Bounded (k + 1)` holds.
+-- If a state's numbers are within their bounds after k entries, and one point gets at most one more transaction, then
+-- the new state's numbers are within their bounds after k + 1 entries.
 pub bounded-with : (k : ℕ) (s : SiteState) (n : ℕ) (p new : PointState) → Bounded k s → n ≤ length s.points → 1 ≤ n → p ≡ get_or s.points (n - 1) p
     → new.last ≤ p.last + 1 → Bounded (k + 1) (with_point s n new)
 bounded-with k s n p new b le one is last =
@@ -116,10 +120,8 @@ module _ (s : SiteState) (till moment r : ℕ) (q : Question) (v : Version) (c :
       verdict-grant s till moment r g.0 q v c g.1 some refl
       ∙ ap effect-of (sym (applied_answer-grant (with_counters s c) till v.number r q some) ∙ is)
 
-  -- The program of version `v` answered r to the question `q` and left the counters `c`. If `applied_answer` gives the
-  -- reply `given` and the state `new` for this answer and the state `s` with the counters `c`, then the effect that
-  -- `verdict` gives has this reply and this state. Its run, `made-run`, has the slot of `q`, the number of `v`, the
-  -- answer r, the context, and the values of the declared counters before and after.
+  -- `verdict` gives the reply and the state that `applied_answer` gives for the same answer, in the state `s` with the
+  -- counters `c` that the program left. The effect's run is `made-run`.
   pub verdict-is : verdict s till moment q v r c ≡ record { reply = given; run = Some made-run; after = new }
   verdict-is = verdict-by (r == 0) refl
 

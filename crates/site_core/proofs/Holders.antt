@@ -45,7 +45,6 @@ rest_if tills next p false h = h
 rest_held : (tills : ℕ) (next : State) (p : PointState) → IsHeldWithin tills p → IsHeldWithin tills (end_delivery_in next p)
 rest_held tills next p h = rest_if tills next p (is_busy p.state) h
 
--- If `LeavesHeld` holds for two results, it holds for the one of them that a test selects.
 tested : {T : Type 0} (tills : ℕ) (b : Bool) (x y : StepResult T) → LeavesHeld tills x → LeavesHeld tills y → LeavesHeld tills (if b then x else y)
 tested tills true x y h k = h
 tested tills false x y h k = k

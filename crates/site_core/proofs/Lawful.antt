@@ -1,6 +1,6 @@
--- Each granted release of a legal history is lawful (`LawfulRelease`). That is: the reply names the version in force;
--- the run of this version ends with an answer that isn't 0; the point is ready and has room; and the granted amount is
--- the least of the amount asked, the answer, and the point's preset if it has one.
+-- Each granted release of a legal history is lawful (`LawfulRelease`). The reply names the version in force, and the
+-- run of this version ends with an answer that isn't 0. The point is ready and has room. The granted amount is the
+-- least of the amount asked, the answer, and the point's preset if it has one.
 use Rattle.std.proofs.Common.{◌≡◌, ℕ, ◌<◌, Bool, true, false, List, [], ◌∷◌, length, Option, Some, None, Result, Ok, Err, refl, ap, ◌∙◌, sym}
 use Rattle.std.proofs.lemmas.Bool.{ltb-true, eqb-false}
 use Rattle.std.specs.Prelude.{IsTrue, if◌then◌else◌, ◌==◌, nat_lt}
@@ -71,7 +71,7 @@ asks config s n amount q (Some p) at h =
     (sym (release-some config s n amount p at) ∙ h) in
     record { point = p; is_point = at; question = all.3; within = all.0; ready = all.1; room = ltb-true (length p.unpaid) 2 all.2 }
 
--- If the program's answer is 0, the reply is a denial; so a grant means that the answer isn't 0.
+-- If the program's answer is 0, the reply is a denial. So a grant means that the answer isn't 0.
 verdict-denied : (s : SiteState) (till moment : ℕ) (q : Question) (v : Version) (r : ℕ) (c : Counters) → (r == 0) ≡ true
     → (verdict s till moment q v r c).reply ≡ denied v.number
 unfolding verdict

@@ -1,6 +1,6 @@
--- A list of entries is a legal history of the next day exactly if the history of the day before is still legal with
--- these entries added, their numbers raised by the length of that history. This holds while both days together have at
--- most 1,048,576 entries and fewer than 4,096 versions.
+-- A list of entries is a legal history of the next day exactly if it could have followed the history of the day before,
+-- with numbers raised by that history's length. This holds while both days together have at most 1,048,576 entries and
+-- fewer than 4,096 versions.
 use Rattle.std.proofs.Common.{◌≡◌, ◌+◌, ◌<◌, ◌≤◌, List, [], ◌∷◌, ◌++◌, length, map, refl, ap, ◌∙◌, sym, subst, arith, length-append}
 use Rattle.std.specs.Prelude.{reverse}
 use Rattle.std.proofs.lemmas.List.{reverse-append, length-reverse, length-map, map-append}
@@ -25,14 +25,14 @@ length-followed site later =
       length-reverse site.history,
     )
 
--- `followed` is the history of the site's day and the next day together. The number of the entry after `later` on the
--- next day, raised by the length of the site's history, is the number of the entry after `followed`.
+-- The next entry after `later` on the next day has a number that, raised by the length of the site's history, is the
+-- number of the next entry after both days (`followed`).
 numbers : (site : SiteValue) (later : List Entry) → length later + 1 + length site.history ≡ length (followed site later) + 1
 numbers site later = let l = length-followed site later in omega arith
 
--- If the site's history and `later` together have fewer than 4,096 versions, and the step after `later` on the next day
--- makes the entry `e`, then the step after both together (`followed`) makes `e` with its number raised by the length of
--- the site's history.
+-- If the step after `later` on the next day makes the entry `e`, then the step after the history of both days
+-- (`followed`) makes `e` with its number raised by the length of the site's history. Both days together must have fewer
+-- than 4,096 versions.
 step-on : (site : SiteValue) (later : List Entry) (before after : SiteState) (e : Entry) → IsConfig site.config
     → versions (reverse site.history) + versions later < 4096 → Step (next_day site) later before e.pass e.moment e.act e after
     → Step site.config (followed site later) before e.pass e.moment e.act (with_number_raised (length site.history) e) after
@@ -52,9 +52,9 @@ step-on site later before after e is few st =
       leaves = st.leaves ∙ ap (λ (x : Effect). x.after) (sym same);
     }
 
--- If the site's history and `later` together have fewer than 4,096 versions, and the step after both together
--- (`followed`) makes `e` with its number raised by the length of the site's history, then the step after `later` on the
--- next day makes the entry `e`.
+-- The converse of `step-on`: if the step after the history of both days (`followed`) makes `e` with its number raised
+-- by the length of the site's history, then the step after `later` on the next day makes `e`. Both days together must
+-- have fewer than 4,096 versions.
 step-back : (site : SiteValue) (later : List Entry) (before after : SiteState) (e : Entry) → IsConfig site.config
     → versions (reverse site.history) + versions later < 4096
     → Step site.config (followed site later) before e.pass e.moment e.act (with_number_raised (length site.history) e) after
@@ -81,9 +81,9 @@ step-back site later before after e is few st =
       leaves = st.leaves ∙ ap (λ (x : Effect). x.after) same;
     }
 
--- If the site's history and `later` together have at most 1,048,576 entries and fewer than 4,096 versions, and `later`
--- is a legal history of the next day, then both together are a legal history of the site, and lead to the same state.
--- In both together (`followed`) the numbers of `later` are raised by the length of the site's history.
+-- If `later` is a legal history of the next day, then the history of both days together (`followed`) is legal for the
+-- site, and leads to the same state. Both days together must have at most 1,048,576 entries and fewer than 4,096
+-- versions.
 goes-on : (site : SiteValue) (later : List Entry) (s : SiteState) → IsConfig site.config → Upholds site → length site.history + length later ≤ 1048576
     → versions (reverse site.history) + versions later < 4096 → Legal (next_day site) later s → Legal site.config (followed site later) s
 goes-on site [] s is u room few l = subst (λ t. Legal site.config (reverse site.history) t) (sym l) u.legal
@@ -92,9 +92,8 @@ goes-on site (e ∷ later) s is u room few l =
     let less : length (followed site later) < 1048576 = omega (arith, length-followed site later) in
     (l.0, goes-on site later l.0 is u (omega arith) fewer l.1, less, step-on site later l.0 s e is fewer l.3)
 
--- If the site's history and `later` together have fewer than 4,096 versions, and both together (`followed`) are a legal
--- history of the site, then `later` is a legal history of the next day, and leads to the same state. In both together
--- the numbers of `later` are raised by the length of the site's history.
+-- The converse of `goes-on`: if the history of both days together (`followed`) is legal for the site, then `later` is a
+-- legal history of the next day, and leads to the same state. Both days together must have fewer than 4,096 versions.
 comes-back : (site : SiteValue) (later : List Entry) (s : SiteState) → IsConfig site.config → Upholds site
     → versions (reverse site.history) + versions later < 4096 → Legal site.config (followed site later) s → Legal (next_day site) later s
 comes-back site [] s is u few l = legal-unique site.config (reverse site.history) s site.state l u.legal

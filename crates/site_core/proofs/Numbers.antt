@@ -12,7 +12,7 @@ use Rattle.site_core.specs.Opening.{OpeningValue, IsOpening, IsNewNumber, HaveOw
 use Rattle.site_core.specs.Limits.{ConfigValue, IsConfig}
 use Rattle.site_core.specs.History.{in_force, loaded, opening_rule, versions, versions_before}
 
--- ---- one slot more, and a slot that gets another version
+-- ---- if the numbers in the slots differ, they still do when a new number comes into a slot or into one more slot
 
 pub own_head : (v : Version) (rest : List (Option Version)) → HaveOwnNumbers (Some v ∷ rest) → IsNewNumber rest v.number
 unfolding IsDistinct
@@ -30,8 +30,10 @@ pub own_none : HaveOwnNumbers []
 unfolding IsDistinct
 own_none = tt
 
--- For an empty list of slots, `have_own_numbers` rightly returns true. `own_both` and `own_not` are about a list that
--- begins with a version.
+-- What `have_own_numbers` must return for the slots `rules`:
+-- - `own_end`: true, if there are no slots.
+-- - `own_both`: the same as for the later slots, if the first slot has a version whose number no later slot has.
+-- - `own_not`: false, if the first slot has a version whose number a later slot has too.
 pub own_end : (rules : List (Option Version)) → rules ≡ [] → IsTrue true ↔ HaveOwnNumbers rules
 own_end rules is = (λ _. subst HaveOwnNumbers (sym is) own_none, λ _. refl)
 
@@ -69,7 +71,7 @@ own_set (Some w ∷ rest) (suc k) v h new =
     own_cons w (set rest k (Some v)) (new_set rest k v w.number (own_head w rest h) (flipped v.number w.number new.0))
     (own_set rest k v (own_tail w rest h) new.1)
 
--- ---- two slots that don't have versions with the same number
+-- ---- if no two slots have versions with the same number, any two slots `Differ`, and conversely
 
 -- The two slots don't have versions with the same number.
 abbrev pub Differ : Option Version → Option Version → Type 0
@@ -112,7 +114,7 @@ own_at (Some v ∷ rest) zero (suc j) lt h = new_at v rest j (own_head v rest h)
 own_at (None ∷ rest) (suc i) (suc j) lt h = own_at rest i j (omega (arith, lt)) h
 own_at (Some v ∷ rest) (suc i) (suc j) lt h = own_at rest i j (omega (arith, lt)) (own_tail v rest h)
 
--- ---- the versions in force
+-- ---- the versions in force in different slots have different numbers
 
 -- The slot is empty, or the number of its version is at most n.
 abbrev pub IsUpTo : ℕ → Option Version → Type 0

@@ -44,7 +44,7 @@ use Rattle.site_core.proofs.Lawful.{Asked}
 use Rattle.site_core.proofs.Undecided.{effect-tells}
 use Rattle.site_core.proofs.Asking.{ok-is, none-some, asked-routed}
 
--- ---- the step for a request that asks a program
+-- ---- if a request asks a program a question, then the step's effect is that of the question (`decided`)
 
 asked-request : (config : ConfigValue) (past : List Entry) (s : SiteState) (till moment : ℕ) (r : Request) (q : Question) → question_of config s r ≡ Some q
     → asked config past s till moment r ≡ decided config past s till moment (Ok q)
@@ -76,7 +76,7 @@ agrees-till config slots past entry till r a is =
 
 -- The site's step for the draft's request gives the reply and the run of `entry`, and the state `new` (`Performs`), if
 -- all of these are true:
--- - `StillAsked` holds for the draft in the state `s`, and the slots agree with the history.
+-- - In the state `s` the draft isn't stale (`StillAsked`), and the slots agree with the history.
 -- - The draft's program, run on the draft's context and view and on the counters of `s`, ends with `r0` and `after`.
 -- - For `r0` and `after`, `verdict` gives the reply and the run of `entry`, and the state `new`.
 -- - `entry` has the draft's moment, till and request.
@@ -102,7 +102,7 @@ performs-applied_answer config past s new slots draft q r0 after entry moment_is
       good = subst GoodLoad (sym act_is) tt;
     }
 
--- ---- whether the step runs a program
+-- ---- the step runs a program exactly if the request asks a question whose slot has a program
 
 answer-run : (s : SiteState) (n : ℕ) (a : StepResult (Option ℕ)) → (command_effect s n a).run ≡ None
 answer-run s n (Ok (p, cleared)) = refl
@@ -164,7 +164,7 @@ runs-some config past s till moment r q v h some =
     subst (λ (e : Effect). IsSome e.run) (sym (effect-decided config past s till moment r q h ∙ decided-some config past s till moment q v some))
     (verdict-run s till moment q v x.0 x.1 (x.0 == 0) refl)
 
--- ---- what `begin` returns
+-- ---- if the history has room and no draft is made, the step would run no program; a draft that is made is fresh
 
 -- If the site's step for a till's request would run no program now, then the reply to this request would be neither a
 -- grant nor S24 (a denial by a program).
@@ -216,15 +216,15 @@ begun config history s slots till moment r draft agrees d =
       counters_are = d.counters_are;
     }
 
--- If the history isn't full and `Drafts` holds for what `begin` returns, then `Begins` holds for it too.
+-- Let `begin` return a draft made in this state, or Direct because no program would be run (`Drafts`). If the history
+-- isn't full, and the slots agree with it, then this result fits the site (`Begins`).
 pub begins : (config : ConfigValue) (history : List Entry) (s : SiteState) (slots : SlotsValue) (till moment : ℕ) (r : Request) (b : Begin)
     → Agrees config slots (reverse history) → length history < 1048576 → Drafts config s slots till moment r (drafted b)
     → Begins (record { config = config; history = history; state = s }) till moment r b
 begins config history s slots till moment r begin.Direct agrees less d = inr (begins-none config history s slots till moment r agrees d)
 begins config history s slots till moment r (begin.Run draft) agrees less d = (less, begun config history s slots till moment r draft agrees d)
 
--- If the history isn't full and `Drafts` holds for the result of a call, then `Begins` holds for it too. Nothing is
--- claimed if memory ran out.
+-- As `begins`, for the result of a call. Nothing is claimed if the call returned an error.
 pub begins-ok : (config : ConfigValue) (history : List Entry) (s : SiteState) (slots : SlotsValue) (till moment : ℕ) (r : Request)
     (result : Result Begin AllocError) → Agrees config slots (reverse history) → length history < 1048576
     → IfOk result (λ b. Drafts config s slots till moment r (drafted b))
@@ -249,8 +249,8 @@ pub basis-is : (config : ConfigValue) (history : List Entry) (s : SiteState) (sl
 basis-is config history s slots draft agrees =
     λ i. basis_of (λ slot. sym (agrees.in_force slot) i) s draft.till draft.moment (routed config s draft.till draft.request)
 
--- If `Performs` holds for the act `asked` and the entry `p`, and `IsRunOf ready` holds for the run of `p`, then
--- `IsRunOf ready` also holds for the run of the entry that the site makes for this act.
+-- The run of the entry that the site makes for the act `asked` has the draft's version and the answer that the draft's
+-- program gave (`IsRunOf`), if this is true of the run of `p`, and `p` was made as the step defines (`Performs`).
 pub entered-run : (site : SiteValue) (pass moment : ℕ) (asked : Act) (ready : ReadyValue) (p : Entry) (new : SiteState) (slots : SlotsValue)
     → Performs site.config (reverse site.history) site.state moment asked p new slots → IsRunOf ready p.run → IsRunOf ready (entered site pass moment asked).run
 unfolding entered

@@ -1,4 +1,5 @@
--- The effect of a command or an event on the site, by what the point returned for it.
+-- A command or an event at a point that doesn't exist is answered with S20. Otherwise its effect follows from what the
+-- point returns for it.
 use Rattle.std.proofs.Common.{◌≡◌, ℕ, ◌+◌, ◌-◌, ◌<◌, ◌≤◌, List, length, Option, Some, None, Result, Ok, Err, slice_set, refl, arith, ap, ◌∙◌, sym, get_or}
 use Rattle.std.specs.Prelude.{unwrap_or}
 use Rattle.std.proofs.lemmas.Bool.Decides.{nat_tests}
@@ -28,7 +29,7 @@ pub till_command_effect-none : (s : SiteState) (till n : ℕ) (command : Command
 unfolding till_command_effect
 till_command_effect-none s till n command none = rw (none, till_command_effect)
 
--- If the point exists, then the effect of a command is `command_effect` of what the point returns for it.
+-- If the point exists, then the effect of a command follows from what the point returns for it (`command_effect`).
 pub till_command_effect-some : (s : SiteState) (till n : ℕ) (command : Command) (p : PointState) → at_number s.points n ≡ Some p
     → till_command_effect s till n command ≡ command_effect s n (command_step p till command)
 unfolding till_command_effect

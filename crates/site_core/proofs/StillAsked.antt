@@ -1,6 +1,7 @@
--- Let the version, the context, the points and the prices in a state be those of a draft (`SameBasis`). If no declared
--- counter differs, and `FitsContext` holds, then `StillAsked` holds. If a declared counter differs, then `Differs`
--- holds with the first such counter.
+-- Let the version, the context, the points and the prices be the same in a state and in a draft (`SameBasis`). If the
+-- declared counters are the same too, then the draft isn't stale in this state (`StillAsked`), provided that the counts
+-- in the context fit into their bytes (`FitsContext`). If a declared counter differs, then the first such counter is
+-- the first difference (`Differs`).
 use Rattle.std.proofs.Common.{◌≡◌, ℕ, Some, ap, ◌∙◌}
 use Rattle.bpf_model.specs.Machine.{counter}
 use Rattle.program_slots.specs.Value.{SlotsValue}
@@ -18,7 +19,7 @@ use Rattle.site_core.specs.Asked.{WasDrafted, FitsContext, StillAsked, basis_in}
 use Rattle.site_core.proofs.Contexts.{same-view}
 use Rattle.site_core.proofs.Asking.{asked-again, well-asked, till-there}
 
--- In this state the version, the context, the points and the prices are those of the draft.
+-- The version, the context, the points and the prices are the same in this state and in the draft.
 pub record SameBasis (config : ConfigValue) (s : SiteState) (slots : SlotsValue) (draft : DraftValue) (q : Question) : Type 0 where
   pub routed_is : routed config s draft.till draft.request ≡ Some q
   pub version : version_in slots q.slot ≡ Some draft.version

@@ -34,7 +34,7 @@ use Rattle.site_core.proofs.Points.{release-none, release-some, preset-none, pre
 use Rattle.site_core.proofs.Decisions.{decided-refused, decided-none, decided-some}
 use Rattle.site_core.proofs.Grants.{verdict-deny, verdict-grant}
 
--- ---- the refusals before a program is looked for
+-- ---- a refusal before a program is looked for is neither a grant nor S24 (a denial by a program)
 
 abbrev pub refuses : Result Question Reply → Bool
 refuses (Ok q) = false
@@ -76,7 +76,7 @@ pub price-no : (busy : Option State) (product price slot : ℕ)
 price-no busy product price slot =
     busy-no (is_within 1 product 8 && is_within 1 price 9999999) busy (record { kind = kind.Price; point = 0; product = product; asked = price; slot = slot })
 
--- ---- the effect of each event
+-- ---- for each event the reply is a grant or S24 (a denial by a program) exactly if a program is run
 
 abbrev DecidedIffRun : Effect → Type 0
 DecidedIffRun e = is_decided e.reply ≡ is_some e.run

@@ -1,5 +1,7 @@
--- Representation: what a draft keeps of the state in which it was made, and what the contracts of the steps inside
--- `begin` and `commit` say. No reader has to believe it: the prover checks the code against it.
+-- Representation: what a draft keeps of the state in which it was made, and definitions for the contracts of the
+-- functions that `apply`, `begin` and `commit` call. The public contracts of `begin` and `begin_with` use
+-- `asked_question`, which is defined by `question_of` and `question_in`. The other definitions of this file don't have
+-- to be trusted: the prover checks the code against them.
 use Rattle.std.specs.Prelude.{◌≡◌, ◌≢◌, ℕ, ◌<◌, ◌≤◌, ◌⊎◌, if◌then◌else◌, length, Option, Some, None, Result, Ok, Err}
 use Rattle.std.specs.Result.{result_ok}
 use Rattle.fuelling_point.specs.Table.{PointState}
@@ -36,8 +38,8 @@ question_of config s request = question_in s (request_action config request)
 abbrev pub asked_question : ConfigValue → SiteState → ℕ → Request → Option Question
 asked_question config s till request = if is_till config till then question_of config s request else None
 
--- Memory can be needed for the act before its entry is made. For a till's request this is true exactly if the request
--- asks a program a question in this state; for a dispenser's event never, for a load always.
+-- The act can need memory before its entry is made. True for a load, false for a dispenser's event. For a till's
+-- request true exactly if the request asks a program a question in this state.
 abbrev pub TakesMemory : ConfigValue → SiteState → Act → Type 0
 TakesMemory config s (act.Till till request) = asked_question config s till request ≢ None
 TakesMemory config s (act.Dispenser point event) = ⊥
@@ -49,8 +51,8 @@ abbrev pub WouldRun : ConfigValue → SiteState → SlotsValue → ℕ → Reque
 WouldRun config s slots till request =
     (q : Question) × (v : Version) × (asked_question config s till request ≡ Some q) × (version_in slots q.slot ≡ Some v)
 
--- The draft was made in some state with at most 32 points, in which its request wasn't refused. Its context and its
--- view are those of that state.
+-- The draft was made in a state with at most 32 points, in which its request asked a program a question. The draft has
+-- the context and the view of this state.
 pub record WasDrafted (draft : DraftValue) : Type 0 where
   pub config : ConfigValue
   pub state : SiteState
@@ -102,15 +104,14 @@ pub record StillAsked (config : ConfigValue) (s : SiteState) (slots : SlotsValue
   pub view_is : view_of s ≡ draft.view
   pub fresh : IsFresh (basis_in config s slots draft) draft
 
--- The result is that of a comparison of the draft with this state: the question that is asked in this state, or the
--- first difference.
+-- The result of comparing the draft with this state is right. Ok: in this state the draft isn't stale, and its request
+-- asks question q (`StillAsked`). Err: `why` is the first difference.
 abbrev pub Compares : ConfigValue → SiteState → SlotsValue → DraftValue → Result Question Why → Type 0
 Compares config s slots draft (Ok q) = StillAsked config s slots draft q
 Compares config s slots draft (Err why) = Differs (basis_in config s slots draft) draft why
 
--- The fault gives the true reason why no entry is made for the draft's run. The `Basis` is what this run would be made
--- on now. `Stale`: the draft is stale, and the fault names the first difference. `OutOfMemory`: the draft isn't stale,
--- and memory ran out.
+-- The fault is the true reason why no entry is made for the draft's run. `now` is what this run would be made on now.
+-- `Stale`: the draft is stale, and `why` is the first difference. `OutOfMemory`: the draft isn't stale.
 abbrev pub DiffersIfStale : Basis → DraftValue → CommitFault → Type 0
 DiffersIfStale now draft (commit_fault.Stale why) = Differs now draft why
 DiffersIfStale now draft commit_fault.OutOfMemory = IsFresh now draft

@@ -1,4 +1,4 @@
--- Definitions: the context, which is the bytes that a program is given, as a table of fields (this profile).
+-- Definitions: the context, which is the bytes that a program is given, as a table of fields (source: this project).
 use Rattle.std.specs.Prelude.{ℕ, List, [], ◌∷◌, ◌++◌, length, Option, Some, None}
 use Rattle.byteorder.specs.Endian.{little_bytes}
 use Rattle.fuelling_point.specs.Table.{PointState}

@@ -1,4 +1,4 @@
--- Definitions: how one day of a site follows another (this profile).
+-- Definitions: how one day of a site follows another (source: this project).
 use Rattle.std.specs.Prelude.{◌≡◌, ℕ, ◌+◌, ◌<◌, ◌≤◌, ◌↔◌, List, ◌++◌, length, map, reverse, Some, All}
 use Rattle.std.specs.List.{range_with_len}
 use Rattle.fuelling_point.specs.Table.{PointState}
@@ -27,7 +27,7 @@ carried site = record {
   rules = map (λ slot. in_force site.config slot (reverse site.history)) (range_with_len 0 16);
 }
 
--- The configuration of the next day's site: that of this site, with what this site leaves as the opening.
+-- The configuration of the next day's site: this site's configuration, with what this site leaves as the opening.
 abbrev pub next_day : SiteValue → ConfigValue
 next_day site = record site.config { opening = Some (carried site) }
 
@@ -67,7 +67,7 @@ abbrev pub IsHeldWithin : ℕ → PointState → Type 0
 IsHeldWithin tills p = All (λ (t : Transaction). t.holder ≤ tills) p.unpaid
 
 -- The law of holders: if each unpaid transaction with which a site begins is held by nobody or by one of the site's
--- tills, then so is each that the site leaves.
+-- tills, then so is each unpaid transaction that the site leaves.
 abbrev pub HoldersStay : Type 0
 HoldersStay = (site : SiteValue) → Upholds site → All (IsHeldWithin site.config.tills) (opening_state site.config).points
     → All (IsHeldWithin site.config.tills) (carried site).points

@@ -1,5 +1,5 @@
--- Definitions: how a release, a preset or a price is decided (this profile). In these definitions a history has its
--- newest entry first.
+-- Definitions: how a release, a preset or a price is decided (source: this project). In these definitions a history has
+-- its newest entry first.
 use Rattle.std.specs.Prelude.{◌≡◌, ◌≤◌, ℕ, ◌-◌, ◌/◌, ◌%◌, ◌^◌, min, Bool, true, false, ◌&&◌, ◌==◌, nat_lt, nat_le, if◌then◌else◌, List, length, map, slice_set}
 use Rattle.std.specs.Prelude.{slice_index_or, Option, Some, None, Result, Ok, Err}
 use Rattle.std.specs.List.{range_with_len}
@@ -29,13 +29,13 @@ use Rattle.site_core.specs.declared.question.RequestAction.TheVariants as action
 use Rattle.program_slots.specs.Value.{Version}
 use Rattle.site_core.specs.History.{in_force}
 
--- The effect of an event: the reply, the run of a program if there was one, and the site's state after it.
+-- The effect of an event: the reply, the run if a program was run, and the site's state after the event.
 pub record Effect : Type 0 where
   pub reply : Reply
   pub run : Option Run
   pub after : SiteState
 
--- The effect that has this reply, no run, and this state after it.
+-- The effect of an event that is answered with this reply, runs no program, and leads to this state.
 abbrev pub replied : Reply → SiteState → Effect
 replied r s = record { reply = r; run = None; after = s }
 
@@ -75,7 +75,7 @@ is_decided (reply.Granted amount version) = true
 is_decided (reply.Refused number value) = number == 24
 is_decided _ = false
 
--- The third argument if the test is true, or else the refusal as an error.
+-- `rest` if the test is true, or else the refusal as an error.
 abbrev pub refuse_unless : {T : Type 0} → Bool → Reply → Result T Reply → Result T Reply
 refuse_unless test refusal rest = if test then rest else Err refusal
 
@@ -86,11 +86,12 @@ abbrev pub is_till : ConfigValue → ℕ → Bool
 is_till config till = is_within 1 till config.tills
 
 -- The slot whose program decides the releases of point n, and the slot whose program decides its presets. Both are 0 if
--- there are fewer than n points; n = 0 gives those of point 1.
+-- there are fewer than n points. For n = 0 they are the same as for n = 1.
 abbrev pub slots_of : ConfigValue → ℕ → ℕ × ℕ
 slots_of config n = slice_index_or config.points (n - 1) (0, 0)
 
--- The question that a release asks the program of its slot. The questions of a preset and of a price change follow.
+-- The question that a release at point n asks. Its slot is the one whose program decides the releases of this point.
+-- The two definitions below are the questions of a preset and of a price change.
 abbrev pub release_of : ConfigValue → ℕ → ℕ → Question
 release_of config n amount = record { kind = Release; point = n; product = 0; asked = amount; slot = (slots_of config n).0 }
 
@@ -120,8 +121,9 @@ abbrev pub has_room : Kind → PointState → Bool
 has_room Release p = nat_lt (length p.unpaid) 2
 has_room _ p = true
 
--- The question of a release or a preset, if its point and its amount allow it, or else the refusal, for which no
--- program is run.
+-- Checks the question of a release or a preset at its point. Ok is the question itself. Err is the refusal: S25 if the
+-- amount is out of its range, else S22 if the point isn't ready, else S26 for a release at a point with two or more
+-- unpaid transactions. No program is run for a refused question.
 abbrev pub asked_at : PointState → Question → Result Question Reply
 asked_at p q =
     refuse_unless (is_within 1 q.asked 999999999) bad_amount
@@ -138,7 +140,8 @@ abbrev pub price_at : Option State → Question → Result Question Reply
 price_at busy q =
     refuse_unless (is_within 1 q.product 8 && is_within 1 q.asked 9999999) bad_amount (elim busy [ Some state ↦ Err (wrong_state state) | None ↦ Ok q ])
 
--- The question, if this state allows it, or else the refusal, for which no program is run.
+-- Checks a question in this state. Ok is the question itself, Err the refusal. No program is run for a refused
+-- question.
 abbrev pub admitted : SiteState → Question → Result Question Reply
 admitted s q = elim q.kind [ Price ↦ price_at (first_busy s) q | _ ↦ asked_at_point s q ]
 

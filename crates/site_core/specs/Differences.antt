@@ -28,9 +28,9 @@ pub record IsFresh (now : Basis) (draft : DraftValue) : Type 0 where
   pub view : now.view ≡ draft.view
   pub counters : Agrees draft.version.program.declared draft.counters now.counters
 
--- The `Why` names the first difference between the draft and the draft that would be made now. They are compared in
--- this order: the version, the context byte by byte, the points, the prices, the declared counters. Points and
--- products are numbered from 1. The version's number and the counter's value are the current ones, not the draft's.
+-- The `Why` is the first difference between the draft and what its run would be made on now. The order is: the version,
+-- the context byte by byte, the points, the prices, the declared counters. Points and products are numbered from 1. The
+-- version's number and the counter's value are the current ones, not the draft's.
 abbrev pub Differs : Basis → DraftValue → Why → Type 0
 Differs now draft (why.Version number) =
     (now.version ≢ Some draft.version) × (number ≡ option_map (λ (v : Version). v.number) now.version)

@@ -41,8 +41,8 @@ IsRunResult draft r0 after = outcome draft.version.program draft.context draft.v
 unfoldable pub at_point : SiteState → ℕ → Question → Option Question
 at_point s n q = elim (at_number s.points n) [ None ↦ None | Some _ ↦ Some q ]
 
--- The question that a program is asked, even if this state refuses it. None if the question's point doesn't exist, or
--- if the request is of a kind that no program decides.
+-- The question that a request asks a program, whether or not this state refuses the question. None for a release or a
+-- preset at a point that doesn't exist, or if the request is of a kind that no program decides.
 abbrev pub routed_to : SiteState → RequestAction → Option Question
 routed_to s (action.Decision q) = elim q.kind [ Price ↦ Some q | _ ↦ at_point s q.point q ]
 routed_to s _ = None
@@ -50,13 +50,14 @@ routed_to s _ = None
 abbrev pub routed_request : ConfigValue → SiteState → Request → Option Question
 routed_request config s request = routed_to s (request_action config request)
 
--- The question that a program is asked for this till's request, even if this state refuses it. None if the site has no
--- such till or point, or if the request is of a kind that no program decides.
+-- The question that this till's request asks a program, whether or not this state refuses the question. None if the
+-- site has no such till or point, or if the request is of a kind that no program decides.
 abbrev pub routed : ConfigValue → SiteState → ℕ → Request → Option Question
 routed config s till request = if is_till config till then routed_request config s request else None
 
--- What a run would be made on in the current state. The context has the layout of the version in the slot. If the till
--- or the point doesn't exist, there is no version. Without a version the context is empty.
+-- What a run would be made on in the current state. `version` is the version in the slot of the request's question. It
+-- is None if this slot is empty, or if the till or the point doesn't exist. The context has the layout of this version.
+-- Without a version the context is empty.
 pub record Basis : Type 0 where
   pub version : Option Version
   pub context : List ℕ

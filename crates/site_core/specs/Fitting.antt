@@ -1,4 +1,4 @@
--- Promises: why an opening doesn't fit a site, so that the site can't begin with it.
+-- Promises: which fault an opening has, if a site can't begin with it.
 use Rattle.std.specs.Prelude.{◌≡◌, ℕ, ◌≤◌, List, [], ◌∷◌, length, Option, Some, None, All}
 use Rattle.std.specs.List.{AllByRecursion}
 use Rattle.fuelling_point.specs.Table.{PointState}
@@ -7,8 +7,8 @@ use Rattle.site_core.specs.Opening.{OpeningValue, HaveOwnNumbers}
 use Rattle.site_core.specs.declared.opening.OpeningFault.{OpeningFault}
 use Rattle.site_core.specs.declared.opening.OpeningFault.TheVariants as fault
 
--- The opening, for a site with `count` points, doesn't have this fault. `OutOfMemory` says nothing about an opening:
--- for it `LacksFault` is always false, and so `Misfits`, which negates `LacksFault`, is always true.
+-- The opening, for a site with `count` points, doesn't have this fault. `OutOfMemory` isn't a fault of an opening. For
+-- it `LacksFault` is always false, so `Misfits` below claims nothing.
 abbrev pub LacksFault : ℕ → OpeningValue → OpeningFault → Type 0
 LacksFault count o fault.Points = length o.points ≡ count
 LacksFault count o fault.Prices = All (λ price. price ≤ 9999999) o.prices
@@ -40,7 +40,7 @@ faults_before fault.OutOfMemory = []
 abbrev pub Misfits : ℕ → OpeningValue → OpeningFault → Type 0
 Misfits count o fault = AllByRecursion (LacksFault count o) (faults_before fault) × ¬ LacksFault count o fault
 
--- The fault is that a number that only grows is too great, or that memory ran out.
+-- The fault is Transactions, Cleared, Clears or Versions (a number that only grows is too great), or OutOfMemory.
 abbrev pub IsLimitOrMemoryFault : OpeningFault → Type 0
 IsLimitOrMemoryFault fault.Points = ⊥
 IsLimitOrMemoryFault fault.Prices = ⊥
@@ -57,9 +57,9 @@ IsLimitOrMemoryFault fault.OutOfMemory = Unit {0}
 abbrev pub AreLastNumbersWithinLimit : List PointState → Type 0
 AreLastNumbersWithinLimit points = All (λ (p : PointState). p.last ≤ 4290000000) points
 
--- `Some fault` names the first number that is too great for an opening; None means that none is. The numbers, which
--- only grow, are in this order: those of these points' newest transactions, the total in cents and the count of what
--- was cleared, and the count of versions.
+-- `Some fault` names the first number that is too great for an opening. None means that no number is. The order is: the
+-- number of each point's newest transaction, the total of cleared amounts in cents, the count of cleared transactions,
+-- and the count of versions.
 abbrev pub IsFirstLimitFault : List PointState → ℕ → ℕ → ℕ → Option OpeningFault → Type 0
 IsFirstLimitFault points cleared clears versions None =
     AreLastNumbersWithinLimit points × (cleared ≤ 1000000000000000000) × (clears ≤ 1000000000000000000) × (versions ≤ 4290000000)

@@ -24,13 +24,13 @@ versions (entry ∷ earlier) =
 abbrev pub versions_before : ConfigValue → ℕ
 versions_before config = elim config.opening [ None ↦ 0 | Some o ↦ o.versions ]
 
--- The version in force in a slot when the history begins: that of the opening. None if the opening has none there, and
--- without an opening.
+-- The version in force in a slot when the history begins: the one that the opening has for this slot. None if it has
+-- none for the slot, or if there is no opening.
 abbrev pub opening_rule : ConfigValue → ℕ → Option Version
 opening_rule config slot = elim config.opening [ None ↦ None | Some o ↦ slice_index_or o.rules slot None ]
 
 -- The version in force in a slot: the program of the last load into it that was answered with a version, or else the
--- version of the opening, if any. A version's number is how many were ever loaded up to it, itself included.
+-- version of the opening, if any. The number of a loaded version is 1 more than the count of all versions before it.
 abbrev pub in_force : ConfigValue → ℕ → List Entry → Option Version
 in_force config slot [] = opening_rule config slot
 in_force config slot (entry ∷ earlier) =

@@ -1,4 +1,4 @@
--- Definitions: what a site keeps from one day to the next (this profile).
+-- Definitions: what a site keeps from one day to the next (source: this project).
 use Rattle.std.specs.Prelude.{◌≡◌, ℕ, ◌≤◌, ◌==◌, List, [], ◌∷◌, length, Option, Some, None, false, All}
 use Rattle.std.specs.List.{AllByRecursion, IsDistinct}
 use Rattle.fuelling_point.specs.Table.{PointState}
@@ -35,8 +35,9 @@ HaveOwnNumbers rules = IsDistinct (λ a b. a == b) (rule_numbers rules)
 
 -- A site with `count` points can begin with the opening: it has that many points, no price over 9,999,999 thousandths,
 -- and no counter over its bound. Each of the 16 slots has no version, or one that was loaded and that the verifier
--- accepts; no two have versions with the same number. The numbers that only grow are small enough for one more day:
--- those of the points' newest transactions, the total and count of what was cleared, and the count of versions.
+-- accepts. No two slots have versions with the same number. The numbers that only grow are small enough for one more
+-- day: the number of each point's newest transaction, the total of cleared amounts in cents, the count of cleared
+-- transactions, and the count of versions.
 pub record IsOpening (count : ℕ) (o : OpeningValue) : Type 0 where
   pub points : length o.points ≡ count
   pub prices : All (λ price. price ≤ 9999999) o.prices

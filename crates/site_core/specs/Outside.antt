@@ -1,12 +1,15 @@
 -- Promises: what the contracts of `begin` and `commit` say.
 --
 -- For a caller: `run_now` is the run that the site's step would make now for a till's request, and `reply_now` is the
--- step's reply. Without such a run the reply is neither a grant nor S24 (a denial by a program). If `begin` returns no
--- error, it returns Direct exactly if there is no such run or the history is full. Otherwise it returns a draft, and
--- `IsFreshDraft` holds for it. If `commit` returns no error, it returns Done exactly if `IsFresh` holds: nothing that
--- the draft's run depends on differs. The commit is then one step of the site for the draft's request at the draft's
--- moment, and the run of its entry has the draft's version and the answer that this version gave. Otherwise `commit`
--- returns Stale with the first difference, and nothing has changed.
+-- step's reply. Without such a run the reply is neither a grant nor S24 (a denial by a program).
+--
+-- If `begin` returns no error, it returns Direct exactly if the step would run no program or the history is full.
+-- Otherwise it returns a draft with the request and all that the step's run would be made on (`IsFreshDraft`).
+--
+-- If `commit` returns no error, it returns Done exactly if nothing that the draft's run depends on differs (`IsFresh`).
+-- The commit is then one step of the site for the draft's request at the draft's moment, and the run of its entry has
+-- the draft's version and the answer that this version gave. Otherwise `commit` returns Stale with the first
+-- difference, and nothing has changed.
 use Rattle.std.specs.Prelude.{◌≡◌, ℕ, ◌<◌, ◌⊎◌, false, IsSome, length, reverse, Option, Some, None}
 use Rattle.decision_journal.specs.declared.entries.Run.{Run}
 use Rattle.till_request.specs.declared.act.Request.{Request}
@@ -52,8 +55,8 @@ drafted begin.Direct = None
 drafted (begin.Run draft) = Some draft
 
 -- The result of `begin` fits the site. Direct: the history is full, or the site's step for the request would run no
--- program now, and the reply would be neither a grant nor S24 (a denial by a program). Run: the history has room, and
--- `IsFreshDraft` holds for the draft.
+-- program now and reply neither with a grant nor with S24 (a denial by a program). Run: the history has room, and the
+-- draft has the request and all that the step's run would be made on now (`IsFreshDraft`).
 abbrev pub Begins : SiteValue → ℕ → ℕ → Request → Begin → Type 0
 Begins site till moment request begin.Direct =
     (length site.history ≡ 1048576)

@@ -1,12 +1,14 @@
 -- Promises: the value that models a site, and what the contracts of its calls say.
 --
--- For a caller: a site is a `SiteValue`. An event is an act, by a pass, at a moment; `act_of` is the act of an event.
--- `entered site pass moment act` is the entry that the event makes, with its number, reply and run, and
--- `site_after site pass moment act` is the site with that entry added. Both depend on these values alone. If `apply`
--- returns Ok, `Enters old pass moment act number reply new` holds: the entry's number and reply were returned, and the
--- new site is `site_after`. `apply` returns JournalFull exactly if the history has 1,048,576 entries. After any error
--- the site is unchanged. `AppliesEvent` states this for each result, and `Runs` for a list of events with their
--- results. A site starts as `new_site config`. `Upholds` holds for every site.
+-- For a caller: a site is a `SiteValue`. It starts as `new_site config`, and `Upholds` holds for every site. An event
+-- is an act, by a pass, at a moment, and `act_of` gives its act. `entered site pass moment act` is the entry that the
+-- event makes, with its number, reply and run. `site_after site pass moment act` is the site with that entry added. The
+-- site, the pass, the moment and the act determine both.
+--
+-- If `apply` returns Ok, `Enters old pass moment act number reply new` holds: the entry's number and reply were
+-- returned, and the new site is `site_after`. `apply` returns JournalFull exactly if the history has 1,048,576 entries.
+-- After any error the site is unchanged. `AppliesEvent` states this for each result, and `Runs` for a list of events
+-- with their results.
 use Rattle.std.specs.Prelude.{◌≡◌, ◌≢◌, ℕ, ◌+◌, List, [], ◌∷◌, ◌++◌, length, reverse, Result, Ok, Err}
 use Rattle.std.specs.Arc.{arc_value}
 use Rattle.decision_journal.specs.declared.entries.Entry.{Entry}
@@ -62,7 +64,7 @@ pub record Enters (old : SiteValue) (pass moment : ℕ) (act : Act) (number : �
   pub history_is : new.history ≡ old.history ++ entered old pass moment act ∷ []
 
 -- The result of an event fits the old and the new site. Ok: the event was entered. JournalFull: the old history has
--- 1,048,576 entries. OutOfMemory: it doesn't have 1,048,576. After an error the site is unchanged.
+-- 1,048,576 entries. OutOfMemory: the old history doesn't have 1,048,576 entries. After an error the site is unchanged.
 abbrev pub AppliesEvent : SiteValue → Event → Result Answered CallFault → SiteValue → Type 0
 AppliesEvent old event (Ok answered) new = Enters old event.pass event.moment (act_of event.what) answered.number answered.reply new
 AppliesEvent old event (Err JournalFull) new = (length old.history ≡ 1048576) × (new ≡ old)

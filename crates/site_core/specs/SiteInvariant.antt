@@ -1,5 +1,5 @@
--- Representation: how the fields of a site relate to each other, and what the contracts of the steps inside a call say.
--- No reader has to believe it: the prover checks the code against it.
+-- Representation: the invariant of a site, and definitions for the contracts of the functions that `start`, `apply` and
+-- `commit` call. Nothing here has to be trusted: the prover checks the code against it.
 use Rattle.std.specs.Prelude.{◌≡◌, ℕ, ◌≤◌, ◌==◌, if◌then◌else◌, List, ◌∷◌, length, reverse, Some, None, All}
 use Rattle.decision_journal.specs.declared.entries.Entry.{Entry}
 use Rattle.till_request.specs.declared.act.Act.{Act}
@@ -45,10 +45,10 @@ pub record IsConsistent (config : ConfigValue) (history : List Entry) (state : S
   pub points : length state.points ≡ length config.points
   pub bounded : Bounded (length history) state
 
--- An act was performed as `effect` defines, on the state `old` after the entries `past`: the entry p has the act, the
--- moment that an entry of this act bears, and the reply and the run of the effect, and `new` is the state after it. The
--- slots agree with the history once an entry with the act and the reply of p is added. If the act is a load, its
--- program is accepted and good.
+-- An act was performed as `effect` defines, on the state `old` after the entries `past`. The entry p has the act, the
+-- moment that `entered_moment` gives, and the reply and the run of the effect. `new` is the state after the effect. The
+-- slots agree (`Agrees`) with `past` and one more entry, if this entry has the act and the reply of p. If the act is a
+-- load, its program is accepted and good.
 pub record Performs (config : ConfigValue) (past : List Entry) (old : SiteState) (moment : ℕ) (act : Act) (p : Entry) (new : SiteState)
     (slots : SlotsValue) : Type 0 where
   pub act_is : p.act ≡ act
@@ -58,7 +58,8 @@ pub record Performs (config : ConfigValue) (past : List Entry) (old : SiteState)
   pub accepted : load_refusal p.act ≡ None
   pub good : GoodLoad p.act
 
--- A load was answered as `load_reply` defines, and the slots agree with the history once its entry is added.
+-- A load was answered as `load_reply` defines. The slots `new` agree (`Agrees`) with `past` and one more entry, if this
+-- is the load's entry.
 pub record Loads (config : ConfigValue) (old : SlotsValue) (slot : ℕ) (program : ProgramText) (past : List Entry) (reply : Reply) (new : SlotsValue) : Type 0 where
   pub reply_is : load_reply config slot past ≡ reply
   pub agrees : (entry : Entry) → entry.act ≡ act.Load slot program.declared program.layout program.bytes → entry.reply ≡ reply → Agrees config new (entry ∷ past)
@@ -66,8 +67,8 @@ pub record Loads (config : ConfigValue) (old : SlotsValue) (slot : ℕ) (program
 abbrev pub with_counters : SiteState → Counters → SiteState
 with_counters s counters = record s { counters = counters }
 
--- The reply if the program of this version answered r to the question, and the state after it. The answer 0 is a
--- denial, and changes nothing.
+-- What the answer r of a program to a question leads to: the reply, which names the program's version, and the new
+-- state. The answer 0 is a denial, and changes nothing.
 unfoldable pub applied_answer : SiteState → ℕ → Question → ℕ → ℕ → Reply × SiteState
 applied_answer s till q version r =
     if r == 0 then (denied version, s)

@@ -19,7 +19,7 @@ pub record SiteState : Type 0 where
   pub cleared : ℕ
   pub clears : ℕ
 
--- The state in which a site without an opening starts: each point is closed, prices and counters are those of the
+-- The state in which a site without an opening starts: each point is closed, the prices and counters come from the
 -- configuration, and nothing is cleared.
 abbrev pub fresh_state : ConfigValue → SiteState
 fresh_state config = record { points = map (λ _. fresh_point) config.points; prices = config.prices; counters = config.counters; cleared = 0; clears = 0 }
@@ -28,7 +28,7 @@ fresh_state config = record { points = map (λ _. fresh_point) config.points; pr
 abbrev pub opened_state : OpeningValue → SiteState
 opened_state o = record { points = o.points; prices = o.prices; counters = o.counters; cleared = o.cleared; clears = o.clears }
 
--- The state in which a site starts: that of the opening, if there is one, or else `fresh_state`.
+-- The state in which a site starts: the opening's state if there is an opening, or else `fresh_state`.
 abbrev pub opening_state : ConfigValue → SiteState
 opening_state config = elim config.opening [ None ↦ fresh_state config | Some o ↦ opened_state o ]
 

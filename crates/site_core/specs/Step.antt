@@ -1,5 +1,5 @@
--- Definitions: what each event does at a site (this profile). In these definitions a history has its newest entry
--- first.
+-- Definitions: what each event does at a site (source: this project). In these definitions a history has its newest
+-- entry first.
 use Rattle.std.specs.Prelude.{◌≡◌, ℕ, ◌+◌, nat_lt, nat_le, if◌then◌else◌, List, length, Option, Some, None, unwrap_or, Result, Ok, Err}
 use Rattle.fuelling_point.specs.Table.{PointState, StepResult, command_step, event_step}
 use Rattle.fuelling_point.specs.States.{state_number}
@@ -95,7 +95,7 @@ effect config past s moment (act.Till till request) =
 effect config past s moment (act.Dispenser n event) = dispenser_effect s n event
 effect config past s moment (act.Load slot mask layout bytes) = replied (load_reply config slot past) s
 
--- The moment that the entry has: a till's request has its own, all other acts have 0.
+-- The moment in the entry of an act: the event's moment for a till's request, 0 for all other acts.
 abbrev pub entered_moment : Act → ℕ → ℕ
 entered_moment (act.Till till request) moment = moment
 entered_moment _ moment = 0

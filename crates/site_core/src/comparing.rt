@@ -88,15 +88,15 @@ fn is_same_counter(declared: u32, a: &Counters, b: &Counters, c: u32) -> bool
     a.get(c) == b.get(c) && a.bound(c) == b.bound(c)
 }
 
-/// Returns the number of the first declared counter whose value or bound differs in `a` and `b`; `None` if there is
-/// none. Bit c of the mask `declared` declares counter c.
+/// Returns the number of the first declared counter whose value or bound differs in `a` and `b`; `None` if no declared
+/// counter differs. Bit c of the mask `declared` declares counter c.
 pub fn first_counter(declared: u32, a: &Counters, b: &Counters) -> Option<u32>
     ensures { MatchOption result (Agrees declared b.now a.now) (CounterDiffers declared a.now b.now) }
 {
     if declared == 0 {
         return None;
     }
-    // These reads give the prover that both have 32 counters.
+    // These reads tell the prover that both have 32 counters.
     let _counters = (a.get(0), b.get(0));
     for c in 0..32 {
         if !is_same_counter(declared, a, b, c) {

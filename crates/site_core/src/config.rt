@@ -279,7 +279,7 @@ fn is_same_opening(a: &Option<Arc<Opening>>, b: &Option<Arc<Opening>>) -> bool
     }
 }
 
-// The contracts of `is_same_points` and `is_same_counters` give the prover that `==` decides whether two lists of pairs
+// The contracts of `is_same_points` and `is_same_counters` tell the prover that `==` decides whether two lists of pairs
 // are equal.
 fn is_same_points(a: &[(u32, u32)], b: &[(u32, u32)]) -> bool
     ensures { IsTrue result ↔ (a.now ≡ b.now) }

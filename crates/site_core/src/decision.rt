@@ -22,8 +22,8 @@ const PRODUCTS: u32 = 8;
 /// The greatest price of a litre, in thousandths of the currency.
 const GREATEST_PRICE: u64 = 9_999_999;
 
-/// Returns whether the point has room for the unpaid transaction that a release leads to: whether fewer than two are
-/// unpaid. True for other kinds of request.
+/// For a release, returns whether fewer than two transactions of the point are unpaid. For other kinds of request,
+/// returns true.
 fn has_room(kind: Kind, point: &Point) -> bool
     ensures { result ≡ has_room kind point.now }
 {
@@ -53,10 +53,10 @@ pub fn asked_at(point: &Point, question: Question) -> Result<Question, Reply>
     Ok(question)
 }
 
-/// Checks the `question` of a price change, and returns it as it is. `busy` is the state of the first point with a
-/// delivery authorised or under way, if there is one. The error is the reply that refuses the question before a program
-/// is run: S25 if the product isn't 1 to 8 or the price isn't 1 to 9,999,999 thousandths, else S22 if `busy` isn't
-/// `None`.
+/// Checks the `question` of a price change, and returns it as it is. `busy` is the state of the first point that has a
+/// delivery authorised or under way, or `None` if no point has one. The error is the reply that refuses the question
+/// before a program is run: S25 if the product isn't 1 to 8 or the price isn't 1 to 9,999,999 thousandths, else S22 if
+/// `busy` isn't `None`.
 pub fn price_at(busy: Option<State>, question: Question) -> Result<Question, Reply>
     ensures question { result ≡ price_at busy question }
     ensures fits { IfOk result (λ q. (1 ≤ q.product) × (q.product ≤ PRODUCTS) × (q.asked ≤ GREATEST_PRICE)) }

@@ -79,36 +79,36 @@ impl Model for Draft {
     }) };
 }
 
-impl Draft {
-    ghost use Rattle.site_core.specs.Asked.{Drafts, Compares, WouldRun, asked_question};
+impl Station {
+    ghost use Rattle.site_core.specs.Asked.{Drafts, WouldRun, asked_question};
     ghost use Rattle.site_core.specs.Outside.{drafted};
 
-    /// Makes the draft for a request in the current state, or returns `Direct` if no program would be run for it. The
+    /// Makes the draft for a request in this state, or returns `Direct` if no program would be run for it. The
     /// draft is put into the memory in `draft_memory`, or into new memory if `draft_memory` is `None`. Afterwards
     /// `draft_memory` is `None`, also after an error; only `Direct` leaves it unchanged. The error is that memory ran
     /// out, or that the program's `Arc` has too many owners.
-    pub(crate) fn begin(
+    pub(crate) fn draft(
+        &self,
         config: &Config,
-        station: &Station,
         slots: &Slots,
         till: u32,
         moment: u64,
         request: &Request,
         draft_memory: &mut Option<DraftMemory>,
     ) -> Result<Begin, AllocError>
-        requires { length station.now.points ≡ length config.now.points }
-        ensures made { IfOk result (λ b. Drafts config.now station.now slots.now till moment request.now (drafted b)) }
-        ensures none { asked_question config.now station.now till request.now ≡ None → IsOk result }
-        ensures memory { OnErr result (WouldRun config.now station.now slots.now till request.now) }
+        requires { length self.now.points ≡ length config.now.points }
+        ensures made { IfOk result (λ b. Drafts config.now self.now slots.now till moment request.now (drafted b)) }
+        ensures none { asked_question config.now self.now till request.now ≡ None → IsOk result }
+        ensures memory { OnErr result (WouldRun config.now self.now slots.now till request.now) }
     {
-        let Some(question) = asked_question(config, station, till, request) else {
+        let Some(question) = asked_question(config, self, till, request) else {
             return Ok(Begin::Direct);
         };
         let Some((version, program)) = slots.in_slot(question.slot) else {
             return Ok(Begin::Direct);
         };
-        let context = station.context(program.layout(), till, moment, &question);
-        match DraftMemory::made(draft_memory, program, context, station) {
+        let context = self.context(program.layout(), till, moment, &question);
+        match DraftMemory::made(draft_memory, program, context, self) {
             Ok(
                 DraftMemory {
                     program,
@@ -127,6 +127,10 @@ impl Draft {
             Err(refused) => Err(refused),
         }
     }
+}
+
+impl Draft {
+    ghost use Rattle.site_core.specs.Asked.{Compares};
 
     /// Runs the draft's program on the context, view and counters that the draft has. Returns the draft with the
     /// program's answer and the counters after the run. Allocates no memory.
@@ -144,9 +148,10 @@ impl Draft {
         }
     }
 
-    /// Compares what the draft's run depends on with what a run now would depend on: version, context, view and
-    /// declared counters. If nothing differs, returns the question of the draft's request: what is asked, and the slot
-    /// of the program that is asked. Else the error is the first difference.
+    /// Compares the site as it is now with the draft, in all that the draft's run depends on: the version, the context,
+    /// the view and the declared counters. If nothing differs, returns the question of the draft's request: what is
+    /// asked, and the slot of the program that is asked. Else the error is the first difference. The station must have
+    /// as many points as the configuration.
     fn compare(&self, config: &Config, station: &Station, slots: &Slots) -> Result<Question, Why>
         requires { length station.now.points ≡ length config.now.points }
         ensures { Compares config.now station.now slots.now self.now result }
@@ -323,8 +328,8 @@ impl Ready {
         }
     }
 
-    /// Carries out what the program answered, if all that the run depends on is now as in the draft, and returns the
-    /// decision's entry, with this number and pass. Counters that the program doesn't declare keep their current
+    /// Carries out the program's answer and returns the decision's entry, with this number and pass, if nothing that
+    /// the run depends on differs now from the draft. Counters that the program doesn't declare keep their current
     /// values. If the till asked to release fuel and an amount is preset at the point now, at most this amount is
     /// granted. The station must have as many points as the configuration, and the site's history must have room for
     /// the entry.

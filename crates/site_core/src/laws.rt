@@ -13,8 +13,8 @@ ghost use Rattle.site_core.specs.Audit.{OwnAudit};
 ghost use Rattle.site_core.specs.Days.{BoundsStay, ClosingChangesOnlyNumbers, EventEffectIsSameNextDay, HoldersStay};
 ghost use Rattle.site_core.specs.declared.why.Why.{Why};
 
-/// Does nothing. Its contract is a law: if nothing that a draft's run depends on differs at the site now, there is no
-/// first difference. So a commit returns `Stale` only if something differs.
+/// Does nothing. Its contract is a law: if nothing that a draft's run depends on differs at the site now, then no `Why`
+/// is the first difference. So a commit returns `Stale` only if something differs.
 pub fn fresh_differs_nowhere()
     ensures { (now : Basis) (draft : DraftValue) (why : Why) → IsFresh now draft → Differs now draft why → ⊥ }
 {}
@@ -37,9 +37,9 @@ pub fn audit_of_its_own_history()
 {}
 
 /// Does nothing. Its contract is a law: closing a day changes nothing but the numbers of entries. A list of entries is
-/// a legal history of the next day exactly if the closed day's history is still legal with these entries added, their
-/// numbers raised by the length of that history. Both lead to the same state. The law holds while both days together
-/// have at most 1,048,576 entries and fewer than 4,096 versions.
+/// a legal history of the next day exactly if it could have followed the closed day's own history, with numbers raised
+/// by that history's length. It leads to the same state either way. The law holds while both days together have at most
+/// 1,048,576 entries and fewer than 4,096 versions.
 pub fn closing_changes_only_numbers()
     ensures { ClosingChangesOnlyNumbers }
 {}
@@ -58,7 +58,7 @@ pub fn bounds_stay()
 {}
 
 /// Does nothing. Its contract is a law: if each unpaid transaction with which a site begins is held by nobody or by one
-/// of the site's tills, then so is each that the site leaves for the next day.
+/// of the site's tills, then so is each unpaid transaction that the site leaves for the next day.
 pub fn holders_stay()
     ensures { HoldersStay }
 {}

@@ -71,7 +71,7 @@ impl fmt::Display for OpeningFault {
 /// What a site keeps from one day to the next.
 #[derive(Drop)]
 pub struct Opening {
-    /// The points, in their order.
+    /// The points in the order of their numbers, point 1 first.
     pub points: Vec<Point>,
     /// The prices of products 1 to 8 in thousandths of the currency per litre, 0 for none.
     pub prices: [u32; 8],
@@ -134,12 +134,12 @@ impl Opening {
         if !have_own_numbers(&self.rules) {
             return Some(OpeningFault::DuplicateVersion);
         }
-        // This read gives the prover that there are 32 counters, each within its bound.
+        // This read tells the prover that there are 32 counters, each within its bound.
         let _counter = self.counters.get(0);
         None
     }
 
-    // Returns the prices. A call of this function gives the prover that there are eight of them.
+    // Returns the prices. A call of this function tells the prover that there are eight of them.
     pub(crate) fn prices(&self) -> [u32; 8]
         ensures { result ≡ self.now.prices }
     {
@@ -171,9 +171,9 @@ impl Opening {
     }
 }
 
-/// An opening has these numbers, which only grow: those of the newest transactions of `points`, the total in cents and
-/// the count of what was cleared, and the count of versions. Returns the fault of the first of them that is too great,
-/// in the order of `OpeningFault`, or `None` if none of them is too great. Allocates no memory.
+/// Checks whether these numbers are small enough for an opening, in this order: the number of each point's newest
+/// transaction, the total of cleared amounts in cents, the count of cleared transactions, and the count of versions.
+/// Returns the fault of the first number that is too great, or `None` if none is. Allocates no memory.
 pub(crate) fn first_limit_fault(
     points: &[Point],
     cleared: u64,
@@ -219,7 +219,7 @@ fn is_rule(versions: u32, rule: &Option<Version>) -> bool
     match rule {
         None => true,
         Some(version) => {
-            // This call gives the prover that the program is good.
+            // This call tells the prover that the program is good.
             let _bytes = version.program.bytes();
             version.number >= 1 && version.number <= versions
         }

@@ -176,8 +176,9 @@ pub fn asked_question(
     }
 }
 
-/// Returns the question that a request asks a program (see `Question`), even if the current state refuses it; `None` if
-/// there is no such till or point, or if the request is of a kind that no program decides.
+/// Returns the question that a request asks a program (see `Question`), without checking whether the current state
+/// refuses the question. Returns `None` if there is no such till or point, or if the request is of a kind that no
+/// program decides.
 pub fn routed(config: &Config, station: &Station, till: u32, request: &Request) -> Option<Question>
     ensures { result ≡ routed config.now station.now till request.now }
 {

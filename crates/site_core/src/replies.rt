@@ -1,4 +1,4 @@
-//! The refusals of a site, and the replies that it makes from what a point returns for a command or an event.
+//! The site's refusals, and its reply to a dispenser's event.
 
 ghost use Rattle.std.specs.Prelude.{◌≡◌};
 ghost use Rattle.site_core.specs.Decide.{wrong_state, no_program, denied};
@@ -70,8 +70,8 @@ pub fn event_reply(outcome: Result<Option<Order>, PointFault>) -> Reply
     }
 }
 
-/// Returns the refusal with which the site replies to a till's command or a dispenser's event that the point refused.
-/// `fault` is the point's reason.
+/// Returns the refusal S22, S26, S27, S28, S33 or S34 for `fault`, which is the reason why a point refused a till's
+/// command or a dispenser's event.
 pub fn fault_reply(fault: PointFault) -> Reply
     ensures { result ≡ fault_reply fault }
 {

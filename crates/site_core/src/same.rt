@@ -59,7 +59,7 @@ fn numbers_of(point: &Snapshot) -> (u32, u64, u64, u64, u64, u32, bool)
     )
 }
 
-// The contracts of `is_same_state` and `is_same_order` give the prover that `==` decides whether two states or two
+// The contracts of `is_same_state` and `is_same_order` tell the prover that `==` decides whether two states or two
 // orders are equal.
 fn is_same_state(a: State, b: State) -> bool
     ensures { IsTrue result ↔ (a ≡ b) }
@@ -97,7 +97,7 @@ fn is_same_place(a: Option<Transaction>, b: Option<Transaction>) -> bool
 pub fn are_same_counters(a: &Counters, b: &Counters) -> bool
     ensures { IsTrue result ↔ (a.now ≡ b.now) }
 {
-    // These reads give the prover that both have 32 counters.
+    // These reads tell the prover that both have 32 counters.
     let _counters = (a.get(0), b.get(0));
     for c in 0..32 {
         if a.get(c) != b.get(c) || a.bound(c) != b.bound(c) {

@@ -140,9 +140,9 @@ impl Station {
     }
 
     /// Carries out a till's command at point `n`, counted from 1. Returns `Done`, or the refusal: S20 if there is no
-    /// such point, else the point's own. A `Clear` adds its amount to the total of all cleared amounts, and 1 to the
-    /// number of cleared transactions. A refused command changes nothing. `till` must be at least 1; whether the site
-    /// has such a till isn't checked. The site's history must have room for the command's entry.
+    /// such point, else the point's own refusal. A `Clear` adds its amount to the total of all cleared amounts, and 1
+    /// to the number of cleared transactions. A refused command changes nothing. `till` must be at least 1; whether the
+    /// site has such a till isn't checked. The site's history must have room for the command's entry.
     pub fn command(&mut self, till: u32, n: u32, command: Command) -> Reply
         requires bounded { HasRoom self.old }
         requires till { 0 < till }
@@ -168,8 +168,8 @@ impl Station {
     }
 
     /// Carries out a dispenser's event at point `n`, counted from 1. Returns the pending order for `TakeOrder`, `Done`
-    /// for any other event, or the refusal: S20 if there is no such point, else the point's own. A refused event
-    /// changes nothing. The site's history must have room for the event's entry.
+    /// for any other event, or the refusal: S20 if there is no such point, else the point's own refusal. A refused
+    /// event changes nothing. The site's history must have room for the event's entry.
     pub fn report(&mut self, n: u32, event: DispenserEvent) -> Reply
         requires { HasRoom self.old }
         ensures effect { dispenser_effect self.old n event ≡ replied result self.new }
@@ -215,8 +215,12 @@ impl Station {
         self.points.get(n as usize - 1)
     }
 
-    /// Returns `question` as it is, if the current state doesn't refuse it. Otherwise the error is the refusal: an
-    /// error of `price_at` for a price change, or of `asked_at_point` for a release or a preset.
+    /// Returns `question` as it is, if the current state doesn't refuse it. Otherwise the error is the refusal:
+    /// - For a price change: S25 if the product isn't 1 to 8 or the price isn't 1 to 9,999,999 thousandths, else S22 if
+    ///   any point has a delivery authorised or under way.
+    /// - For a release or a preset: S20 if there is no such point, else S25 if the amount isn't 1 to 999,999,999 cents,
+    ///   else S22 if the point is neither `Idle` nor `Calling`, else S26 for a release at a point with two unpaid
+    ///   transactions.
     pub fn admitted(&self, question: Question) -> Result<Question, Reply>
         ensures question { result ≡ admitted self.now question }
         ensures asked { IfOk result (λ q. HasPointOrValidPrice self.now q) }
@@ -324,7 +328,7 @@ impl Station {
         }
     }
 
-    /// Returns the points, in their order.
+    /// Returns the points in the order of their numbers, point 1 first.
     pub fn points(&self) -> &[Point]
         ensures { result.now ≡ self.now.points }
     {
@@ -519,8 +523,8 @@ impl Station {
         granted
     }
 
-    /// Returns the numbers of the state and of the lifted nozzle (0 for none) of point `n`, counted from 1, and how
-    /// many of its transactions are unpaid. All three are 0 if there is no such point.
+    /// Returns three numbers of point `n`, counted from 1: the number of its state, its lifted nozzle (0 for none), and
+    /// how many of its transactions are unpaid. All three are 0 if there is no such point.
     fn point_fields(&self, n: u32) -> (u32, u32, u32)
         ensures state { result.0 ≡ field_or_zero (at_number self.now.points n) (λ p. state_number p.state) }
         ensures nozzle { result.1 ≡ field_or_zero (at_number self.now.points n) (λ p. p.nozzle) }

@@ -8,12 +8,11 @@ pub enum Why {
     /// The slot whose program decides the draft's request now has another version, whose number is given; `None` if the
     /// slot has no version, or if the site doesn't have the draft's till or point.
     Version(Option<u32>),
-    /// The context differs; the number is that of the first byte that differs: 0 to 63, or 0 to 79 in the second
-    /// layout.
+    /// The context differs: the number of the first byte that differs, 0 to 63, or 0 to 79 in the second layout.
     Context(u32),
-    /// What programs see of a point differs; the number is that of the first such point, counted from 1.
+    /// What programs see of a point differs: the number of the first such point, counted from 1.
     PointDiffers(u32),
-    /// A price differs; the number is that of the first such product, counted from 1.
+    /// The price of a product differs: the number of the first such product, counted from 1.
     PriceDiffers(u32),
     /// A counter that the program declares has another value or bound: the number of the first such counter, and its
     /// value now.

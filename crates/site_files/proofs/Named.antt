@@ -1,4 +1,5 @@
--- The day that a file's name stands for: the part before its first `.` spells it, and the part after is the ending.
+-- If the part of a file's name after its first `.` is the ending of a journal or an opening, then the name names the
+-- day that the part before this `.` spells, if it spells one. Any other name names no day.
 use Rattle.std.proofs.Common.{◌≡◌, ℕ, ◌+◌, List, [], length, true, false, None, ap, ◌∙◌, sym, arith, if◌then◌else◌}
 use Rattle.std.proofs.lemmas.List.{drop_all}
 use Rattle.std.specs.List.{before_first, after_first, position_or_len}

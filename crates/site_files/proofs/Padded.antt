@@ -1,4 +1,4 @@
--- A day's number in at least six digits, as `{day:06}` writes it.
+-- The format `{day:06}` writes a day's number as `six_digits` spells it: in at least six digits, with zeros in front.
 use Rattle.std.proofs.Common.{◌≡◌, ℕ, ◌-◌, ◌^◌, [], ◌++◌, length, false, decimal, replicate, ap, ◌∙◌, arith, append-nil}
 use Rattle.std.specs.Fmt.{padded_integral, format_spec, char_count}
 use Rattle.site_files.specs.Days.{six_digits}

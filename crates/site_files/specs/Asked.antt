@@ -1,5 +1,5 @@
 -- Definitions: whether an argument of a command line names standard input, and what messages call the file that an
--- argument names: "standard input", or the argument itself (this profile).
+-- argument names: "standard input", or the argument itself (source: this project).
 use Rattle.std.specs.Prelude.{ℕ, List, codes, Bool, false, ◌&&◌, ◌||◌, Option, Some, None, bytes_eq, if◌then◌else◌}
 
 -- whether an argument names standard input
@@ -11,7 +11,7 @@ abbrev pub may_be_input : Option (List ℕ) → Bool
 may_be_input None = false
 may_be_input (Some word) = is_input word
 
--- what messages call the file that an argument names: "standard input" if it is that, or else the argument itself
+-- what messages call the file that an argument names: "standard input" if the argument is `-`, or else the argument
 abbrev pub name_of : List ℕ → List ℕ
 name_of word = if is_input word then codes "standard input" else word
 

@@ -29,8 +29,9 @@ journal_code (flaw.Program slot refused) = Some (codes "F2")
 journal_code (flaw.Entry difference) = Some (codes "F3")
 journal_code flaw.NoEntry = Some (codes "F3")
 
--- The second argument, the system's error of the last failed read, if the fault is that a read failed. None for other
--- faults.
+-- `device_error fault failure`: `failure` is the system's error of the last failed read, if it is known. The result is
+-- `failure` if `fault` is `Device`: a read failed, or more reads were needed than are allowed. For any other fault the
+-- result is None.
 abbrev pub device_error : {T : Type 0} → JournalFault → Option T → Option T
 device_error (journal.BadEntry line) failure = None
 device_error journal.Cut failure = None

@@ -1,5 +1,5 @@
--- Definitions: the names of a day's files, the days that a folder has, and how a day begins (this profile). A file's
--- name begins with the day's number: six digits, such as `000002`, or more if the number needs more.
+-- Definitions: the names of a day's files, the days that a folder has, and how a day begins (source: this project). A
+-- file's name begins with the day's number: six digits, such as `000002`, or more if the number needs more.
 use Rattle.std.specs.Prelude.{◌≡◌, ℕ, ◌+◌, ◌-◌, ◌==◌, ◌||◌, List, [], ◌∷◌, ◌++◌, length, codes, decimal, replicate, min, max, nat_lt, Bool, Option, Some, None, bytes_eq, if◌then◌else◌}
 use Rattle.std.specs.List.{before_first, after_first}
 use Rattle.std.specs.Result.{result_ok}
@@ -49,12 +49,11 @@ is_dot byte = byte == 46
 unfoldable pub day_named : List ℕ → Option ℕ
 day_named name = if shows_day (after_first is_dot name) then day_of (before_first is_dot name) else None
 
--- The day with which a station goes on:
--- - `This` day 1 if its folder has no day
--- - or else `After` the newest day if a new day is asked for
--- - or else `This` the newest day
--- `This` means the given day. `After` means the day after the given day, if the given day has an entry, or else the
--- given day itself.
+-- The day with which a station goes on. `This n` means day n. `After n` means the day after day n if day n has an
+-- entry, or else day n. The result is:
+-- - `This 1` if the station's folder has no day
+-- - or else `After n` for the newest day n, if a new day is asked for
+-- - or else `This n` for the newest day n
 abbrev pub day_to_serve : Option Span → Bool → DayToServe
 day_to_serve None is_new = going.This 1
 day_to_serve (Some span) is_new = if is_new then going.After span.newest else going.This span.newest
@@ -68,7 +67,7 @@ abbrev pub with_found : Option Span → Option ℕ → Option Span
 with_found span None = span
 with_found span (Some day) = Some (with_day span day)
 
--- the first number plus 1, or None if the first number isn't below the second (the newest day)
+-- the day after `day`, or None if `day` isn't before the day `newest`
 abbrev pub day_after : ℕ → ℕ → Option ℕ
 day_after day newest = if nat_lt day newest then Some (day + 1) else None
 

@@ -1,4 +1,4 @@
--- Definitions: the exit statuses of jobs (this profile).
+-- Definitions: the exit statuses of jobs (source: this project).
 -- - 0: the job was done
 -- - 1: the input was refused
 -- - 2: the command line names no job that can be done

@@ -152,7 +152,8 @@ pub fn print_any_write_error(rt: &HostRuntime, failure: Option<&io::Error>) {
 }
 
 /// Prints that the file that the argument `word` names has over 65,536 bytes: a message with the fault's number (L1) on
-/// standard error, and the number on standard output too. Returns the exit status.
+/// standard error, and the number on standard output too. Returns the exit status: `REFUSED`, or `FAILED` if standard
+/// output can't be written.
 pub fn refuse_length(rt: &HostRuntime, word: &str) -> u8
     ensures { EndsWith 1 result }
 {
@@ -215,15 +216,18 @@ fn config_code(fault: ConfigFault) -> Option<&'static str>
 
 /// Prints why the configuration in the file that the argument `word` names is refused: a message with the fault's
 /// number (K1 to K3) on standard error, and the number on standard output too. If `flaw` is that memory ran out, prints
-/// only that, on standard error. Returns the exit status.
+/// only that, on standard error. Returns the exit status: `REFUSED`, or `FAILED` if memory ran out or standard output
+/// can't be written.
 pub(crate) fn refuse_config(rt: &HostRuntime, word: &str, flaw: &ConfigFlaw) -> u8
     ensures { EndsWith 1 result }
 {
     refuse_fault(rt, word, flaw, flaw.fault())
 }
 
-/// Prints why the configuration in the file that `word` names is refused, and returns the exit status, as
-/// `refuse_config` does. `fault` must be the fault of `flaw`.
+/// Prints why the configuration in the file that the argument `word` names is refused: a message with the fault's
+/// number (K1 to K3) on standard error, and the number on standard output too. `fault` must be the fault of `flaw`. If
+/// `fault` is that memory ran out, prints only that, on standard error. Returns the exit status: `REFUSED`, or `FAILED`
+/// if memory ran out or standard output can't be written.
 fn refuse_fault(rt: &HostRuntime, word: &str, flaw: &ConfigFlaw, fault: ConfigFault) -> u8
     ensures refused { fault ≢ ConfigFault.OutOfMemory → EndsWith 1 result }
     ensures memory { fault ≡ ConfigFault.OutOfMemory → result ≡ 3 }

@@ -101,8 +101,8 @@ pub fn newest_day(
     }
 }
 
-/// Prints on standard error that the day goes on with `kept`, the folder's configuration for it, if that differs from
-/// the one in `given`. Prints nothing if `kept` is `None`. The error is that memory ran out.
+/// Prints on standard error that day `day` goes on with `kept`, the folder's configuration for this day, if `kept`
+/// differs from the configuration in `given`. Prints nothing if `kept` is `None`. The error is that memory ran out.
 fn print_other_config(
     rt: &HostRuntime,
     folder: Folder<'_>,
@@ -124,11 +124,11 @@ fn print_other_config(
     Ok(())
 }
 
-/// The day with which a station goes on. The number is that of a day:
+/// The day with which a station goes on:
 ///
-/// - `This`: the station goes on with this day.
-/// - `After`: if this day has an entry, it is closed, and the station goes on with the day after it. If it has none,
-///   the station goes on with this day.
+/// - `This(n)`: day n
+/// - `After(n)`: the day after day n, once day n is closed. If day n has no entry, it isn't closed, and the station
+///   goes on with day n.
 #[derive(Clone, Copy)]
 enum DayToServe {
     This(u32),
@@ -262,8 +262,8 @@ pub fn refuse_link<D: Display>(rt: &HostRuntime, place: Place<'_>, day: u32, wor
     once_printed(rt, println!(rt; "O1 {day}"), REFUSED)
 }
 
-/// The message that an opening belongs to another day than the one it was read for. The field is that other day's
-/// number.
+/// The message that an opening belongs to another day than the one it was read for. The field is the number of the day
+/// that it belongs to.
 #[derive(Drop)]
 pub struct OfDay(pub u32);
 

@@ -97,9 +97,10 @@ fn opening_in(rt: &HostRuntime, word: &str) -> Result<OpeningFile, JobError>
 }
 
 /// Prints why `text`, the opening in the file that `word` names, is refused: a line is wrong or missing (J1), the last
-/// line has no LF (J2), or a program is refused (F2). On standard error: the line, the words and the fault's number. On
-/// standard output: the fault's number and the line's number. For a refused program, also the fault that the verifier
-/// found in it (V1 to V20). If `flaw` is that memory ran out, prints only that, on standard error.
+/// line has no LF (J2), or a program is refused (F2). Prints the file's name, the line's number, a message and the
+/// fault's number on standard error. Prints the fault's number and the line's number on standard output, and after
+/// them, for a refused program, the fault that the verifier found (V1 to V20). If `flaw` is that memory ran out, prints
+/// only that, on standard error.
 /// The result:
 ///
 /// - `AlreadyReported`, with the exit status: this was printed
@@ -118,7 +119,7 @@ pub fn refuse_opening(rt: &HostRuntime, word: &str, text: &[u8], flaw: OpeningFl
 }
 
 /// Returns the words and the number that are printed for this flaw of an opening. Both are empty if memory ran out. For
-/// a refused program, the words are empty: `explain_rule` prints others.
+/// a refused program only the words are empty: `explain_rule` prints why the program is refused.
 fn opening_words(text: &[u8], flaw: OpeningFlaw) -> (&'static str, &'static str)
     ensures { (result.0.now, result.1.now) ≡ opening_words text.now flaw }
 {
@@ -176,7 +177,8 @@ fn explain_rule(
     line: &[u8],
     refusal: Refusal,
 ) -> Result<(), AllocError> {
-    // The line was already read as a line of an opening, so `None` can only mean that memory ran out.
+    // `read_opening` has already found a slot and a program in this line of the opening (the checkpoint that a day
+    // begins with), before the verifier refused the program. So `None` can only mean that memory ran out.
     let Some((slot, program)) = rule_in(rt.alloc(), line) else {
         return Err(AllocError);
     };
@@ -224,8 +226,8 @@ fn opened(
     }
 }
 
-/// Prints why no site of a configuration can begin with an opening, or that memory ran out. `word` names the opening's
-/// file. The result has the exit status.
+/// Prints `unfit`: why a site with a given configuration can't begin with the opening in the file that `word` names, or
+/// that memory ran out. The result has the exit status.
 pub fn refuse_unfit(rt: &HostRuntime, word: &str, unfit: Unfit) -> JobError
     ensures { result ≡ JobError.AlreadyReported (unfit_status unfit) }
 {
@@ -269,8 +271,8 @@ fn is_out_of_memory(fault: OpeningFault) -> bool
     }
 }
 
-/// Prints `words` on standard error, which say what is wrong with the file that `word` names, without a fault's number.
-/// Prints nothing on standard output. The result has the exit status, which is `REFUSED`.
+/// Prints on standard error `words`, which say what is wrong with the file that `word` names. Prints no fault's number,
+/// and nothing on standard output. The result has the exit status, which is `REFUSED`.
 pub fn refuse_words<D: Display>(rt: &HostRuntime, word: &str, words: &D) -> JobError
     ensures { result ≡ JobError.AlreadyReported 1 }
 {

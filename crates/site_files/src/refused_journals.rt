@@ -51,8 +51,8 @@ fn print_journal_read_error(
     }
 }
 
-/// Returns `failure`, the system's error of the last failed read, if `fault` is that a read failed. Returns `None` for
-/// other faults.
+/// Returns `failure`, the system's error of the last failed read, if `fault` is `Device`: a read failed, or more reads
+/// were needed than are allowed. Returns `None` for any other fault.
 fn device_error(fault: JournalFault, failure: Option<&io::Error>) -> Option<&io::Error>
     ensures { result ≡ device_error fault failure.entry }
 {
@@ -101,9 +101,10 @@ pub fn report_journal_fault(
     }
 }
 
-/// Prints on standard output the line for a fault of an audit. It begins with the fault's number and the place of the
-/// entry that has the fault: `F3 5` means that the site makes another entry than entry 5, or none. The result has the
-/// exit status. If the fault is that memory ran out, or if memory runs out here, prints nothing, and returns `Failed`.
+/// Prints on standard output the line for a fault of an audit. The line begins with the fault's number and the place of
+/// the wrong entry, counted from 1. So `F3 5` means that for the event of entry 5 the site makes a different entry, or
+/// none. The result has the exit status. If the fault is that memory ran out, or if memory runs out here, prints
+/// nothing, and returns `Failed`.
 pub fn refused(rt: &HostRuntime, fault: AuditFault) -> JobError
     ensures reported { IsReportedOrFailed 1 result }
     ensures memory { fault ≡ AuditFault.OutOfMemory → IsFailed result }

@@ -47,9 +47,12 @@ impl<'a> SiteFiles<'a> {
     }
 }
 
-/// Reads the configuration of a site, and then its opening, if it has one. If one of them can't be read or is refused,
-/// or if both are standard input, prints why; the error `AlreadyReported` has the exit status. The error `Failed` means
-/// that memory ran out, which isn't printed yet.
+/// Reads the configuration of a site, and then the site's opening, if `site` names one.
+/// Errors:
+///
+/// - `AlreadyReported`, with the exit status: a file can't be read or is refused, memory ran out while the settings
+///   were read, or both files are standard input. This is printed.
+/// - `Failed`: memory ran out, which isn't printed yet
 pub fn day_of(rt: &HostRuntime, site: SiteFiles<'_>) -> Result<Day, JobError>
     ensures twice { IsTrue (is_input site.entry.config.now && may_be_input (option_map (λ w. w.now) site.entry.opening))
         → result ≡ Err (JobError.AlreadyReported 2) }
@@ -101,8 +104,8 @@ fn refuse_twice(rt: &HostRuntime) -> JobError
     JobError::AlreadyReported(USAGE)
 }
 
-/// Reads the settings in `text`, the text of a configuration. If the text is refused, prints why; the error has the
-/// exit status. `word` names the configuration's file.
+/// Reads the settings in `text`, the text of a configuration. If the text is refused, or memory runs out, prints why;
+/// the error has the exit status. `word` names the configuration's file.
 pub fn settings_in(rt: &HostRuntime, word: &str, text: &[u8]) -> Result<Settings, JobError>
     ensures read { IfOk result (λ settings. config_of text.now ≡ Ok (settings_view settings)) }
     ensures refused { IfErr result (IsReported 1) }
@@ -113,7 +116,7 @@ pub fn settings_in(rt: &HostRuntime, word: &str, text: &[u8]) -> Result<Settings
     }
 }
 
-/// Reads the site's configuration, and its opening, if it has one. Then opens the file that `other` names.
+/// Reads the site's configuration, and its opening, if `site` names one. Then opens the file that `other` names.
 /// Errors:
 ///
 /// - `AlreadyReported`, with the exit status: a file can't be used or is refused, or two of them are standard input.

@@ -1,5 +1,5 @@
--- The checks that a close makes imply what is claimed of its result: `ClosesSince` if they find no reason against it,
--- or `RefusesSince` for the reason that they find.
+-- If the checks that are made when a forecourt is to be closed find no reason against it, then `ClosesSince` holds. If
+-- they find a reason, then `RefusesSince` holds for this reason.
 use Rattle.std.proofs.Common.{◌≡◌, ℕ, List, [], ◌++◌, length, Bool, true, false, IsTrue, ◌↔◌, Option, sym, ap, ◌∙◌, subst}
 use Rattle.std.specs.Prelude.{sum_by, IfNone, IfSome, None, Some}
 use Rattle.decision_journal.specs.declared.entries.Entry.{Entry}

@@ -1,10 +1,10 @@
--- How a gate's count of calls rises over the attempts at a request, and when `IfOk` and `IfErr` hold for a result.
+-- The rises of a gate's count of calls over several attempts at a request add up. `IfOk r P` holds if P holds for every
+-- value. `IfErr r P` implies `IfErr r Q` if P implies Q for every error.
 use Rattle.std.proofs.Common.{ℕ, ◌+◌, Result, Ok, Err, IfOk, IfErr, arith}
 use Rattle.till_request.proofs.Counts.{rose_more}
 use Rattle.site_lock.specs.Calls.{RoseWithin}
 
--- if a count rose by at least a and at most b, and then by at least c and at most d, then it rose by at least a + c and
--- at most b + d in all
+-- if a count rises twice, then the bounds of the two rises add up
 pub rose_both : (a b c d x y z : ℕ) → RoseWithin a b x y → RoseWithin c d y z → RoseWithin (a + c) (b + d) x z
 rose_both a b c d x y z h k = (h.0 + k.0, omega (arith, h.1, k.1), omega (arith, h.2, k.2), rose_more h.3 k.3)
 

@@ -11,8 +11,9 @@ use Rattle.site_lock.specs.Passes.{PassView, Opened}
 use Rattle.site_lock.specs.LockedSites.{LockedSiteValue, IsWhole, MatchesJournal}
 use Rattle.site_lock.specs.Merge.{AreAll, IsFault, IsFaultSince, IsMerge, IsMergeSince}
 
--- These are all passes of the forecourt, each once. The site has the forecourt's configuration. Its history is legal,
--- is the merge of the passes' receipts, and has as many entries as the passes count answered calls.
+-- The forecourt `f` is closed with these passes, and leaves this site. The passes are all passes of the forecourt, each
+-- once. The site has the forecourt's configuration. The site's history is legal, and is the merge of the passes'
+-- receipts. Each pass counts its answered calls; the history has one entry for each of them.
 pub record Closes (f : Opened) (passes : List PassView) (s : SiteValue) : Type 0 where
   pub all : AreAll f.passes passes
   pub config : s.config ≡ f.config
@@ -20,9 +21,9 @@ pub record Closes (f : Opened) (passes : List PassView) (s : SiteValue) : Type 0
   pub calls : length s.history ≡ sum_by (λ (p : PassView). p.amount) passes
   pub merge : IsMerge s.history passes
 
--- These are all passes of the forecourt, each once. The site has the forecourt's configuration, and a legal history:
--- the history at the start, followed by the merge of the passes' receipts. This merge has as many entries as the passes
--- count answered calls, and the journal took exactly the text of these entries.
+-- Like `Closes`, for a forecourt that began with a history. The site's history is the one at the start, followed by the
+-- merge of the passes' receipts. This merge has one entry for each answered call that a pass counts, and the journal
+-- took exactly the text of these entries.
 pub record ClosesSince (f : Opened) (passes : List PassView) (s : SiteValue) (written : Option (List ℕ)) : Type 0 where
   pub all : AreAll f.passes passes
   pub config : s.config ≡ f.config
@@ -58,17 +59,18 @@ abbrev pub IsWrong : Bool → ℕ → List Entry → List PassView → ℕ → �
 IsWrong false base history passes id number = IsFaultSince base history passes id number
 IsWrong true base history passes id number = IsLast history id number
 
--- Why a forecourt can't be closed although all its passes are given. The reason is C2 (a wrong receipt, or an entry
--- without a receipt) with a pass and a number, as `IsWrong` says.
+-- Why a forecourt can't be closed although all its passes are given. The reason is always C2 (a wrong receipt, or an
+-- entry without a receipt). `IsWrong` says which pass and which number are named with C2.
 abbrev pub PreventsClose : ℕ → LockedSiteValue → List PassView → CloseRefusal → Type 0
 PreventsClose base v passes PassMissing = ⊥
 PreventsClose base v passes (NotInHistory id number) = IsWrong v.journal_failed base v.site.history passes id number
 PreventsClose base v passes OtherConfig = ⊥
 
--- Why a close was refused.
--- - C1: these aren't all passes of the forecourt, each once.
--- - C2 (a wrong receipt, or an entry without a receipt): these are all passes of the forecourt, each once. Together
---   they count as many calls as were answered. `IsWrong` holds for the pass and the number.
+-- Why a close with `passes` was refused:
+-- - C1: they aren't all passes of the forecourt, each once.
+-- - C2 (a wrong receipt, or an entry without a receipt): they are all passes of the forecourt, each once, and together
+--   they count as many calls as were answered. The pass and the number are those of the last entry if the journal
+--   failed, or else those of a pass's first wrong receipt or of an entry without a receipt (`IsWrong`).
 -- The reason is never C3 (another configuration).
 abbrev pub RefusesSince : HaltedValue → List PassView → CloseRefusal → Type 0
 RefusesSince h passes PassMissing = ¬ AreAll h.opened.passes passes
@@ -87,8 +89,9 @@ Refuses h passes (NotInHistory id number) =
     × IsFault h.locked_site.site.history passes id number
 Refuses h passes OtherConfig = ⊥
 
--- a forecourt with this site and journal under its lock can be closed with these passes, if they are all its passes,
--- each once
+-- The site has this configuration, and a legal history: `base`, followed by as many entries as calls were answered. The
+-- receipts of these passes agree with these later entries, each of which has a receipt. The journal took exactly the
+-- text of these later entries. So the forecourt can be closed if these are all its passes, each once.
 pub record IsClosable (base : List Entry) (taken : Option (List ℕ)) (v : LockedSiteValue) (config : ConfigValue) (passes : List PassView) : Type 0 where
   pub config_is : v.site.config ≡ config
   pub legal : Upholds v.site

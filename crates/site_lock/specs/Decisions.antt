@@ -1,4 +1,4 @@
--- Definitions: which of a gate's runs decided an answer (this profile).
+-- Definitions: which of a gate's runs decided an answer (source: this project).
 use Rattle.std.specs.Prelude.{◌≡◌, ℕ, true, false, List, [], ◌∷◌}
 use Rattle.std.specs.List.{AllByRecursion}
 use Rattle.till_request.specs.declared.act.Request.{Request}
@@ -29,9 +29,10 @@ pub record IsAnswerOf (config : ConfigValue) (pass : ℕ) (run : ReadyValue) (a 
   pub committed : Commits site pass run (Done a) after
 
 -- What these runs say about the answer:
--- - If there was no run, the answer isn't a program's.
--- - If there was one run, and the answer is a program's, it is that of the run.
--- - If there were two runs, nothing is claimed of the answer.
+-- - No run: the answer isn't a program's.
+-- - One run: if the answer is a program's, it is the answer that the commit of this run gives at some site of this
+--   configuration (`IsAnswerOf`).
+-- - Two runs: nothing is claimed of the answer.
 -- There are never more than two runs.
 abbrev pub DecidedAfter : ConfigValue → ℕ → List ReadyValue → Answered → Type 0
 DecidedAfter config pass [] a = is_decided a.reply ≡ false
@@ -39,8 +40,8 @@ DecidedAfter config pass (run ∷ []) a = is_decided a.reply ≡ true → IsAnsw
 DecidedAfter config pass (first ∷ second ∷ []) a = Unit {0}
 DecidedAfter config pass (first ∷ second ∷ third ∷ runs) a = ⊥
 
--- The gate made runs only for this till's request at this moment, and the answer follows from them, as `DecidedAfter`
--- says.
+-- The gate made at most two runs, all of them for this till's request at this moment. If it made none, the answer isn't
+-- a program's. If it made one, and the answer is a program's, the answer is that of the run (`IsAnswerOf`).
 pub record DecidedBy {G : Type 0} (makes : G → ReadyValue → G → Type 0) (config : ConfigValue) (pass till moment : ℕ) (request : Request) (before now : G)
     (a : Answered) : Type 0 where
   pub runs : List ReadyValue

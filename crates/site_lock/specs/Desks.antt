@@ -1,4 +1,4 @@
--- Definitions: the answers of a desk over a forecourt and a pass (this profile).
+-- Definitions: the answers of a desk over a forecourt and a pass (source: this project).
 use Rattle.std.specs.Prelude.{◌≡◌, ℕ, ◌≤◌, length, true, Option, Some, None, Result, Ok, Err}
 use Rattle.reg_types.specs.declared.refusal.Refusal.{Refusal}
 use Rattle.reg_types.specs.Refusals.{refusal_numbers}
@@ -52,8 +52,7 @@ DeskAnswers config may_fail before now act moment (Line fault) = ⊥
 DeskAnswers config may_fail before now act moment (Program number unit part) = DeskRefuses before now act number unit part
 DeskAnswers config may_fail before now act moment JournalFailed = (now ≡ before) × may_fail
 
--- the answer to a till's request can be that a program granted it, or that a program denied it (S24), only if the gate
--- was called once or twice
+-- if a till's request was entered, and a program granted it or denied it (S24), then the gate was called once or twice
 abbrev pub CallsGate : ℕ → ℕ → Answer → Act → Type 0
 CallsGate before now (Entered number reply) (Till till request) = is_decided reply ≡ true → RoseWithin 1 2 before now
 CallsGate before now (Entered number reply) (Dispenser point event) = Unit {0}
@@ -64,7 +63,9 @@ CallsGate before now (Line fault) act = Unit {0}
 CallsGate before now (Program number unit part) act = Unit {0}
 CallsGate before now JournalFailed act = Unit {0}
 
--- if a till's request was entered, the answer follows from the runs that the gate made, as `DecidedBy` says
+-- If a till's request was entered, then the gate made at most two runs, all of them for this request at this moment. If
+-- it made none, the answer isn't a program's. If it made one, and the answer is a program's, the answer is that of the
+-- run (`DecidedBy`).
 abbrev pub DeskDecides : {G : Type 0} → (G → ReadyValue → G → Type 0) → ConfigValue → ℕ → ℕ → G → G → Answer → Act → Type 0
 DeskDecides makes config pass moment before now (Entered number reply) (Till till request) =
     DecidedBy makes config pass till moment request before now (record { number = number; reply = reply })

@@ -57,8 +57,8 @@ abbrev pub IsMergeSince : ℕ → List Entry → List PassView → Type 0
 IsMergeSince base history passes = All (λ p. AgreesFrom history p.id base p.receipts) passes × All (Covered passes) (drop base history)
 
 -- `IsFault` for a history whose first `base` entries are older than the passes. Either the first wrong receipt of this
--- pass has this number; the first receipt is also wrong if its number isn't above `base`. Or an entry after the first
--- `base` ones has this number and is one of this pass, and the pass has no receipt of it.
+-- pass has this number, where the pass's first receipt is also wrong if its number isn't above `base`. Or an entry
+-- after the first `base` ones has this number and is one of this pass, and the pass has no receipt of it.
 abbrev pub IsFaultSince : ℕ → List Entry → List PassView → ℕ → ℕ → Type 0
 IsFaultSince base history passes id n =
     Any (λ p. (p.id ≡ id) × FailsFrom history p.id base p.receipts n) passes

@@ -1,4 +1,4 @@
--- Definitions: the words for why a forecourt wasn't closed (this profile).
+-- Definitions: the words for why a forecourt wasn't closed (source: this project).
 use Rattle.std.specs.Prelude.{ℕ, List, ◌++◌, codes}
 use Rattle.std.specs.Fmt.{decimal}
 use Rattle.site_lock.specs.declared.close.CloseRefusal.{CloseRefusal}

@@ -16,8 +16,8 @@ fn matches(id: u32, receipt: &Receipt, entry: &Entry) -> bool
     entry.act == receipt.act && entry.reply == receipt.reply
 }
 
-// Returns whether a receipt of the pass `id` agrees with the entry whose number the receipt has. The result is false if
-// there is no such entry.
+// Let n be the receipt's number. Returns whether the history has an n-th entry, counted from 1, and this entry has the
+// number n, the pass `id`, and the receipt's moment, act and reply.
 fn agrees_with_entry(history: &[Entry], id: u32, receipt: &Receipt) -> bool
     ensures { IsTrue result ↔ IsEntryOf history.now id receipt.now }
 {
@@ -68,8 +68,8 @@ fn has_number(receipts: &[Receipt], number: u32) -> bool
     receipts.iter().any(|receipt| receipt.number == number)
 }
 
-// Returns whether one of the receipts has this number, as `has_number` does, but faster. The numbers of the receipts
-// should rise: if they don't, it can wrongly return false.
+// Returns whether a binary search finds a receipt with this number. If the numbers of the receipts don't rise, the
+// result can be false although one of the receipts has this number.
 fn has_rising_number(receipts: &[Receipt], number: u32) -> bool
     ensures { IsTrue result → HasNumber receipts.now number }
 {
@@ -96,8 +96,9 @@ fn is_covered<L: SiteLedger>(passes: &[Pass<L>], entry: &Entry) -> bool
     false
 }
 
-// Returns whether one of the passes is that of the entry and has a receipt with the entry's number, as `is_covered`
-// does, but faster. The numbers of each pass's receipts should rise: if they don't, it can wrongly return false.
+// Returns whether the entry's pass is one of `passes`, and a binary search finds a receipt of this pass with the
+// entry's number. If the numbers of the pass's receipts don't rise, the result can be false although one of these
+// receipts has the entry's number.
 fn is_covered_fast<L: SiteLedger>(passes: &[Pass<L>], entry: &Entry) -> bool
     ensures { IsTrue result → Covered passes.now entry.now }
 {
@@ -162,10 +163,10 @@ pub fn fault<L: SiteLedger>(history: &[Entry], passes: &[Pass<L>]) -> Option<(u3
     fault_since(0, history, passes)
 }
 
-/// Compares a history, whose first `base` entries are older than the passes, with the receipts of the passes. Returns
-/// `None` if they agree, or else the number of a pass and the number of an entry, as `fault` does, with two
-/// differences: a receipt is also wrong if its number isn't above `base`, and only the entries after the first `base`
-/// ones need a receipt. `base` must be at most the number of all entries.
+/// Compares a history with the receipts of the passes, as `fault` does, but takes the first `base` entries to be older
+/// than the passes. So a receipt is also wrong if its number isn't above `base`, and only the entries after the first
+/// `base` ones need a receipt. Returns `None` if the history and the receipts agree, or else the number of a pass and
+/// the number of an entry, as `fault` does. `base` must be at most the number of all entries.
 pub fn fault_since<L: SiteLedger>(
     base: u32,
     history: &[Entry],

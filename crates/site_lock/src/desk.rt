@@ -23,8 +23,11 @@ use till_request::{Act, Answer};
 
 /// A desk that calls a forecourt with one pass and one gate. A load's program is verified before the lock is taken. If
 /// the verifier refuses the program, the answer names the refusal, such as V11 (a register isn't a number, or isn't
-/// set), and no event reaches the forecourt. Once the journal has failed, each event is answered with `JournalFailed`,
-/// unless memory runs out before the lock is taken. No line is written for `JournalFailed`, and the session ends.
+/// set), and no event reaches the forecourt.
+///
+/// Once the journal has failed, each event that reaches the forecourt is answered with `JournalFailed`, or with
+/// `OutOfMemory` if memory runs out before the lock is taken. No line is written for `JournalFailed`, and the session
+/// ends.
 #[derive(Drop)]
 pub struct PassDesk<'a, L: SiteLedger, R: Wait, G: Gate + Drop, J: Journal = NoJournal> {
     rt: &'a R,
@@ -76,7 +79,7 @@ impl<L: SiteLedger, R: Wait, G: Gate + Drop, J: Journal> Desk for PassDesk<'_, L
     fn answer(&mut self, act: Act, moment: u64) -> Answer {
         let (rt, alloc, forecourt) = (self.rt, self.alloc, self.forecourt);
         let (pass, gate) = (&mut self.pass, &mut self.gate);
-        // This call gives the prover that the forecourt's configuration is `L.config`.
+        // This call tells the prover that the forecourt's configuration is `L.config`.
         let _ = forecourt.config();
         match &act {
             Act::Till { till, request } => answer_of(forecourt.ask(

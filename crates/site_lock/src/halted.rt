@@ -52,7 +52,7 @@ impl<L: SiteLedger, J: Journal> Halted<L, J> {
         ensures some { IfSome result (λ why. RefusesSince self.old passes.old.items why) }
         ensures halted { IsHalted J.may_fail self.new }
     {
-        // This call gives the prover that `IsHalted` holds.
+        // This call tells the prover what is known of a forecourt that couldn't be closed (`IsHalted`).
         let _ = self.history();
         if !are_all(self.passes, passes.as_slice()) {
             return Some(CloseRefusal::PassMissing);
@@ -74,7 +74,7 @@ impl<L: SiteLedger, J: Journal> Halted<L, J> {
         ensures same { result.now ≡ self.now.locked_site.site.history }
         ensures matches_journal { IsHalted J.may_fail self.now }
     {
-        // Reading a field gives the prover that the forecourt's configuration is `L.config`.
+        // Reading a field tells the prover that the forecourt's configuration is `L.config`.
         let _ = &self.config;
         self.locked_site.history()
     }
@@ -106,7 +106,7 @@ impl<L: SiteLedger, J: Journal> Halted<L, J> {
         ensures written { J.written result ≡ self.locked_site.written }
         ensures matches_journal { IsHalted J.may_fail self }
     {
-        // Reading a field gives the prover that the forecourt's configuration is `L.config`.
+        // Reading a field tells the prover that the forecourt's configuration is `L.config`.
         let _ = &self.config;
         let (_, journal) = self.locked_site.into_parts();
         journal

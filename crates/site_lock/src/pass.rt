@@ -71,7 +71,8 @@ impl<L: SiteLedger> Model for Pass<L> {
 impl<L: SiteLedger> Pass<L> {
     ghost use Rattle.site_lock.specs.Passes.{new_pass};
 
-    /// Makes the pass with number `id`, without receipts. `share` must have one part, and count no call.
+    /// Makes the pass with number `id`, without receipts. `share` is the pass's share of the ledger of answered calls.
+    /// It must have one part of the ledger, and count no call.
     pub(super) fn new(alloc: Global, id: u32, share: Share<L>) -> Pass<L>
         requires { (share.parts ≡ 1) × (share.amount ≡ 0) }
         ensures { result ≡ new_pass id }
@@ -107,7 +108,8 @@ impl<L: SiteLedger> Pass<L> {
         self.receipts.as_slice()
     }
 
-    /// Returns an empty share of the same ledger: it has no part, and counts no call.
+    /// Returns an empty share of the ledger that counts the answered calls of all passes. The share has none of the
+    /// ledger's parts, and counts no call. The pass keeps its own share.
     pub(super) fn lend_none(&mut self) -> Share<L>
         ensures parts { result.parts ≡ 0 }
         ensures amount { result.amount ≡ 0 }

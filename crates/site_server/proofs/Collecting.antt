@@ -96,9 +96,9 @@ module _ (may_fail : Type 0) (workers : List Worker) (connections : ℕ) (from :
       (subst (λ (z : Option (PassView × Worker)). RunsWorker own may_fail connections z (d y)) first.2 (manned 0 x (omega arith)))
       (all_back w d (b + 1) xs ys (omega arith) (λ k n e num lt. waiting (suc k) n e (omega arith) (omega arith)) (λ k e lt. manned (suc k) e (omega arith)))
 
-  -- Let `xs` be `tasks`, which wait to be run, and `ys` the same tasks, in the same order, after they have run. `w`
-  -- reads the pass and the worker that a task holds, and `d` reads its result. Then each task in `ys` has the result of
-  -- its worker, and there are as many tasks in `ys` as workers.
+  -- When the tasks of all workers have run, each has the result of its worker, and there are as many tasks as workers.
+  -- `tasks` and `xs` are the tasks before, and `ys` the same tasks afterwards, in the same order. `w` reads the pass
+  -- and the worker that a task holds, and `d` its result.
   pub all_done : {P : Type 0} (w : P → Option (PassView × Worker)) (d : P → Option (PassView × ℕ)) (tasks xs ys : List P)
       → tasks ≡ xs → length ys ≡ length xs → AreWaiting workers (map w tasks)
       → ((k : ℕ) (e : P) → k < length xs → RunsWorker own may_fail connections (w (slice_index_or xs k e)) (d (slice_index_or ys k e)))
@@ -137,8 +137,8 @@ module _ (may_fail : Type 0) (workers : List Worker) (connections : ℕ) (from :
   handed_length b (None ∷ tasks) h = absurd h
   handed_length b (Some r ∷ tasks) h = (let more = handed_length (b + 1) tasks h.1 in omega arith)
 
-  -- If each task has the result of its worker, then `HaveWorked` holds for the passes that are collected from the tasks
-  -- into an empty list, and for the number of connections that is collected from them.
+  -- If each task has the result of its worker, then `HaveWorked` holds for what is collected from the tasks: the
+  -- passes, moved into an empty list, and the number of connections that ended without a SessionFault.
   pub have_worked : (tasks : List (Option (PassView × ℕ))) (room passes : List PassView) (clean : ℕ) → AllBack 0 tasks → room ≡ []
       → passes ≡ room ++ collected tasks → clean ≡ clean_in tasks → HaveWorked plan passes clean
   have_worked tasks room passes clean back none are counted = record {
@@ -174,7 +174,8 @@ waits_at k e p (q ∷ ps) [] is lt = absurd (omega arith)
 waits_at zero e p (q ∷ ps) (worker ∷ workers) is lt = (worker, refl, ap (λ (o : Option PassView). option_map (λ (x : PassView). (x, worker)) o) is)
 waits_at (suc k) e p (q ∷ ps) (worker ∷ workers) is lt = waits_at k e p ps workers is (omega arith)
 
--- `tasks` are made of the new passes `ps` and of `workers`: each holds a pass, and the worker at the same place.
+-- Let `tasks` be made of the new passes `ps` and of `workers`: each holds a pass, and the worker at the same place.
+-- Then `AreWaiting` holds for them, and there are as many tasks as workers.
 module _ {P : Type 0} (w : P → Option (PassView × Worker)) (tasks : List P) (ps : List PassView) (workers : List Worker)
     (are : map w tasks ≡ map here (zip ps workers)) (new : AreNew (length workers) ps) where
   pub are_waiting : AreWaiting workers (map w tasks)

@@ -1,5 +1,5 @@
--- If a worker serves connections (`Serves`) with a clock and a desk, then `Serves` also holds with two values in place
--- of these: the moment that the clock gave last, and the desk's pass.
+-- If `Serves` holds for a worker with a clock and a desk, then it also holds with the moment that the clock gave last
+-- in place of the clock, and with the desk's pass in place of the desk.
 use Rattle.std.proofs.Common.{◌≡◌, ℕ, List, Option, Result}
 use Rattle.till_request.specs.declared.act.Act.{Act}
 use Rattle.till_request.specs.declared.act.Role.{Role}

@@ -1,4 +1,5 @@
--- Promises: what the workers' tasks hold, before the workers serve and after that.
+-- Promises: the data in the workers' tasks. Before a task has run, it has a worker and the worker's pass. After that,
+-- it has the pass, and the number of connections that ended without a SessionFault.
 use Rattle.std.specs.Prelude.{◌≡◌, ℕ, ◌+◌, ◌<◌, List, [], ◌∷◌, length, slice_get, slice_index_or, Option, Some, None}
 use Rattle.site_core.specs.Limits.{ConfigValue}
 use Rattle.site_lock.specs.Passes.{PassView, new_pass}

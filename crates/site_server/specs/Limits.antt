@@ -1,5 +1,5 @@
--- Definitions: how many lines an operator gets in a second (this profile). At most ten lines are printed. The others
--- are counted, and their number is printed with the first line of a later second.
+-- Definitions: how many lines an operator gets in a second (source: this project). At most ten lines are printed. The
+-- others are counted, and their number is printed with the first line of a later second.
 use Rattle.std.specs.Prelude.{ℕ, ◌+◌, ◌==◌, nat_lt, min, if◌then◌else◌, Option, Some, None}
 
 -- The last second in which a line was let through, how many lines were let through in it, and how many were held back

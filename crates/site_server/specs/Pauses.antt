@@ -1,5 +1,5 @@
 -- Definitions: how long a worker waits after a connection couldn't be opened, and which failure of a session is
--- reported to an operator (this profile).
+-- reported to an operator (source: this project).
 use Rattle.std.specs.Prelude.{ℕ, ◌*◌, zero, suc, nat_le, if◌then◌else◌, Option, Some, Result, Ok, Err}
 use Rattle.std.specs.Option.{option_map}
 use Rattle.line_session.specs.declared.answering.Ended.{Ended}

@@ -1,4 +1,5 @@
--- Definitions: the plan by which a site is served (this profile). It says what the site starts with, and who serves it.
+-- Definitions: the plan by which a site is served (source: this project). It says what the site starts with, and who
+-- serves it.
 use Rattle.std.specs.Prelude.{ℕ, List, Option, length}
 use Rattle.till_request.specs.declared.act.Role.{Role}
 use Rattle.site_lock.specs.Passes.{Opened}

@@ -1,4 +1,5 @@
--- Definitions: what a worker does, described by its pass and the moment that its clock gave last (this profile).
+-- Definitions: what a worker does, described by its pass and the moment that its clock gave last (source: this
+-- project).
 use Rattle.std.specs.Prelude.{◌≡◌, ◌⊎◌, ℕ, List, [], ◌∷◌, length, Some, None, Err}
 use Rattle.std.specs.List.{AllByRecursion}
 use Rattle.till_request.specs.Line.{IsLine}

@@ -1,4 +1,4 @@
--- Definitions: the words for why a session ended with a fault (this profile).
+-- Definitions: the words for why a session ended with a fault (source: this project).
 use Rattle.std.specs.Prelude.{ℕ, List, codes}
 use Rattle.till_request.specs.declared.act.LineFault.TheVariants.{TooLong, BadLine, BadNumber, CutLine, OutOfMemory}
 use Rattle.line_session.specs.Words.{session_fault_text}

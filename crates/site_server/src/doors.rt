@@ -116,8 +116,9 @@ impl<'a, R: Clock, N: Notices> SocketDoors<'a, R, N> {
         Ok((input, output))
     }
 
-    /// Waits after a connection couldn't be opened, for as long as `longer` returns. Before that, reports `error` to an
-    /// operator, unless the previous attempt failed too.
+    /// Waits after a connection couldn't be opened: 10 milliseconds after the first of several failures in a row, then
+    /// twice as long each time, and at most 1 second. Before that, reports `error` to an operator, unless the previous
+    /// attempt failed too.
     fn wait_after_failure(&mut self, error: &io::Error)
         ensures asked { self.new.asked ≡ self.old.asked }
         ensures pause { self.new.pause ≡ longer_pause self.old.pause }

@@ -37,9 +37,10 @@ impl Limiter {
         }
     }
 
-    /// Lets a line through if it is among the first ten of the lines that come one after another with the same
-    /// `second`. A line with another `second` than the line before it is again the first. Returns how many lines were
-    /// held back since the last one that was let through, at most 2^64 - 1, or `None` if this line is held back.
+    /// Of the lines that come one after another with the same `second`, lets the first ten through, and holds the
+    /// others back. A line with another `second` than the line before it starts the count of these ten again. Returns
+    /// how many lines were held back since the last one that was let through, at most 2^64 - 1, or `None` if this line
+    /// is held back.
     pub fn admit(&mut self, second: u64) -> Option<u64>
         ensures admitted { result ≡ admitted self.old second }
         ensures after { self.new ≡ after_line self.old second }

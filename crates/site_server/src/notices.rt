@@ -31,37 +31,40 @@ impl fmt::Display for SessionFailure {
 }
 
 /// Receives the reports of a site's workers: on failures, for an operator to read, and on the start and end of
-/// connections, so that they can be counted. All workers share one receiver.
+/// connections, so that they can be counted. All workers share one receiver. In each report, `role` says whose lines
+/// the worker takes. `pass` is the number of the worker's pass, which is its right to call the forecourt (the site
+/// under its lock).
 pub trait Notices {
     ghost use Rattle.std.specs.Prelude.{ℕ};
     ghost use Rattle.till_request.specs.declared.act.Role.{Role};
     ghost use Rattle.site_server.specs.declared.notices.SessionFailure.{SessionFailure};
 
-    /// For proofs: it was reported that a session of the worker with this role and this pass ended with this failure.
+    /// For proofs: it was reported that a session of the worker with this role and this pass number ended with this
+    /// failure.
     ghost failure_reported: { Role → ℕ → SessionFailure → Type 0 };
 
-    /// For proofs: it was reported that a session of the worker with this role and this pass ended, with or without a
-    /// fault.
+    /// For proofs: it was reported that a session of the worker with this role and this pass number ended, with or
+    /// without a fault.
     ghost end_reported: { Role → ℕ → Type 0 };
 
-    /// Reports that a connection couldn't be opened for the worker with this role and this pass.
+    /// Reports that a connection couldn't be opened for the worker with this role and this pass number.
     fn accept_failed(&self, role: Role, pass: u32, error: &io::Error);
 
-    /// Reports that a session of the worker with this role and this pass ended with this failure.
+    /// Reports that a session of the worker with this role and this pass number ended with this failure.
     fn session_failed(&self, role: Role, pass: u32, failure: SessionFailure)
         ensures { failure_reported role pass failure };
 
-    /// Reports that a peer of the worker with this role and this pass sent nothing for this many seconds, so its input
-    /// ended.
+    /// Reports that a peer of the worker with this role and this pass number sent nothing for this many seconds, so its
+    /// input ended.
     fn fell_silent(&self, role: Role, pass: u32, seconds: u32);
 
-    /// Reports that a connection was opened for the worker with this role and this pass.
+    /// Reports that a connection was opened for the worker with this role and this pass number.
     fn connected(&self, role: Role, pass: u32);
 
-    /// Reports that a session of the worker with this role and this pass ended, with or without a fault.
+    /// Reports that a session of the worker with this role and this pass number ended, with or without a fault.
     fn disconnected(&self, role: Role, pass: u32)
         ensures { end_reported role pass };
 
-    /// Reports that the worker with this role and this pass has served its last connection.
+    /// Reports that the worker with this role and this pass number has served its last connection.
     fn left(&self, role: Role, pass: u32);
 }

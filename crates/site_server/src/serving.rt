@@ -1,4 +1,4 @@
-//! Serving a site.
+//! Serves a site: runs the workers of its crew on threads, and closes the site when all of them have ended.
 ghost use Rattle.std.specs.Prelude.{◌≡◌, ◌<◌, ◌≤◌, ◌^◌, [], IfErr, IfOk, Some, length, map, vec_capacity};
 ghost use Rattle.site_lock.specs.Closing.{ClosesSince};
 ghost use Rattle.site_server.specs.Plans.{plan_of};
@@ -172,7 +172,10 @@ struct Returned<L: SiteLedger> {
     clean: u64,
 }
 
-/// Runs all tasks at once, moves their passes into `passes`, and then asks the watcher to stop looking at the site.
+/// Runs all tasks, each in a thread of its own where one can be made, and then asks the watcher to stop looking at the
+/// site. Returns the tasks' passes, which it moves into `passes`, and the number of connections whose sessions ended
+/// without a `SessionFault`.
+///
 /// `passes` must be empty and have room for one pass from each task. `tasks` must be those of a whole crew, and must
 /// not have run yet. The configuration of the forecourt must be that of the ledger `L`.
 fn work_all<

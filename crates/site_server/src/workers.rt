@@ -1,4 +1,4 @@
-//! The workers of a served site.
+//! What the workers of a served site share, and how a worker does its task.
 ghost use Rattle.std.specs.Prelude.{◌≡◌};
 ghost use Rattle.site_server.specs.Collecting.{RunsWorker};
 ghost use Rattle.site_server.specs.Tasks.{Worked};

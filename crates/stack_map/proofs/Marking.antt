@@ -1,4 +1,5 @@
--- Which places the words of a set represent, and how masks add, remove and test places.
+-- Lemmas on sets of places that are represented by words: bit i of word k stands for place 64 k + i. OR with a mask
+-- adds places to the set, AND with the inverted mask removes them, and AND with the mask tests them.
 use Rattle.std.proofs.Common.{◌≡◌, ◌≢◌, ℕ, zero, suc, ◌+◌, ◌-◌, ◌*◌, ◌/◌, ◌%◌, ◌^◌, ◌<◌, ◌≤◌, ◌⊎◌, ◌↔◌, List, [], ◌∷◌, ◌++◌, Bool, true, false, refl, sym, ap}
 use Rattle.std.proofs.Common.{◌∙◌, subst, inl, inr, arith, length, replicate, bit_and, bit_or, min, max}
 use Rattle.std.specs.Prelude.{◌==◌, slice_index_or, slice_set}
@@ -170,8 +171,8 @@ mask_at mask k at len p is here =
     let from : 64 * k + p % 64 ≡ p = omega (arith, here) in
     (λ e. subst (Within at len) from (it.0 e), λ w. it.1 (subst (Within at len) (sym from) w))
 
--- exactly these places are marked in the words: those of the set `old`, and those below 64 k among the `len` places
--- from `at` on
+-- The loop that adds the `len` places from `at` on to the set `old` has come to word k. A place is marked in the words
+-- exactly if it is in `old`, or is one of these `len` places and below 64 k.
 abbrev pub IsTaken : List ℕ → List Bool → ℕ → ℕ → ℕ → Type 0
 IsTaken words old at len k = (p : ℕ) → IsMarked words p ↔ (Has old p ⊎ (Within at len p × (p < 64 * k)))
 
@@ -211,7 +212,7 @@ taken_all words old at len k l taken p =
       λ h. is.1 ((taken p).1 (elim h [ inl o ↦ inl o | inr w ↦ inr (w, let b = w.1 in omega (arith, b, l)) ])),
     )
 
--- ---- places are removed, word by word
+-- ---- the loop that removes places from a set removes exactly these places
 
 none_left : (b : ℕ) → b < 2 → (1 - b ≡ 1) ↔ ¬ (b ≡ 1)
 none_left b l = (λ e h. omega (arith, e, h), λ h. elim (cases_eq b 1) [ inl e ↦ absurd (h e) | inr n ↦ omega (arith, l, n) ])
@@ -223,8 +224,8 @@ without_is a mask i small l =
     let none = none_left (bit_at mask i) (bit_at-lt mask i) in
     (λ e. let h = both.0 e in (h.0, none.0 (sym other ∙ h.1)), λ h. both.1 (h.0, other ∙ none.1 h.1))
 
--- exactly these places are marked in the words: those of the set `old`, except the ones below 64 k among the `len`
--- places from `at` on
+-- The loop that removes the `len` places from `at` on from the set `old` has come to word k. The places that are marked
+-- in the words are exactly those of `old`, without those of the `len` places that are below 64 k.
 abbrev pub IsFreed : List ℕ → List Bool → ℕ → ℕ → ℕ → Type 0
 IsFreed words old at len k = (p : ℕ) → IsMarked words p ↔ (Has old p × (Within at len p → 64 * k ≤ p))
 
@@ -259,8 +260,10 @@ freed_all words old at len k l freed p =
       λ h. is.1 ((freed p).1 (h.0, λ w. absurd (h.1 w))),
     )
 
--- ---- the places in both sets, word by word
+-- ---- the loop over the words of two sets leaves exactly the places that are in both
 
+-- The loop that intersects the set `old` with the set in the words `others` has come to word k. A place is marked in
+-- `words` exactly if it is in `old` and, if it is below 64 k, also marked in `others`.
 abbrev pub IsMet : List ℕ → List Bool → List ℕ → ℕ → Type 0
 IsMet words old others k = (p : ℕ) → IsMarked words p ↔ (Has old p × (p < 64 * k → IsMarked others p))
 
@@ -309,7 +312,7 @@ met_all words old other others k many l e met p =
       λ h. is.1 ((met p).1 (h.0, λ b. there.0 (subst (λ set. Has set p) (sym e) h.1))),
     )
 
--- ---- whether `len` places from `at` on are in the set
+-- ---- the loop that tests `len` places from `at` on finds whether all of them are in the set
 
 -- of the `len` places from `at` on, each one below 64 k is marked in the words
 abbrev pub IsHeld : List ℕ → ℕ → ℕ → ℕ → Type 0
@@ -323,7 +326,8 @@ held_more words at len k mask is all held p w l = elim (cases_eq (p / 64) k) [
   | inr other ↦ held p w (omega (arith, l, other))
 ]
 
--- if all of the `len` places from `at` on are in the set, then word k has all bits that are 1 in its mask
+-- Let `mask` be the mask of word k for the `len` places from `at` on (`IsMask`). If all of these places are in the set,
+-- then each bit that is 1 in `mask` is also 1 in word k.
 pub not_held : (words : List ℕ) (at len k mask : ℕ) → k < 8 → mask < 2 ^ 64 → IsMask mask k at len → ((p : ℕ) → Within at len p → Has (places_of words) p)
     → bit_and (slice_index_or words k 0) mask ≡ mask
 not_held words at len k mask small below is all =

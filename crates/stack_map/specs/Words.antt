@@ -1,4 +1,4 @@
--- Promises: a set determines the words that represent it. So a set can be copied and compared.
+-- Promises: the words that represent a set can be computed from the set. So equal sets are represented by equal words.
 use Rattle.std.specs.Prelude.{◌≡◌, ℕ, zero, suc, ◌+◌, ◌*◌, ◌/◌, ◌%◌, ◌^◌, ◌<◌, ◌==◌, cond, List, [], ◌∷◌, ◌++◌, Bool, drop, length}
 use Rattle.std.specs.List.{AllByRecursion}
 use Rattle.std.proofs.Common.{refl, sym, ap, ◌∙◌, subst, add-one}

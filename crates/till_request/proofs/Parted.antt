@@ -41,11 +41,11 @@ by_no_place false t e = ltb-false _ _ t
 pub cut_nowhere : (p : ℕ → Bool) (xs : List ℕ) → position p xs ≡ None → slice_split p xs ≡ xs ∷ []
 cut_nowhere p xs e = none_before p xs (by_no_place (ltb (position_or_len p xs) (length xs)) refl e)
 
--- a text has `length xs - n` bytes after its first n, so taking as many of them takes all of them
+-- after its first n bytes a text has `length xs - n` bytes, so taking `length xs - n` of them takes them all
 pub rest_behind : (xs : List ℕ) (n : ℕ) → take (length xs - n) (drop n xs) ≡ drop n xs
 rest_behind xs n = grind (arith, common_steps)
 
--- if the parts of a text are n parts and then those of `rest`, the text has more than n parts, since even an empty
+-- if a text is n parts and then `rest`, which isn't split yet, the text has more than n parts, since even an empty
 -- `rest` has one part
 pub parts_and_more : (p : ℕ → Bool) (xs rest : List ℕ) (parts : List (Bor (List ℕ))) (n : ℕ) → map (λ w. w.now) parts ++ slice_split p rest ≡ slice_split p xs
     → eqb (length parts) n ≡ true → n < length (slice_split p xs)
@@ -97,9 +97,9 @@ pushed : (parts more : List (Bor (List ℕ))) (part : Bor (List ℕ)) → more �
     → map (λ w. w.now) more ≡ map (λ w. w.now) parts ++ part.now ∷ []
 pushed parts more part e = ap (λ t. map (λ w. w.now) t) e ∙ map-append (λ w. w.now) parts (part ∷ [])
 
--- `more` is `parts` followed by `part`, the bytes from `start` up to but not including the next separator, which is at
--- place `at`. If `all` is `parts` followed by the parts of the bytes from `start` on, it is also `more` followed by the
--- parts of the bytes after the separator.
+-- One step of splitting a text from left to right: `parts`, followed by the parts of the bytes from `start` on, are
+-- `all`. The next separator is at place `at`. `more` is `parts` followed by `part`, the bytes from `start` up to but
+-- not including the separator. Then `more`, followed by the parts of the bytes after the separator, is `all` too.
 pub part_more : (sep : ℕ) (all : List (List ℕ)) (xs : List ℕ) (start at : ℕ) (parts more : List (Bor (List ℕ))) (part : Bor (List ℕ))
     → map (λ w. w.now) parts ++ slice_split (λ b. eqb b sep) (drop start xs) ≡ all → more ≡ parts ++ part ∷ []
     → part.now ≡ take (at - start) (drop start xs) → start ≤ at → at < length xs → NoneFrom sep xs start at → get_or xs at 0 ≡ sep
@@ -110,8 +110,9 @@ part_more sep all xs start at parts more part so e is l h none found =
     ∙ append_assoc (map (λ w. w.now) parts) (part.now ∷ []) (slice_split p (drop (at + 1) xs))
     ∙ ap (λ t. map (λ w. w.now) parts ++ t) (ap (λ t. t ∷ slice_split p (drop (at + 1) xs)) is ∙ sym (part_up_to sep xs start at l h none found)) ∙ so
 
--- `more` is `parts` followed by `part`, the bytes from `start` to the end, none of which is the separator. If `all` is
--- `parts` followed by the parts of these bytes, then `all` is `more`.
+-- The last step of splitting a text from left to right: `parts`, followed by the parts of the bytes from `start` on,
+-- are `all`, and none of these bytes is the separator. `more` is `parts` followed by `part`, which is these bytes. Then
+-- `more` is `all`.
 pub part_last : (sep : ℕ) (all : List (List ℕ)) (xs : List ℕ) (start at : ℕ) (parts more : List (Bor (List ℕ))) (part : Bor (List ℕ))
     → map (λ w. w.now) parts ++ slice_split (λ b. eqb b sep) (drop start xs) ≡ all → more ≡ parts ++ part ∷ []
     → part.now ≡ drop start xs → start ≤ at → at ≡ length xs → NoneFrom sep xs start at
@@ -120,8 +121,8 @@ part_last sep all xs start at parts more part so e is l h none =
     pushed parts more part e
     ∙ ap (λ t. map (λ w. w.now) parts ++ t) (ap (λ t. t ∷ []) is ∙ sym (part_to_the_end sep xs start at l h none)) ∙ so
 
--- if `NoneFrom` holds up to place `at`, and the byte at place `at` isn't the separator, then `NoneFrom` holds up to
--- place `at + 1`
+-- if none of the bytes from place `start` up to but not including place `at` is the separator, nor the byte at place
+-- `at`, then `NoneFrom` holds up to place `at + 1`
 pub none_further : (sep : ℕ) (xs : List ℕ) (start at : ℕ) → NoneFrom sep xs start at → get_or xs at 0 ≢ sep → NoneFrom sep xs start (at + 1)
 none_further sep xs start at none f k low high = by_last (eqb_tells k at) where
   by_last : ((eqb k at ≡ true) × (k ≡ at)) ⊎ ((eqb k at ≡ false) × (k ≢ at)) → get_or xs k 0 ≢ sep

@@ -66,15 +66,15 @@ beyond there line room l e o h = (
   omega (arith, e, l.1, length-append line (take (room + 1) there), length-take-le (room + 1) there o),
 )
 
--- `room` is how many more bytes the line can have. If more than that come before the block's first LF, and the first
--- `room` + 1 of them are removed, then `LineGrows` holds for `TooLong`: the line and the removed bytes are 8,401 bytes
--- without an LF, one more than a line can have.
+-- `room` is how many more bytes the line can have. If more than `room` bytes come before the block's first LF, and the
+-- first `room` + 1 of them are removed, then `LineGrows` holds for `TooLong`: the line and the removed bytes are 8,401
+-- bytes without an LF, one more than a line can have.
 pub ends_too_late : (there line : List ℕ) (room count : ℕ) → IsLine line → room ≡ 8400 - length line → HasFirstLfAt count there → room < count
     → LineGrows there line (drop (room + 1) there) [] TooLong
 ends_too_late there line room count l e h o =
     beyond there line room l e (omega (arith, o, h.0)) (no_lf_less count (room + 1) there (omega (arith, o)) h.1)
 
--- `room` is how many more bytes the line can have. If the block has no LF and more bytes than that, and the first
+-- `room` is how many more bytes the line can have. If the block has no LF and more than `room` bytes, and the first
 -- `room` + 1 of them are removed, then `LineGrows` holds for `TooLong`: the line and the removed bytes are 8,401 bytes
 -- without an LF, one more than a line can have.
 pub ends_nowhere : (there line : List ℕ) (room : ℕ) → IsLine line → room ≡ 8400 - length line → HasNoLf there → room < length there
@@ -83,9 +83,9 @@ ends_nowhere there line room l e h o =
     beyond there line room l e (omega (arith, o))
     (no_lf_less (length there) (room + 1) there (omega (arith, o)) (subst (λ l. HasNoLf l) (sym (take_all (length there) there (omega arith))) h))
 
--- `place` is how many bytes the line has room for. `LosesPart` holds if at least one byte was removed from the front of
--- the block, if no LF was removed, and if the line with the removed bytes has more than `place` bytes, but at most
--- 8,400. It says that the removed bytes belong to the line, which has no room for them.
+-- `place` is the capacity of the line's vector. If at least one byte and no LF was removed from the front of the block,
+-- and the line with the removed bytes has more than `place` bytes, but at most 8,400, then `LosesPart` holds: the
+-- removed bytes belong to the line and don't fit into its vector.
 pub part_lost : (there line left : List ℕ) (count place : ℕ) → IsLine line → HasNoLf (take count there) → count ≤ length there
     → count ≤ 8400 - length line → 0 < count → place < length line + count → left ≡ drop count there → LosesPart there line place left
 part_lost there line left count place l h long room some full rest = (
@@ -183,10 +183,9 @@ buffered_moved there line grown left room n count l e belongs within_limit is re
     ) in
     (bytes, sym (ap (λ r. bytes ++ r) rest ∙ take-append-drop count there), is, subst (λ w. IsLine w) (sym is) whole, long)
 
--- The block's first `count` bytes belong to the line. `count` is at most `most`, the number of bytes that may be moved.
--- `free` is how many more bytes the line can have, and `place` is how many bytes it has room for. If this is enough for
--- the line, but not for the line with the `count` bytes, then `LacksRoom` holds for the bytes of the block: bytes come
--- next for which the line has no room.
+-- `free` is how many more bytes the line can have, and `place` is the capacity of the line's vector. The block's first
+-- `count` bytes belong to the line. `count` must be at most `most`, the number of bytes that may be moved. If the line
+-- fits into `place`, but the line with the `count` bytes doesn't, then `LacksRoom` holds for the bytes of the block.
 pub buffered_lacks_room : (there line : List ℕ) (free n count place most : ℕ) → IsLine line → free ≡ 8400 - length line → Belongs there free n
     → count ≤ n → count ≤ most → length line ≤ place → place < length line + count → LacksRoom (Some there) line place most most
 buffered_lacks_room there line free n count place most l e belongs within_limit within fits full =

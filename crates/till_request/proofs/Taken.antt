@@ -31,8 +31,8 @@ pub part_given : {T E : Type 0} (r : Result T E) (a c : Option (List ℕ)) (xs :
 part_given (Ok x) a c xs h l = tt
 part_given (Err e) a c xs h l = (xs, h, l)
 
--- If `line` was read, next the bytes that were appended to it and made it `grown`, and last `byte`, then what was read
--- in all is `grown` followed by `byte`.
+-- `line` was read, then zero or more bytes, with which the line became `grown`, and then `byte`. So `grown` followed by
+-- `byte` was read in all.
 pub byte_behind : (a b c : Option (List ℕ)) (line grown : List ℕ) (byte : ℕ) → Consumes a b line → ReadsIntoLineThenByte b c line grown (Some byte)
     → Consumes a c (grown ++ byte ∷ [])
 byte_behind a b c line grown byte h on =
@@ -42,8 +42,9 @@ byte_behind a b c line grown byte h on =
 nothing_more : (a b c : Option (List ℕ)) (xs : List ℕ) → Consumes a b xs → Consumes b c [] → Consumes a c xs
 nothing_more a b c xs h k = subst (Consumes a c) (append-nil xs) (consumes_more a b c xs [] h k)
 
--- Bytes were read and appended to a line, and after that one more byte was to be read. If this gave a byte, or found
--- that the input had ended, what was read in both steps is as `ReadsIntoLineThenByte` says.
+-- Zero or more bytes were read and appended to a line, and after that one more byte was to be read. If this last read
+-- didn't fail, then `ReadsIntoLineThenByte` holds for both steps together: bytes were appended to the line, and then
+-- one more byte was read or the input had ended.
 pub goes_on : {E : Type 0} (a b c : Option (List ℕ)) (line grown : List ℕ) (r : Result (Option ℕ) E) → ReadsIntoLine a b line grown
     → IfOk r (λ found. MatchOption found (Consumes b c [] × IsAtEnd c) (λ byte. Consumes b c (byte ∷ []))) → IfOk r (ReadsIntoLineThenByte a c line grown)
 goes_on a b c line grown (Err e) h k = tt
@@ -57,10 +58,10 @@ pub goes_part : {T E : Type 0} (a b c : Option (List ℕ)) (line grown : List �
 goes_part a b c line grown (Ok x) h k = tt
 goes_part a b c line grown (Err e) h k = (h.0, nothing_more a b c h.0 h.1 k, subst (λ l. IsLine l) h.2 h.3)
 
--- If `line` was read and has no room for bytes that come next, as `LacksRoom` says, then `LacksRoom` also holds for an
--- empty line at the time before `line` was read: `line` and these bytes came next, and a room of `least` bytes was too
--- small for them. `least` must be at most `room`, which is the room of `line`. `all`, the number of reads that were
--- allowed at that time, must be `length line` + `before`.
+-- `line` was read from an input, and `LacksRoom` says that `line` has no room for bytes that come next. Then
+-- `LacksRoom` also holds for the input before `line` was read, with an empty line and a room of `least` bytes. `least`
+-- must be at most `room`. `all` is the number of reads that were allowed before `line` was read, and must be
+-- `length line` + `before`.
 pub lacks_behind : (a b : Option (List ℕ)) (line : List ℕ) (least room all before after : ℕ) → Consumes a b line → least ≤ room
     → length line + before ≡ all → LacksRoom b line room before after → LacksRoom a [] least all after
 lacks_behind a b line least room all before after h fits counted l =
@@ -75,10 +76,10 @@ lacks_behind a b line least room all before after h fits counted l =
       omega (arith, long, counted, l.7),
     )
 
--- `line` was read, and after it `byte`, which belongs to the same line. If `line` has no room for `byte`, then
--- `LacksRoom` holds for an empty line at the time before `line` was read: `line` and `byte` came next, and a room of
--- `room` bytes was too small for them. `all`, the number of reads that were allowed at that time, must be
--- `length line` + `after` + 1.
+-- `line` and then `byte` were read from an input. Then `LacksRoom` holds for the input before these reads, with an
+-- empty line: `line` and `byte` together have more than `room` bytes. Together they must be a line or the beginning of
+-- one. `room` must be at most `length line`. `all` is the number of reads that were allowed before `line` was read, and
+-- must be `length line` + `after` + 1.
 pub lacks_byte : (a c : Option (List ℕ)) (line : List ℕ) (byte room all after : ℕ) → Consumes a c (line ++ byte ∷ []) → IsLine (line ++ byte ∷ [])
     → room ≤ length line → length line + after + 1 ≡ all → LacksRoom a [] room all after
 lacks_byte a c line byte room all after h whole full counted =

@@ -1,6 +1,7 @@
--- Definitions: the texts of answers (this profile). An entry's number comes before the reply. A refusal or a fault is a
--- letter and a number: S for the site's, L for a line's, V for a program's. The numbers that it names, such as a
--- slot's, come last.
+-- Definitions: the texts of answers (source: this project). An entry's number comes before the reply. A refusal or a
+-- fault is written as a letter and a number. The letter is S if the site refused the act, if the journal is full, or if
+-- memory ran out. It is V if a program was refused, and L for any other fault of a line. The numbers that a refusal
+-- names, such as a slot's, come last. `JournalFailed` is written in words instead.
 use Rattle.std.specs.Prelude.{ℕ, List, [], ◌∷◌, ◌++◌, codes, Option, Some, None}
 use Rattle.std.specs.Fmt.{decimal}
 use Rattle.std.specs.List.{join_with_byte}

@@ -11,7 +11,8 @@ use Rattle.till_request.specs.declared.line.InputFault.TheVariants.{Read, ReadsS
 abbrev pub most_ahead : ℕ → List ℕ → ℕ
 most_ahead left unread = 4096 * left + length unread
 
--- unless the fault is that memory ran out, the block is empty: it has no `unread` bytes
+-- `unread` is the bytes in the block. After `Read` or `ReadsSpent` the block is empty. After `OutOfMemory` nothing is
+-- stated.
 abbrev pub IsEmptyAfterInputFault : InputFault → List ℕ → Type 0
 IsEmptyAfterInputFault Read unread = unread ≡ []
 IsEmptyAfterInputFault ReadsSpent unread = unread ≡ []
@@ -30,8 +31,9 @@ LineGrows there line left grown Ended = (bytes : List ℕ) × (there ≡ bytes +
 LineGrows there line left grown TooLong = (bytes : List ℕ) × (there ≡ bytes ++ left) × HasNoLf (line ++ bytes) × (length (line ++ bytes) ≡ 8401)
 LineGrows there line left grown More = (left ≡ []) × (grown ≡ line ++ there) × IsLine grown
 
--- At least one byte was removed from the block, and the removed bytes are lost. They belong to the line, and the line
--- with them is longer than `room`.
+-- The block had the bytes `there` and has the bytes `left` now. One or more bytes were removed from the front of the
+-- block and are lost. They belong to the line: `line` and these bytes together have no LF and at most 8,400 bytes, but
+-- more than `room` bytes.
 abbrev pub LosesPart : List ℕ → List ℕ → ℕ → List ℕ → Type 0
 LosesPart there line room left =
     (bytes : List ℕ) × (there ≡ bytes ++ left) × IsLine (line ++ bytes) × (0 < length bytes) × (room < length (line ++ bytes))

@@ -1,4 +1,4 @@
--- Definitions: how many bytes a device in memory moves at a call, and when it fails (this profile).
+-- Definitions: how many bytes a device in memory moves at a call, and when it fails (source: this project).
 use Rattle.std.specs.Prelude.{ℕ, ◌-◌, List, Option, max, slice_index_or}
 use Rattle.std.specs.Option.{option_map}
 

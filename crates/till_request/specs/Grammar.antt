@@ -1,6 +1,6 @@
--- Definitions: which act a line is (this profile). A line is words with one space between them. A form is a list of
--- fixed words and of places for values. A line without a form is a bad line. If it has one, the values are read, from
--- left to right.
+-- Definitions: which act a line is (source: this project). A line is words with one space between them. A form is a
+-- list of fixed words and of places for values. A line that has no form is a bad line. If a line has a form, its values
+-- are read from left to right.
 use Rattle.std.specs.Prelude.{◌≡◌, ◌==◌, ◌&&◌, not, nat_le, nat_lt, ℕ, ◌^◌, ◌-◌, ◌/◌, ◌%◌, List, [], ◌∷◌, length, slice_index, codes, Bool, true, false, Option, Some, None, Result, Ok}
 use Rattle.std.specs.Prelude.{Err, if◌then◌else◌, find}
 use Rattle.std.specs.List.{slice_split, list_all}
@@ -98,7 +98,9 @@ sender forms.Up = roles.Dispenser
 sender forms.Flow = roles.Dispenser
 sender (forms.Load layout) = roles.Owner
 
--- a sender of the first role is allowed to send lines of the second role
+-- A sender of the first role may send the lines of the second role: a till's (Till), a dispenser's (Dispenser) or the
+-- owner's (Owner). Here `OneTill` may send the lines of any till, and `SomePoints` those of any dispenser.
+-- `act_within_role` checks the till or the point that the parsed line names.
 abbrev pub allows : Role → Role → Bool
 allows roles.All by = true
 allows roles.Till roles.Till = true
@@ -153,8 +155,8 @@ abbrev pub ◌>>=◌ : {A B : Type 0} → Result A LineFault → (A → Result B
 (Ok x) >>= f = f x
 (Err e) >>= f = Err e
 
--- the request with this verb and these numbers; `point_request` and `transaction_request` are the same for other verbs,
--- and `report_event` is the event of a dispenser's verb
+-- the request with this verb and these numbers; `point_request` and `transaction_request` are the same for other verbs.
+-- `report_event` is the event that a dispenser reports by a verb.
 abbrev pub amount_request : AmountVerb → ℕ → ℕ → Request
 amount_request amounts.Release point amount = requests.Release point amount
 amount_request amounts.Preset point amount = requests.Preset point amount
@@ -254,20 +256,21 @@ abbrev pub names_till : ℕ → Act → Bool
 names_till number (acts.Till till request) = till == number
 names_till number act = false
 
--- the act is a dispenser's event at one of `points`: bit p - 1 is set for point p, which is 1 to 32
+-- the act is a dispenser's event at a point p, from 1 to 32, for which bit p - 1 of `points` is set
 abbrev pub names_point : ℕ → Act → Bool
 names_point points (acts.Dispenser point event) = nat_le 1 point && (nat_le point 32 && (points / 2 ^ (point - 1) % 2 == 1))
 names_point points act = false
 
--- the act is from the till, or from one of the points, to which the role is limited; true if the role isn't limited to
--- any till or points
+-- For `OneTill`, the act is a request of this till. For `SomePoints`, the act is a dispenser's event at one of these
+-- points. For every other role, true.
 abbrev pub is_within_role : Role → Act → Bool
 is_within_role (roles.OneTill number) act = names_till number act
 is_within_role (roles.SomePoints points) act = names_point points act
 is_within_role role act = true
 
--- A parsed fault stays as it is. A parsed act stays as it is if the role isn't limited to any till or points, or if the
--- act is from the till, or from one of the points, to which the role is limited. Any other act is a bad line.
+-- Limits a parsed act to the role. For `OneTill`, an act that isn't a request of this till is a bad line. For
+-- `SomePoints`, an act that isn't a dispenser's event at one of these points is a bad line. Any other act, and a fault,
+-- stays as it is.
 abbrev pub act_within_role : Role → Result Act LineFault → Result Act LineFault
 act_within_role (roles.OneTill number) parsed_act = parsed_act >>= (λ act. if names_till number act then Ok act else Err BadLine)
 act_within_role (roles.SomePoints points) parsed_act = parsed_act >>= (λ act. if names_point points act then Ok act else Err BadLine)

@@ -1,8 +1,8 @@
--- Promises: which bytes are read from an input that is read line by line. Before they are read, the input has the bytes
--- `old` left, and after that the bytes `new`; each is None if the bytes aren't known. Two of the promises are at the
--- same time definitions, which a reader must believe: `IsLine` says what a line is, and `Takes` says what was read for
--- each result of reading a line. A line has no LF and at most 8,400 bytes. With one byte more it is too long. If the
--- input ends after at least one byte and without an LF, the line is cut.
+-- Promises: which bytes are read from an input that is read line by line. `old` is the bytes that the input has left
+-- before the reads, and `new` those after the reads. Each is None if the bytes aren't known. A line has no LF and is
+-- allowed at most 8,400 bytes. With more it is too long. A line is cut if the input ends after at least one of its
+-- bytes and before its LF. `IsLine` and `Takes` are also definitions, so only a reader can check that they say what is
+-- meant. `IsLine` says what a line is, and `Takes` says what was read for each result of reading a line.
 use Rattle.std.specs.Prelude.{◌≡◌, ◌≢◌, ◌⊎◌, ℕ, ◌+◌, ◌<◌, ◌≤◌, List, [], ◌∷◌, ◌++◌, length, Option, Some, None, Result, Ok, Err, Bool, true, false}
 use Rattle.std.specs.List.{AllByRecursion}
 use Rattle.std.specs.Io.KnownBytes.{Consumes, IsAtEnd}
@@ -44,9 +44,9 @@ TakesPart old new = (bytes : List ℕ) × Consumes old new bytes × IsLine bytes
 abbrev pub TakesBytes : Option (List ℕ) → Option (List ℕ) → Type 0
 TakesBytes old new = (bytes : List ℕ) × Consumes old new bytes × IsLine bytes × (0 < length bytes)
 
--- `old` is the input before the reads. One or more bytes that belong to `line` come next in it, and `line` with these
--- bytes is longer than `room`. `before` reads of one byte were allowed at that time, and `after` of them are left now.
--- The number of these bytes is at most `before`, and at least `before` - `after`, the number of reads that were made.
+-- `line` is the beginning of a line. One or more further bytes of this line come next in the input `old`, and with them
+-- the line is longer than `room`. `before` reads of one byte were allowed when the input was `old`, and `after` of them
+-- are left now. The further bytes are at least as many as the reads that were made, and at most `before`.
 abbrev pub LacksRoom : Option (List ℕ) → List ℕ → ℕ → ℕ → ℕ → Type 0
 LacksRoom old line room before after =
     (bytes : List ℕ) × (rest : Option (List ℕ)) × Consumes old rest bytes × IsLine (line ++ bytes) × (0 < length bytes)
@@ -65,7 +65,8 @@ ReadsUntilOutOfMemory old new role before after =
 abbrev pub ReadsIntoLine : Option (List ℕ) → Option (List ℕ) → List ℕ → List ℕ → Type 0
 ReadsIntoLine old new line grown = (bytes : List ℕ) × Consumes old new bytes × (grown ≡ line ++ bytes) × IsLine grown
 
--- zero or more bytes were read and appended to the line, and then one more byte was read, or the input has ended
+-- Zero or more bytes were read and appended to the line. After that the input has ended (None), or one more byte was
+-- read (Some).
 abbrev pub ReadsIntoLineThenByte : Option (List ℕ) → Option (List ℕ) → List ℕ → List ℕ → Option ℕ → Type 0
 ReadsIntoLineThenByte old new line grown None = ReadsIntoLine old new line grown × IsAtEnd new
 ReadsIntoLineThenByte old new line grown (Some byte) = (bytes : List ℕ) × Consumes old new (bytes ++ byte ∷ []) × (grown ≡ line ++ bytes) × IsLine grown
@@ -112,21 +113,21 @@ TakesFault old new role before after (reading.Line line.OutOfMemory) = ReadsUnti
 TakesFault old new role before after reading.Read = TakesPart old new
 TakesFault old new role before after reading.ReadsSpent = TakesPart old new
 
--- the result is that the device failed
+-- whether the result is that the device failed
 abbrev pub is_input_fault : {T : Type 0} → Result T InputFault → Bool
 is_input_fault (Err input.Read) = true
 is_input_fault (Err input.ReadsSpent) = false
 is_input_fault (Err input.OutOfMemory) = false
 is_input_fault (Ok x) = false
 
--- the result is that the device failed
+-- whether the result is that the device failed
 abbrev pub is_read_fault : {T : Type 0} → Result T LineReadFault → Bool
 is_read_fault (Err reading.Read) = true
 is_read_fault (Err reading.ReadsSpent) = false
 is_read_fault (Err (reading.Line fault)) = false
 is_read_fault (Ok x) = false
 
--- a fault of an input, as a fault of reading a line from it
+-- turns a fault of an input into the fault of reading a line from this input
 abbrev pub read_fault : InputFault → LineReadFault
 read_fault input.Read = reading.Read
 read_fault input.ReadsSpent = reading.ReadsSpent

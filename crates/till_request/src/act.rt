@@ -135,7 +135,7 @@ pub enum Reply {
     Granted(u64, u32),
     /// `Version(version)`: a program was loaded, and this is the number of its version, counted from 1.
     Version(u32),
-    /// The order that was waiting for the dispenser at its point.
+    /// The order that was waiting at the point for the dispenser.
     Order(Order),
     /// A point as it is: its state 1 to 9, the lifted nozzle or 0, and how many transactions are unpaid. `amount` in
     /// cents and `volume` in centilitres are those of the delivery so far. `limit` is the amount that was granted to
@@ -150,8 +150,8 @@ pub enum Reply {
         limit: u64,
         preset: u64,
     },
-    /// The site refused the act: the refusal's number, such as 22 for `S22`, and the state, slot or version that it
-    /// names, if it names one.
+    /// The site refused the act. The first value is the refusal's number, such as 22 for `S22`. The second is the
+    /// state, slot or version that the refusal names, or `None` if it names none.
     Refused(u32, Option<u32>),
 }
 
@@ -169,7 +169,7 @@ pub enum Role {
     /// One till, which has this number: a till's line is accepted if it names this till.
     OneTill(u32),
     /// The dispensers of some points: a dispenser's line is accepted if it names one of these points. Bit p - 1 is set
-    /// for point p, which is 1 to 32.
+    /// if point p, which is 1 to 32, is one of them.
     SomePoints(u32),
 }
 
@@ -180,8 +180,8 @@ pub enum LineFault {
     TooLong,
     /// `L2`: the words have none of the forms of a line, or the sender isn't allowed to send this line.
     BadLine,
-    /// `L3`: a number isn't in decimal digits without leading zeros, or is too large for its type; or hexadecimal is
-    /// malformed.
+    /// `L3`: a number isn't one or more decimal digits, has a leading zero, or is too large for its type. Or
+    /// hexadecimal is malformed.
     BadNumber,
     /// `L4`: the input ended before the line's LF.
     CutLine,

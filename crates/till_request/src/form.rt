@@ -148,9 +148,9 @@ pub fn text_of(keyword: Keyword) -> &'static str
     }
 }
 
-/// Returns whether a sender of this role is allowed to send lines of `by` (`Till`, `Dispenser` or `Owner`). `OneTill`
-/// is allowed to send lines of `Till`, and `SomePoints` lines of `Dispenser`, whatever till or point a line names.
-/// `is_within_role` checks the till or the point of the parsed line.
+/// Returns whether a sender of this role may send the lines of a till, of a dispenser or of the owner, as `by` says
+/// (`Till`, `Dispenser` or `Owner`). Here `OneTill` may send the lines of any till, and `SomePoints` those of any
+/// dispenser. `is_within_role` checks the till or the point that the parsed line names.
 #[inline(always)]
 pub fn may_send(role: Role, by: Role) -> bool
     ensures { result ≡ allows role by }
@@ -259,8 +259,8 @@ fn has_form(form: Form, words: &[&[u8]]) -> bool
     }
 }
 
-/// Returns whether the words have this form and a sender of this role is allowed to send lines of this form, whichever
-/// till or point they name.
+/// Returns whether the words have this form, and a sender of this role is allowed to send lines of this form. Doesn't
+/// check which till or point the words name.
 #[inline(always)]
 fn is_suited(role: Role, words: &[&[u8]], form: Form) -> bool
     ensures { result ≡ suits role (map (λ w. w.now) words.now) form }
@@ -283,8 +283,9 @@ fn first_suited(role: Role, words: &[&[u8]], forms: &[Form]) -> Option<Form>
     None
 }
 
-/// Returns the form that the words have, if a sender of this role is allowed to send lines of this form, whichever till
-/// or point they name. Returns `None` if the words have no form, or one whose lines the sender isn't allowed to send.
+/// Returns the form that the words have, if a sender of this role is allowed to send lines of this form. Returns `None`
+/// if the words have no form, or one whose lines the sender isn't allowed to send. Doesn't check which till or point
+/// the words name.
 pub fn form_of(role: Role, words: &[&[u8]]) -> Option<Form>
     ensures found { result ≡ find (suits role (map (λ w. w.now) words.now)) all_forms }
     ensures suited { IfSome result (λ form. suits role (map (λ w. w.now) words.now) form ≡ true) }

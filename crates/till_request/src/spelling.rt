@@ -18,14 +18,15 @@ use fuelling_point::DispenserEvent;
 use std::alloc::{AllocError, Global};
 use std::fmt;
 
-/// Does nothing. Its contract is a law: for the role `All`, the line of each act is read as the same act, except the
-/// line of a load without bytes. The law doesn't depend on how long the line is, but `parse_line` refuses a line of
-/// more than 8,400 bytes.
+/// Does nothing. Its contract is a law: for the role `All`, the line of each act is read as the same act, unless the
+/// act is a load of a program without bytes. The law is about parsing without a limit on the line's length.
+/// `parse_line` has such a limit, 8,400 bytes.
 pub fn spelling_is_read()
     ensures { ReadsBack }
 {}
 
-/// Returns a request's verb, its first number, and its second number, or `None` if it has only one.
+/// Returns a request's verb, its first number, and its second number. If the request has only one number, the second is
+/// `None`.
 fn words_of(request: Request) -> (Keyword, u32, Option<u64>)
     ensures { request_words request ≡ text result.0 ∷ decimal result.1 ∷ map decimal (option_to_list result.2) }
 {

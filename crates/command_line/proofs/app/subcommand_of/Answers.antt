@@ -5,8 +5,8 @@ use Rattle.command_line.specs.Described.{rule_for, with_rules}
 use Rattle.command_line.specs.declared.app.Argument.{Argument}
 use Rattle.command_line.proofs.app.subcommand_of.Goals as goal
 
--- If `b` is the command `a` with argument number `i` added, then `b` with all later arguments added is the same command
--- as `a` with all arguments from number `i` on added.
+-- Adding argument number `i` and then all later arguments to the command `a` gives the same command as adding to `a`
+-- all arguments from number `i` on.
 moved : (a b : App) (args : List Argument) (i : ℕ) (x : Argument) (r : Rule) → i < length args → r ≡ rule_for (get_or args i x) → b ≡ with_rule a r
     → with_rules b (drop (i + 1) args) ≡ with_rules a (drop i args)
 moved a b args i x r lt e f =

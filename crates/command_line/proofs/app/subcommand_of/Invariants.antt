@@ -4,8 +4,8 @@ use Rattle.clap.specs.declared.builder.command.Command.TheViews.{out-Command}
 use Rattle.command_line.specs.Described.{with_rules}
 use Rattle.command_line.proofs.app.subcommand_of.Given as goal
 
--- Invariant of the loop: if all arguments that aren't added yet are added to the loop's command, the result is the
--- subcommand with all its arguments. The loop's command has no global arguments.
+-- Invariant of the loop: adding the remaining arguments to `command` gives the subcommand with all its arguments.
+-- `command` has no global arguments.
 abbrev pub invariant-loop-argument : goal.invariant-loop-argument
 invariant-loop-argument l =
     record {

@@ -5,9 +5,8 @@ use Rattle.clap.specs.declared.builder.command.Command.TheViews.{out-Command}
 use Rattle.command_line.specs.Described.{app_for}
 use Rattle.command_line.proofs.app.with_word.Goals as goal
 
--- An `App` describes a command (`top`) and its subcommands. Let `sub` have no global arguments, and `a` be its `App`.
--- If `r` is the command `old` with the subcommand `sub` added, then the `App` of `r` is that of `old` with the
--- subcommand `a.top` added.
+-- An `App` describes a command and its subcommands. If the command `sub` has no global arguments, then adding it to the
+-- command `old` gives a command that is described by the `App` of `old` with `sub` added.
 added : (old sub : Command) (a : App) → app_of sub ≡ a → (out-Command sub).has_globals ≡ false → {E : Type 0} (r : Result Command E)
     → IfOk r (AddsSubcommand old sub) → IfOk r (λ c. app_of c ≡ with_subcommand (app_of old) a.top)
 added old sub a e local (Ok c) h = h.shape local ∙ ap (λ (a : App). with_subcommand (app_of old) a.top) e

@@ -5,8 +5,8 @@ use Rattle.command_line.specs.Described.{app_for, with_words}
 use Rattle.command_line.specs.declared.app.SubcommandDescription.{SubcommandDescription}
 use Rattle.command_line.proofs.app.with_words.Goals as goal
 
--- If `b` is the command `a` with subcommand number `i` added, then `b` with all later subcommands added is the same
--- command as `a` with all subcommands from number `i` on added.
+-- Adding subcommand number `i` and then all later subcommands to the command `a` gives the same command as adding to
+-- `a` all subcommands from number `i` on.
 moved : (a b : App) (words : List SubcommandDescription) (i : ℕ) (w : SubcommandDescription) → i < length words → b ≡ with_subcommand a (app_for (get_or words i w)).top
     → with_words b (drop (i + 1) words) ≡ with_words a (drop i words)
 moved a b words i w lt e = ap (λ (x : App). with_words x (drop (i + 1) words)) e ∙ sym (ap (with_words a) (drop_more words i w lt))

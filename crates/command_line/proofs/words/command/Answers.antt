@@ -35,16 +35,16 @@ simple = refl
 simple_and_free : (a : App) → a ≡ fc_app → is_simple_and_free a ≡ true
 simple_and_free a e = subst (λ (b : App). is_simple_and_free b ≡ true) (sym e) refl
 
--- The arguments that `clap` gets (`lent`) equal the program's arguments (`words`), and `m` is what `clap` finds in
--- `lent`. So `m` has the subcommand and the values that `subcommand_of` finds in `words`, or no subcommand if it finds
--- none.
+-- The arguments that `clap` gets (`lent`) are the program's arguments (`words`). Then `clap` finds in them what
+-- `subcommand_of` finds in `words`: the subcommand and its values, or no subcommand.
 found : (a : App) → a ≡ fc_app → (lent words : List (String Global)) → lent ≡ words → (m : ArgMatches) → HasMatchesOf a (map (λ w. string_bytes w) lent) m
     → subcommand_rows_of m ≡ subcommand_of fc_app (map (λ w. string_bytes w) words)
 found a e lent words same m h =
     ((subst (λ (ws : List (String Global)). HasMatchesOf fc_app (map (λ w. string_bytes w) ws) m) same
     (subst (λ (b : App). HasMatchesOf b (map (λ w. string_bytes w) lent) m) e h)) simple).1
 
--- The arguments that `clap` gets (`lent`) equal the program's arguments (`words`). So both have the same faults.
+-- The arguments that `clap` gets (`lent`) are the program's arguments (`words`). Then `clap` can return the same errors
+-- for `lent` as for `words`.
 faults : (a : App) → a ≡ fc_app → (lent words : List (String Global)) → lent ≡ words
     → fault_of a (map (λ w. string_bytes w) lent) ≡ fault_of fc_app (map (λ w. string_bytes w) words)
 faults a e lent words same =
@@ -57,7 +57,6 @@ refused a e lent words same k h t =
     h (subst (λ (b : App). takes b (map (λ w. string_bytes w) lent) ≡ true) (sym e)
     (subst (λ (ws : List (String Global)). takes fc_app (map (λ w. string_bytes w) ws) ≡ true) (sym same) t))
 
--- It is a contradiction that the job `j` has a request and has none.
 no_job : (j : Job) (P : Type 0) → IsSome (requested j) → requested j ≡ None → P
 no_job j P some none = let bad : false ≡ true = subst (λ (o : Option JobRequest). IsSome o) none some in absurd (cc)
 
@@ -66,8 +65,6 @@ shown_has_memory : (k : ErrorKind) → IsHelpOrVersion k → k ≡ kind.OutOfMem
 shown_has_memory k (inl h) m = let bad : kind.DisplayHelp ≡ kind.OutOfMemory = sym h ∙ m in cc
 shown_has_memory k (inr v) m = let bad : kind.DisplayVersion ≡ kind.OutOfMemory = sym v ∙ m in cc
 
--- The error kind `seen` is `OutOfMemory`, or is in the list `old`. `k` equals `seen`, and `kinds` equals `old`. So the
--- same holds for `k` and `kinds`.
 among_faults : (k seen : ErrorKind) → k ≡ seen → (old kinds : Kinds) → old ≡ kinds → (seen ≡ kind.OutOfMemory) ⊎ IsAmong seen old
     → (k ≡ kind.OutOfMemory) ⊎ IsAmong k kinds
 among_faults k seen e old kinds same h =

@@ -9,8 +9,8 @@ use Rattle.command_line.specs.Refusing.{Finds, IsJobOfLine}
 use Rattle.command_line.specs.declared.job.Job.{Job}
 use Rattle.command_line.proofs.words.job_of.Goals as goal
 
--- Let `p` be a subcommand with the name `name` and the values `rows`. If `found` is the job that a subcommand with this
--- name and these values asks for (`Finds`), then `found` is the job of a command line with the subcommand `p`.
+-- `found` is a job or None. If it is the right result for a subcommand with the name `name` and the values `rows`
+-- (`Finds`), then it is the right result for a command line with this subcommand (`IsJobOfLine`).
 finds_in : (p : Text × List Row) (name : Text) (rows : List Row) → p.0 ≡ name → p.1 ≡ rows → (found : Option Job) → Finds name rows found
     → IsJobOfLine (Some p) found
 finds_in p name rows n r (Some job) h =

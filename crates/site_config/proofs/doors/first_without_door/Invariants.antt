@@ -2,7 +2,8 @@ use Rattle.std.proofs.Common.{◌≡◌, ◌≤◌, ◌-◌, None}
 use Rattle.site_config.specs.Doors.{first_without_door}
 use Rattle.site_config.proofs.doors.first_without_door.Given as goal
 
--- Each number from 1 to `number` has a door that takes its lines.
+-- Each till or point from 1 to `number` has a door that takes its lines (for a point: the dispensers' lines that name
+-- it).
 abbrev pub invariant-loop-number : goal.invariant-loop-number
 invariant-loop-number l = record {
   taken : None ≡ first_without_door l.side l.doors l.number;

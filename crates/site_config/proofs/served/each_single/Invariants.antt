@@ -5,8 +5,8 @@ use Rattle.site_config.specs.Typed.{each_in, single_in}
 use Rattle.site_config.specs.Memory.{KeepsFirst, TakesSingle}
 use Rattle.site_config.proofs.served.each_single.Given as goal
 
--- The doors so far, followed by those that are read from the rest of `values`, are the doors at the start, followed by
--- those that are read from all of `values`. Or reading the rest and reading all give the same flaw.
+-- Reading the rest of `values` and appending it to the doors so far gives the same as reading all of `values` and
+-- appending it to the doors at the start.
 abbrev pub invariant-loop-value : goal.invariant-loop-value
 invariant-loop-value l = record {
   read : with_front l.doors.items (each_in (single_in l.side) l.place (items_view (drop l.value-index l.values)))

@@ -5,7 +5,7 @@ use Rattle.site_config.specs.Typed.{each_in, counter_in}
 use Rattle.site_config.specs.Memory.{KeepsFirst, TakesCounter}
 use Rattle.site_config.proofs.typed.read_counters.Given as goal
 
--- Reading the rest of the list and putting the items so far before it gives the same as reading the whole list.
+-- Reading the rest of the list and appending it to the items so far gives the same as reading the whole list.
 abbrev pub invariant-loop-value : goal.invariant-loop-value
 invariant-loop-value l = record {
   read : with_front l.pairs.items (each_in counter_in l.value-index (items_view (drop l.value-index l.values))) ≡ each_in counter_in 0 (items_view l.values);
