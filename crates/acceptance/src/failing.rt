@@ -93,8 +93,9 @@ fn seen_at<L: SiteLedger, R: Wait>(
     }
 }
 
-/// Runs a session over `input` and `output` at a new forecourt with the ledger `L`. Returns the outcome, or `None` if
-/// the forecourt can't be started. `blank` must have the name and the number of parts of `L`. `L` must have:
+/// Runs a session over `input` and `output` at a new forecourt with the ledger `L`, which is made from `blank`. Returns
+/// the outcome, or `None` if the forecourt can't be started. `blank` must have the name and the number of parts of `L`.
+/// `L` must have:
 ///
 /// - one part, which is for the session's pass
 /// - the configuration `config`

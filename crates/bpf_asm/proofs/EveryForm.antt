@@ -44,7 +44,7 @@ use Rattle.bpf_asm.specs.Program.{cut, fault_of, assembled_with, assembled, IsFa
 use Rattle.bpf_asm.specs.RoundTrip.{RoundTrip}
 use Rattle.bpf_asm.proofs.ReadBack.{AllParseBack, spells_again}
 
--- There is an opcode that has this form.
+-- Whether there is an opcode with this form.
 abbrev has_opcode : Form → Bool
 has_opcode (form.Arithmetic op w s) = has_form op w s
 has_opcode (form.LoadSigned n) = not (is_double n)

@@ -205,7 +205,7 @@ condition_written condition.Jslt =
 condition_written condition.Jsle =
     record { front = λ u. lit (condition_text condition.Jsle) (32 ∷ u) (omega arith) refl refl; plain_text = refl; kind = refl }
 
--- ---- the line of an operator with two operands, as in `r1 += 5` or `r1 += r2`, is parsed as this instruction
+-- ---- the line of an instruction with two operands, as in `r1 += 5` or `r1 += r2`, is parsed as this instruction
 
 pub line_by : (ts ts' : Tokens) (x : Option Line) → ts ≡ ts' → line_of ts' ≡ x → line_of ts ≡ x
 line_by ts ts' x e h = ap line_of e ∙ h

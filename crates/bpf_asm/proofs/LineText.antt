@@ -1,6 +1,6 @@
 -- A piece is the text of a token, with or without a blank before it. The pieces of a list are good (`AreGood`) if each
--- token is `clean` (so it is ASCII without an LF or a comment) and is the first token of the text from it on. The text
--- of good pieces is one line, and is split into the tokens of these pieces again.
+-- token is `clean` (so it is ASCII without an LF or a comment) and is the first token of the text from its place on.
+-- The text of good pieces is one line, and is split into the tokens of these pieces again.
 use Rattle.std.proofs.Common.{◌≡◌, ◌<◌, ◌^◌, ℕ, suc, List, [], ◌∷◌, ◌++◌, length, take, take_all, map, Some, None, Bool, true, false, refl, ap, sym, ◌∙◌}
 use Rattle.std.proofs.Common.{append_assoc, arith}
 use Rattle.std.specs.Prelude.{◌&&◌, ◌||◌, ◌==◌, not, nat_lt, cond, slice_index, ⊤}
@@ -66,7 +66,7 @@ code_clean (b ∷ t) h =
 no_end : (b : ℕ) → (nat_lt 10 b && nat_lt b 128) ≡ true → (b == 10) ≡ false
 no_end b h = let l : nat_lt 10 b ≡ true = and_left (nat_lt 10 b) (nat_lt b 128) h in grind (arith, nat_tests)
 
--- a clean text and an LF after it are one line
+-- if t is `clean` (so it has no LF), then a text that is t, an LF and u is cut into the line t and the lines of u
 pub cut_clean : (t u : Text) → clean t ≡ true → cut (t ++ 10 ∷ u) ≡ t ∷ cut u
 cut_clean [] u h = refl
 cut_clean (b ∷ t) u h =
@@ -135,8 +135,8 @@ words_are ps g =
     ∙ ap split (take_all (length t) t (omega arith))
     ∙ cut_again ps (good_cut ps g)
 
--- if `AreGood` is true of the pieces and their tokens are parsed as a line, then the text of the pieces is parsed as
--- the same line
+-- if pieces are good (`AreGood`: each token is clean, and is the first token of the text from its place on) and their
+-- tokens are parsed as the line l, then the text of the pieces is parsed as l too
 pub line_says : (ps : List Piece) (l : Line) → AreGood ps → line_of (map kind_of (map token_of ps)) ≡ Some l
     → row_of (body ps) ≡ Some (row l (label_of l (map token_of ps)))
 line_says ps l g h = ap row_by (words_are ps g) ∙ ap (λ o. row_with o (map token_of ps)) h

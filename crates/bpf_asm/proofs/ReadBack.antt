@@ -21,13 +21,14 @@ use Rattle.bpf_asm.specs.Program.{fault_of, assembled_with, assembled, cut}
 use Rattle.bpf_asm.proofs.Again.{body}
 use Rattle.bpf_asm.proofs.LineText.{AreGood, body_clean, cut_clean, line_body, line_says}
 
--- the units of an instruction: two for a wide load (true), one for any other
+-- The units of an instruction. The first has the fields i. A wide load (true) has a second one, with the number `high`.
 abbrev pub units_by : Bool → Inst → ℤ → List ProgramUnit
 units_by true i high = First i ∷ Second high ∷ []
 units_by false i high = First i ∷ []
 
--- The text of these pieces is parsed as an instruction with the units of i. Its numbers are in range, and it doesn't
--- jump to a label. If `wide`, i is a wide load, and its second unit has the number `high`.
+-- The text of these pieces is parsed as an instruction whose first unit has the fields i. If `wide`, the instruction
+-- has a second unit, which holds the number `high`; if not, it has only the first. The numbers in the text are in
+-- range, and the instruction doesn't jump to a label.
 pub record ParsesAs (ps : List Piece) (wide : Bool) (i : Inst) (high : ℤ) : Type 0 where
   pub parsed : Statement
   pub good : AreGood ps
@@ -37,7 +38,8 @@ pub record ParsesAs (ps : List Piece) (wide : Bool) (i : Inst) (high : ℤ) : Ty
   pub len : statement_len parsed ≡ length (units_by wide i high)
   pub units : (labels : List Definition) (at : ℕ) (name : Text) → statement_units labels at name parsed ≡ units_by wide i high
 
--- The canonical line of an instruction is parsed as this instruction.
+-- The canonical line of an instruction is parsed as this instruction. The instruction has the form f, and its first
+-- unit has the fields i. If it is a wide load, its second unit holds the number `high`.
 abbrev pub ParsesBack : Form → Inst → ℤ → Type 0
 ParsesBack f i high = ParsesAs (pieces f i high) (is_wide (Some f)) i high
 

@@ -1,5 +1,5 @@
--- Definitions: the text of the instruction at a unit, and a program's text with the numbers of its units (this
--- profile).
+-- Definitions: the text of the instruction at a unit, and a program's text with the numbers of its units (source: this
+-- project).
 use Rattle.std.specs.Prelude.{ℕ, ◌+◌, List, [], ◌∷◌, ◌++◌, Option, Some, None, codes, drop}
 use Rattle.std.specs.Fmt.{decimal}
 use Rattle.bpf_model.specs.declared.instruction.Unit.{Unit as ProgramUnit}
@@ -17,7 +17,8 @@ front_line (Second v ∷ units) = None
 abbrev pub line_of_unit : List ProgramUnit → ℕ → Option (List ℕ)
 line_of_unit units number = front_line (drop number units)
 
--- the lines of a program, each with the number of its instruction's first unit before it; the units count from `number`
+-- the lines of a program, each with the number of its instruction's first unit before it; the units are numbered from
+-- `number` on
 abbrev pub numbered_from : ℕ → List ProgramUnit → List ℕ
 numbered_from number [] = []
 numbered_from number (First i ∷ units) =

@@ -1,5 +1,5 @@
--- Definitions: the program that a text assembles to, or the fault of the text. The assembler format is this profile's.
--- Its opcodes are those of RFC 9669 sections 4 and 5.
+-- Definitions: the program that a text assembles to, or the fault of the text. The assembler format is this project's
+-- own. Its opcodes are those of RFC 9669 sections 4 and 5.
 use Rattle.std.specs.Prelude.{◌≡◌, ℕ, suc, ◌+◌, ◌*◌, ◌/◌, ◌%◌, ◌^◌, ◌==◌, ◌≤◌, nat_lt, nat_le, Bool, true, false, not, ◌&&◌, ◌||◌, if◌then◌else◌, ℤ, pos, neg_ℤ}
 use Rattle.std.specs.Prelude.{List, [], ◌∷◌, ◌++◌, map, take, Option, Some, None, is_some, Result, Ok, Err, ⊤}
 use lib.IntN.{◌-ℤ◌}
@@ -137,8 +137,8 @@ abbrev pub or_fault : Option AsmFault → Option AsmFault → Option AsmFault
 or_fault (Some f) other = Some f
 or_fault None other = other
 
--- the fault of the first line that can't be parsed or has a number out of range; the lines count from `number`; None if
--- there is no such line
+-- the fault of the first line that can't be parsed or has a number out of range; the lines are numbered from `number`
+-- on; None if there is no such line
 abbrev pub first_line_fault : ℕ → List Text → Option AsmFault
 first_line_fault number [] = None
 first_line_fault number (text ∷ lines) = or_fault (row_fault number (row_of text)) (first_line_fault (number + 1) lines)
@@ -257,7 +257,7 @@ defining line.Label name at more = definition name at ∷ more
 defining line.Empty name at more = more
 defining (line.Statement s) name at more = more
 
--- the labels that the rows define, in their order, each with the unit that it names; the units count from `at`
+-- the labels that the rows define, in their order, each with the unit that it names; the first row begins at unit `at`
 abbrev pub labels_from : ℕ → List Row → List Definition
 labels_from at [] = []
 labels_from at (r ∷ rows) = defining r.parsed r.label at (labels_from (at + line_len_of r.parsed) rows)
@@ -280,7 +280,8 @@ jumps_to_label (Jump f p (Distance v)) = false
 jumps_to_label (Plain f p) = false
 jumps_to_label (Wide dst n) = false
 
--- The row defines a label that is among `before`, or it jumps to a label that isn't in `all`.
+-- Whether a row, given by its parsed line and its label, defines a label that is among `before`, or jumps to a label
+-- that isn't in `all`.
 abbrev pub is_wrong : List Definition → List Text → Line → Text → Bool
 is_wrong all before line.Empty name = false
 is_wrong all before line.Label name = is_among before name
@@ -291,8 +292,8 @@ with_name line.Label name names = names ++ name ∷ []
 with_name line.Empty name names = names
 with_name (line.Statement s) name names = names
 
--- The fault of the first row with a wrong label; None if there is no such row. The rows count from `number`. A row has
--- a wrong label in two cases:
+-- The fault of the first row with a wrong label; None if there is no such row. The rows are numbered from `number` on.
+-- A row has a wrong label in two cases:
 -- - It defines a label that is among `before`, or that an earlier row defines too.
 -- - It jumps to a label that isn't in `all`.
 abbrev pub label_fault : List Definition → ℕ → List Text → List Row → Option AsmFault
@@ -366,7 +367,7 @@ IsFault found (BadLabel n) = found ≡ Some (BadLabel n)
 IsFault found (OutOfRange n) = found ≡ Some (OutOfRange n)
 IsFault found Length = found ≡ Some Length
 
--- the returned fault is the one that the text has (`fault_of`), or that memory ran out
+-- the fault that a function returned is the one that the text has (`fault_of`), or that memory ran out
 abbrev pub IsRefused : Text → AsmFault → Type 0
 IsRefused text fault = IsFault (fault_of (cut text)) fault
 

@@ -1,4 +1,5 @@
--- Definitions: the text of a program file (source: this project).
+-- Definitions: the bytes of a program that a program file has as hexadecimal digits, and the lines in which a program's
+-- units are written (source: this project).
 use Rattle.std.specs.Prelude.{◌≡◌, ℕ, zero, suc, ◌*◌, ◌/◌, ◌==◌, ◌||◌, Bool, not, nat_le, if◌then◌else◌, List, [], ◌∷◌, ◌++◌, length, filter, take, drop}
 use Rattle.std.specs.Prelude.{Result, Ok, Err, ⊤}
 use Rattle.hex.specs.Hex.{decode_of, encode_lower}

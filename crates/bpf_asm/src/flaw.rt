@@ -65,7 +65,8 @@ impl fmt::Display for AsmFlaw<'_> {
 /// The most bytes of a line or a label that a message shows.
 const MOST_SHOWN: usize = 80;
 
-/// A line or a label. `Display` writes its first 80 bytes, each as `write_byte` does, and then ` ..` if it has more.
+/// A line or a label. `Display` writes its first 80 bytes, and then ` ..` if it has more. A byte that isn't a printable
+/// ASCII character is written as `\x` and two lower case hexadecimal digits.
 #[derive(Clone, Copy)]
 struct Beginning<'a>(&'a [u8]);
 

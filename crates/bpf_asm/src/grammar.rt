@@ -226,8 +226,8 @@ fn load(dst: u8, tokens: &[Token]) -> Option<Statement>
     }
 }
 
-// Returns how many bits this size has (8, 16 or 32), if a MOV of this width can extend the sign of that many bits.
-// Returns `None` if there is no such MOV.
+// Returns how many bits this size has (8, 16 or 32), or `None` if no MOV of this width sign-extends a number of this
+// size.
 fn extension(width: Width, size: Size) -> Option<u64>
     ensures { result ≡ spec.extension width size }
 {
@@ -427,9 +427,9 @@ fn jump_to(form: Form, fields: Fields, tokens: &[Token]) -> Option<Statement>
     Some(Statement::Jump(form, fields, target))
 }
 
-// Returns the instruction for the tokens after `if r1 CMP r2`: `goto` and a target. Returns `None` if they can't be
-// parsed, or if the widths differ. `width` and `dst` are the width and the number of `r1`, and `other` and `src` are
-// those of `r2`.
+// Parses the tokens after `if r1 CMP r2`, where CMP is a comparison such as `==`: `goto` and a target. Returns the
+// instruction, or `None` if the tokens can't be parsed, or if the widths of `r1` and `r2` differ. `width` and `dst` are
+// the width and the number of `r1`, and `other` and `src` are those of `r2`.
 fn register_branch(
     condition: Condition,
     width: Width,
@@ -451,8 +451,9 @@ fn register_branch(
     }
 }
 
-// Returns the instruction for the tokens after `if r1 CMP N`: `goto` and a target. Returns `None` if they can't be
-// parsed. `width` and `dst` are the width and the number of `r1`. `n` is N, or `None` if N is above 2^64 - 1.
+// Parses the tokens after `if r1 CMP N`, where CMP is a comparison such as `==`: `goto` and a target. Returns the
+// instruction, or `None` if the tokens can't be parsed. `width` and `dst` are the width and the number of `r1`. `n` is
+// N, or `None` if N is above 2^64 - 1.
 fn number_branch(
     condition: Condition,
     width: Width,
@@ -473,8 +474,8 @@ fn number_branch(
     }
 }
 
-// Returns the instruction for the tokens after `if r1 CMP -`: a number, `goto` and a target. Returns `None` if they
-// can't be parsed. `width` and `dst` are the width and the number of `r1`.
+// Parses the tokens after `if r1 CMP -`, where CMP is a comparison such as `==`: a number, `goto` and a target. Returns
+// the instruction, or `None` if the tokens can't be parsed. `width` and `dst` are the width and the number of `r1`.
 fn minus_branch(condition: Condition, width: Width, dst: u8, tokens: &[Token]) -> Option<Statement>
     ensures { result ≡ spec.branch condition width dst (Token.Minus ∷ tokens.now) }
 {
@@ -488,8 +489,9 @@ fn minus_branch(condition: Condition, width: Width, dst: u8, tokens: &[Token]) -
     }
 }
 
-// Returns the instruction for the tokens after `if r1 CMP`, or `None` if they can't be parsed. `width` and `dst` are
-// the width and the number of `r1`.
+// Parses the tokens after `if r1 CMP`, where CMP is a comparison such as `==`: the second operand, `goto` and a target.
+// Returns the instruction, or `None` if the tokens can't be parsed. `width` and `dst` are the width and the number of
+// `r1`.
 fn branch(condition: Condition, width: Width, dst: u8, tokens: &[Token]) -> Option<Statement>
     ensures { result ≡ spec.branch condition width dst tokens.now }
 {

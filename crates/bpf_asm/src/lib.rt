@@ -45,8 +45,8 @@ mod units;
 pub use flaw::AsmFlaw;
 pub use program_file::{MOST_BYTES, ProgramFileFault};
 
-/// Returns the upper 32 bits of a wide load's 64-bit number, or 0 for any other instruction. `units` are the units
-/// after the instruction's first unit. In a wide load, the first of them holds these bits.
+/// Returns the number in the first of `units` if that is the second unit of a wide load, or else 0. This number is the
+/// upper 32 bits of the load's 64-bit number. Callers pass the units after an instruction's first unit.
 fn high(units: &[Unit]) -> i32
     ensures { result ≡ high_of units.now }
 {
@@ -136,10 +136,10 @@ fn is_length(count: u64) -> bool
     1 <= count && count <= 512
 }
 
-// Returns the program of the rows, which are parsed lines. The numbers of each row must be in range, and an instruction
-// in a row must be one of this profile. The rows that `line::rows_of` returns fulfil both conditions. The error is
-// always `Length` if the program doesn't have 1 to 512 units. Otherwise it is `BadLabel` for the first row with a wrong
-// label (A2), or that memory ran out.
+// Assembles rows, which are parsed lines with their labels, and returns the program. The numbers of each row must be in
+// range, and an instruction in a row must be one of this profile. The rows that `line::rows_of` returns fulfil both
+// conditions. The error is always `Length` if the program doesn't have 1 to 512 units. Otherwise it is `BadLabel` for
+// the first row with a wrong label (A2), or that memory ran out.
 fn assemble_rows(alloc: Global, rows: &[(Line, &[u8])]) -> Result<Code, AsmFault>
     requires fits { spec.AreInRange (map (λ p. spec.row p.0 p.1.now) rows.now) }
     requires sound { AreSound (map (λ p. spec.row p.0 p.1.now) rows.now) }

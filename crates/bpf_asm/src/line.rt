@@ -82,8 +82,8 @@ fn row_by<'a>(alloc: Global, words: &[&'a [u8]]) -> Result<Option<(Line, &'a [u8
 }
 
 /// Parses a line, given without its LF. Returns the parsed line and a text: the label if the line defines one, the last
-/// token's text if the line is an instruction, or an empty text if the line is empty. If an instruction jumps to a
-/// label, its text is this label. Returns `None` if the line can't be parsed. The error is that memory ran out. A line
+/// token's text if the line is an instruction, or an empty text if the line is empty. In a jump to a label, the last
+/// token's text is this label. Returns `None` if the line can't be parsed. The error is that memory ran out. A line
 /// with a byte that isn't ASCII, even in its comment, gives `None` and no error.
 pub fn row_of<'a>(alloc: Global, line: &'a [u8]) -> Result<Option<(Line, &'a [u8])>, AllocError>
     ensures found { IfOk result (λ found. option_map (λ p. spec.row p.0 p.1.now) found ≡ spec.row_of line.now) }
@@ -179,9 +179,10 @@ pub fn cut<'a>(alloc: Global, text: &'a [u8]) -> Result<Vec<&'a [u8]>, AllocErro
     Ok(lines)
 }
 
-/// Parses `line`, whose number in the text is `number`. Returns the parsed line with a label, as `row_of` does. The
-/// error is that the line can't be parsed (A1), that a number in it is out of range (A3), or that memory ran out. A
-/// line with a byte that isn't ASCII always gives A1.
+/// Parses `line`, whose number in the text is `number`. Returns the parsed line and a text: the label if the line
+/// defines one, the last token's text if the line is an instruction, or an empty text if the line is empty. The error
+/// is that the line can't be parsed (A1), that a number in it is out of range (A3), or that memory ran out. A line with
+/// a byte that isn't ASCII always gives A1.
 fn row_at<'a>(alloc: Global, number: u64, line: &'a [u8]) -> Result<(Line, &'a [u8]), AsmFault>
     ensures ok { IfOk result (λ p. spec.row_of line.now ≡ Some (spec.row p.0 p.1.now)) }
     ensures none { IfOk result (λ p. spec.row_fault number (spec.row_of line.now) ≡ None) }

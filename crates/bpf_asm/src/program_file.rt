@@ -80,8 +80,9 @@ fn bytes_of(alloc: Global, digits: &[u8]) -> Result<Vec<u8>, ProgramFileFault>
 }
 
 /// Reads a program file, whose bytes are `text`, and returns the program's bytes. Spaces, tabs, CR and LF are skipped.
-/// The error is `TooLong` if the file has more than 65,536 bytes. Otherwise it is `BadDigits` if any other byte isn't a
-/// hexadecimal digit (lower or upper case) or if the number of digits is odd, or it is that memory ran out.
+/// The error is `TooLong` if the file has more than 65,536 bytes. Otherwise it is `BadDigits` if a byte is neither one
+/// of these blanks nor a hexadecimal digit (lower or upper case) or if the number of digits is odd, or it is that
+/// memory ran out.
 #[tactic(auto, unfolding(crate::specs::ProgramFile::program_in))]
 pub fn read_program(alloc: Global, text: &[u8]) -> Result<Vec<u8>, ProgramFileFault>
     ensures given { Gives (λ bytes. bytes.items) result (program_in text.now) }

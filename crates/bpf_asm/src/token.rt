@@ -8,8 +8,8 @@ pub enum Token {
     Register(Width, u8),
     /// A number; `None` if it is above 2^64 - 1.
     Number(Option<u64>),
-    /// An operator with its `=`, as in `+=`, or `=` alone. The number is the offset of the instruction: 1 for `s/=` and
-    /// `s%=`, else 0. For `=` alone the number isn't used.
+    /// An operator with its `=`, as in `+=`, or `=` alone. The number is the value of the instruction's offset field: 1
+    /// for `s/=` and `s%=`, else 0. For `=` alone the number isn't used.
     Assign(Operator, u64),
     Compare(Condition),
     Unsigned(Size),

@@ -171,8 +171,8 @@ fn place_or_zero(labels: &[(&[u8], u64)], name: &[u8]) -> u64
     }
 }
 
-// Returns the distance of a jump at unit `at` to unit `place`, in units from the unit after the jump. `at` and `place`
-// must be at most 512.
+// Returns the distance from a jump at unit `at` to unit `place`, in units counted from the unit after the jump. `at`
+// and `place` must be at most 512.
 fn apart(place: u64, at: u64) -> i16
     requires place { place ≤ UNITS }
     requires at { at ≤ UNITS }
@@ -183,8 +183,8 @@ fn apart(place: u64, at: u64) -> i16
     to - from
 }
 
-// Returns the distance of a jump at unit `at` to the label `name`, in units from the unit after the jump. A label that
-// isn't in `labels` counts as one that names unit 0. `at` and the units in `labels` must be at most 512.
+// Returns the distance from a jump at unit `at` to the label `name`, in units counted from the unit after the jump. A
+// label that isn't in `labels` counts as one that names unit 0. `at` and the units in `labels` must be at most 512.
 fn distance_to(labels: &[(&[u8], u64)], at: u64, name: &[u8]) -> i16
     requires at { at ≤ UNITS }
     requires places { spec.AreWithin UNITS (map (λ d. spec.definition d.0.now d.1) labels.now) }

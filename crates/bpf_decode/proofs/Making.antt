@@ -126,8 +126,8 @@ more_units true us e h = absurd (cc)
 more_units false us e h = some_next us h
 
 module _ (bytes : List ℕ) (n : ℕ) (whole : length bytes ≡ 8 * n) where
-  -- The first pc units are decoded as `front`, without a fault, and the units of `back` are encoded in the bytes after
-  -- them. `first` says whether an instruction begins at unit pc.
+  -- The first pc units of the bytes are decoded as `front`, without a fault. The bytes after them are what the units of
+  -- `back` are encoded as. `first` says whether an instruction begins at unit pc.
   record Kept (pc : ℕ) (first : Bool) (front back : List ProgramUnit) : Type 0 where
     rest : drop (8 * pc) bytes ≡ encoded back
     place : begins bytes pc ≡ first

@@ -6,7 +6,7 @@ use Rattle.bpf_model.specs.declared.instruction.Unit.{Unit as ProgramUnit}
 use Rattle.bpf_model.specs.declared.instruction.Unit.TheVariants.{First, Second}
 use Rattle.bpf_model.specs.Reading.{form_of, first_fault, is_wide}
 
--- each field's value fits the bits of the field, and the instruction has no fault in a place where another unit follows
+-- each field's value fits the bits of the field, and the instruction has no fault if another unit follows it
 pub record IsInstruction (i : Inst) : Type 0 where
   pub opcode : i.opcode < 256
   pub dst : i.dst < 16

@@ -1,4 +1,4 @@
-// The limits that this profile sets.
+// Limits that this project's profile of BPF sets.
 
 /// The greatest number of units that a program can have. A unit is eight bytes.
 pub const UNITS: usize = 512;

@@ -39,7 +39,7 @@ spare_rule name = new_rule name
 abbrev pub kind_rule : Rule
 kind_rule = record (new_rule (codes "kind")) { required = true }
 
--- --counters MASK, a number from 0 to 2^32 - 1, which is 0 if the option isn't given
+-- the option --counters MASK; MASK is a number from 0 to 2^32 - 1, and is 0 if the option isn't given
 abbrev pub mask_rule : Rule
 mask_rule =
     record (new_rule (codes "counters")) {
@@ -49,16 +49,16 @@ mask_rule =
       defaults = codes "0" ∷ [];
     }
 
--- --context LAYOUT, which is 1 if the option isn't given
+-- the option --context LAYOUT; LAYOUT is 1 if the option isn't given
 abbrev pub context_rule : Rule
 context_rule =
     record (new_rule (codes "context")) { long = Some (codes "context"); value_names = 1; defaults = codes "1" ∷ [] }
 
--- the option with this name, which has a value, such as --journal FILE
+-- an option with this name that takes a value, such as --journal FILE
 abbrev pub option_rule : Text → Rule
 option_rule name = record (new_rule name) { long = Some name; value_names = 1 }
 
--- the option with this name, which has no value, such as --units
+-- an option with this name that takes no value, such as --units
 abbrev pub flag_rule : Text → Rule
 flag_rule name = record (new_rule name) { long = Some name; action = Some SetTrue }
 
@@ -171,7 +171,7 @@ opening_in rows = first_of (codes "opening") rows
 abbrev pub days_in : List Row → Option Text
 days_in rows = first_of (codes "days") rows
 
--- The option with this name, which has no value, is given.
+-- Whether the option with this name, which takes no value, is given.
 abbrev pub is_set : Text → List Row → Bool
 is_set id rows = option_map_or (λ (t : Text). bytes_eq t (codes "true")) (first_of id rows) false
 
@@ -241,8 +241,10 @@ abbrev pub serve_days_by : Option Text → Option Text → Bool → Bool → Tex
 serve_days_by None None synced new_day folder config = Some (serve_days synced new_day folder config)
 serve_days_by opening journal synced new_day folder config = None
 
--- What `serve` asks for, given its values and CONFIG: the result of `serve_days_by` if --days is given, or else the
--- result of `serve_by`. None for --new-day without --days.
+-- What `serve` asks for, given its values and CONFIG:
+-- - if --days is given: the result of `serve_days_by`
+-- - if --new-day is given without --days: None
+-- - or else: the result of `serve_by`
 abbrev pub served_in : List Row → Text → Option JobRequest
 served_in rows config =
     elim (days_in rows) [
@@ -311,7 +313,8 @@ IsHelpOrVersion k = (k ≡ kind.DisplayHelp) ⊎ (k ≡ kind.DisplayVersion)
 abbrev pub MayShow : Kinds → Type 0
 MayShow kinds = (k : ErrorKind) × IsAmong k kinds × IsHelpOrVersion k
 
--- Among the errors that `clap` can return for the arguments is one that isn't the help, the version or out of memory.
+-- Among the errors that `clap` can return for the arguments is one that is none of these: the help, the version, and
+-- that memory ran out.
 abbrev pub MayRefuse : Kinds → Type 0
 MayRefuse kinds = (k : ErrorKind) × IsAmong k kinds × ¬ IsHelpOrVersion k × (k ≢ kind.OutOfMemory)
 
@@ -373,7 +376,8 @@ unasked_text found = unasked_words found ++ 10 ∷ 10 ∷ further
 
 -- When a command line can be refused with this fault:
 -- - `Usage` with any text: if `clap` can refuse the arguments
--- - `Usage` with the text `unasked_text`: if there is no job for the command line (`HasNoJob`)
+-- - `Usage` with the message about wrong, contradictory or incomplete values (`unasked_text`): if there is no job for
+--   the command line (`HasNoJob`)
 -- - `OutOfMemory`: always
 abbrev pub RefusesBy : Kinds → Option (Text × List Row) → CommandFault → Type 0
 RefusesBy kinds found (refusal.Usage text) = MayRefuse kinds ⊎ (HasNoJob found × (string_bytes text ≡ unasked_text found))

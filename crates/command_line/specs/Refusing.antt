@@ -10,13 +10,14 @@ use Rattle.command_line.specs.declared.job.Job.{Job}
 use Rattle.command_line.specs.declared.job.CommandFault.{CommandFault}
 use Rattle.command_line.specs.declared.job.CommandFault.TheVariants as refusal
 
--- The result is the number that --counters gives. It is None only if --counters has no value, or one that isn't the
--- text of a number from 0 to 2^32 - 1.
+-- `ReadsMask rows result`: `result` is the number that --counters gives. It is None only if --counters has no value, or
+-- one that isn't the text of a number from 0 to 2^32 - 1.
 abbrev pub ReadsMask : List Row → Option ℕ → Type 0
 ReadsMask rows (Some n) = mask_in rows ≡ Some n
 ReadsMask rows None = (mask_in rows ≡ None) ⊎ HasNoMask rows
 
--- The result is the two files that the arguments with these two names give, or None if one of them isn't given.
+-- `FindsFiles first second rows result`: `result` is the two files that the arguments `first` and `second` give, or
+-- None if one of them isn't given.
 abbrev pub FindsFiles : Text → Text → List Row → Option (String Global × String Global) → Type 0
 FindsFiles first second rows (Some p) =
     (ask : Text → Text → JobRequest) → files_in first second ask rows ≡ Some (ask (string_bytes p.0) (string_bytes p.1))
@@ -27,8 +28,9 @@ abbrev pub Asks : Option JobRequest → Option Job → Type 0
 Asks wanted (Some job) = (wanted ≡ requested job) × IsSome (requested job)
 Asks wanted None = wanted ≡ None
 
--- The result is the job that a subcommand's values ask for. It is None only if there is no job for these values
--- (`subcommand_request` is None), or if the value of --counters isn't the text of a number from 0 to 2^32 - 1.
+-- `Finds name rows result`: `result` is the job that the subcommand `name` with the values `rows` asks for. It is None
+-- only if there is no job for these values (`subcommand_request` is None), or if the value of --counters isn't the text
+-- of a number from 0 to 2^32 - 1.
 abbrev pub Finds : Text → List Row → Option Job → Type 0
 Finds name rows (Some job) = (subcommand_request name rows ≡ requested job) × IsSome (requested job)
 Finds name rows None = (subcommand_request name rows ≡ None) ⊎ HasNoMask rows
@@ -38,7 +40,8 @@ IsJobOfLine found (Some job) = (parsed_request found ≡ requested job) × IsSom
 IsJobOfLine found None = HasNoJob found
 
 -- When a parsed command line can be refused with this fault:
--- - `Usage` with the text `unasked_text`: if there is no job for the command line (`HasNoJob`)
+-- - `Usage` with the message about wrong, contradictory or incomplete values (`unasked_text`): if there is no job for
+--   the command line (`HasNoJob`)
 -- - `OutOfMemory`: always
 abbrev pub IsNoJobMessage : Option (Text × List Row) → CommandFault → Type 0
 IsNoJobMessage found (refusal.Usage text) = HasNoJob found × (string_bytes text ≡ unasked_text found)

@@ -100,7 +100,8 @@ pub enum ServeJob {
         config: String,
         journal: String,
     },
-    /// Like `Kept`, but send an answer only after its line in the journal is synced.
+    /// Write the journal to a file as it grows. If the file has a journal already, go on from it. Send an answer only
+    /// after its line in the journal is synced.
     Synced {
         opening: Option<String>,
         config: String,

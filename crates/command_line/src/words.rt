@@ -70,7 +70,7 @@ fn asm_of(alloc: Global, matches: &ArgMatches) -> Result<Option<Job>, AllocError
     }
 }
 
-/// Returns whether the option `id`, which has no value, is given.
+/// Returns whether the option `id`, which takes no value, is given.
 fn is_set(matches: &ArgMatches, id: &str) -> bool
     ensures { result ≡ is_set id.now (rows_of (found_of matches.now)) }
 {
@@ -146,8 +146,8 @@ fn days_of(alloc: Global, matches: &ArgMatches) -> Result<Option<String>, AllocE
     file_of(alloc, matches, "days")
 }
 
-/// Returns the name of the file that JOURNAL or `--journal` gives, or `None` if neither is given. The error is that
-/// memory ran out.
+/// Returns the name of the file that the argument JOURNAL or the option `--journal` gives, or `None` if neither is
+/// given. The error is that memory ran out.
 fn journal_of(alloc: Global, matches: &ArgMatches) -> Result<Option<String>, AllocError>
     ensures { IfOk result (λ file. first_of (codes "journal") (rows_of (found_of matches.now)) ≡ named file) }
 {
@@ -271,8 +271,8 @@ fn row_format(matches: &ArgMatches) -> Format
     }
 }
 
-/// Returns the job of `fc export`, or `None` if KIND names no rows, or if CONFIG or JOURNAL isn't given. The error is
-/// that memory ran out, which is possible only if KIND names rows.
+/// Returns the job of `fc export`, or `None` if KIND isn't the name of a kind of rows, or if KIND, CONFIG or JOURNAL
+/// isn't given. The error is that memory ran out, which is possible only if KIND is the name of a kind of rows.
 fn export_of(alloc: Global, matches: &ArgMatches) -> Result<Option<Job>, AllocError>
     ensures job { IfOk result (Finds (codes "export") (rows_of (found_of matches.now))) }
     ensures kind { kind_in (rows_of (found_of matches.now)) ≡ None → IsOk result }

@@ -26,8 +26,8 @@ load_entered old moment slot p (answers.Line fault) new h accepted memory = h
 load_entered old moment slot p (answers.Program number unit part) new h accepted memory = absurd h
 load_entered old moment slot p answers.JournalFailed new h accepted memory = h
 
--- The act isn't a load, or its program is good, accepted, and one for which memory may run out (`MayLackMemory`). Then
--- an answer that fits the act's event fits the act.
+-- If the act isn't a load, or its program is good, accepted, and one for which memory may run out (`MayLackMemory`),
+-- then an answer that fits the act's event (`EventAnswered`) fits the act (`ActAnswered`).
 pub act_entered : (old : SiteValue) (moment : ℕ) (act : Act) (answer : Answer) (new : SiteValue) → EventAnswered old moment act answer new → IsGoodAct act
     → load_refusal act ≡ None → MayLackMemory act → ActAnswered old moment act answer new
 act_entered old moment (acts.Till till request) answer new h good accepted memory = h
@@ -40,8 +40,9 @@ act_not_refused (acts.Till till request) answer good accepted = tt
 act_not_refused (acts.Dispenser point event) answer good accepted = tt
 act_not_refused (acts.Load slot mask layout bytes) answer good accepted = inl (record { accepted = accepted; good = good })
 
--- The act's program is refused with `refusal`. If `refusal` has no numbers, memory may run out for the program
--- (`MayLackMemory`). Then an answer fits the act if it fits each load of a program of which the same is true.
+-- If the act's program is refused with `refusal`, then an answer fits the act if it fits the load of each program that
+-- is refused with `refusal`. If `refusal` has no numbers (memory ran out), the act's program must be one for which
+-- memory can run out (`MayLackMemory`), and the answer need fit only the loads of such programs.
 pub act_refused : (old : SiteValue) (moment : ℕ) (act : Act) (refusal : Refusal) (answer : Answer)
     → ((slot : ℕ) (p : ProgramText) → IsRefused p refusal → IsRefusal (refusal_of p) refusal → (refusal_numbers refusal ≡ None → MayRunOutOfMemory p)
     → LoadAnswered old moment slot p answer old)

@@ -45,8 +45,8 @@ event_alike old moment act (answers.Line fault) b new other h k p q = absurd h
 event_alike old moment act (answers.Program n u t) b new other h k p q = absurd h
 event_alike old moment act answers.JournalFailed b new other h k p q = absurd h
 
--- `IsRefusal` says that `refusal` is the one in `wanted` or `OutOfMemory`. If `refusal` has numbers, it is the one in
--- `wanted`, since `OutOfMemory` has none.
+-- If `refusal` is the one in `wanted` or `OutOfMemory` (`IsRefusal`), and has numbers, then it is the one in `wanted`,
+-- since `OutOfMemory` has no numbers.
 wanted_is : (wanted : Option Refusal) (refusal : Refusal) (numbers : ℕ × (Option ℕ) × (Option ℕ)) → IsRefusal wanted refusal
     → refusal_numbers refusal ≡ Some numbers → wanted ≡ Some refusal
 wanted_is wanted refusals.OutOfMemory numbers h e = absurd (cc)

@@ -75,8 +75,8 @@ no_journal (Err session.ReadsSpent) a m left i j o p h is = absurd (cc)
 no_journal (Err session.OutOfMemory) a m left i j o p h is = absurd (cc)
 no_journal (Err session.Journal) a m left i j o p h is = (h (λ e. absurd (cc))).3.3
 
--- `text` is an answer to `line`. If writing it fails with the error `Write`, after a beginning of it was written
--- (perhaps an empty one), then `HandlerFails` allows this error.
+-- If `text` is an answer to `line`, and writing it fails with the error `Write` after a beginning of it was written
+-- (perhaps an empty one), then the handler of the line may return this error (`HandlerFails`).
 module _ {S O : Type 0} (out : O → Option (List ℕ)) (answers_with : S → List ℕ → List ℕ → S → Type 0) (line text : List ℕ) (s s' : S) (o o' : O)
     (all_answered : answers_with s line text s') (needs_memory : List ℕ → Type 0) where
   pub falls_short : {T : Type 0} (r : Result T HandlerError) → OnErr r ((k : ℕ) × Appends (out o) (out o') (take k text)) → IfErr r (λ e. e ≡ error.Write)

@@ -1,4 +1,4 @@
--- A line of more than five words is a bad line, since no form has more words.
+-- A line of more than five words is a bad line, since no form of a script's line has more words.
 use Rattle.std.proofs.Common.{◌≡◌, ℕ, ◌<◌, List, [], ◌∷◌, length, Ok, Err, ap, arith}
 use Rattle.std.proofs.lemmas.Bool.{and_parts}
 use Rattle.till_request.specs.declared.act.LineFault.TheVariants.{BadLine}

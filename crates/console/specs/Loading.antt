@@ -16,8 +16,8 @@ abbrev pub IsRefusedLoad : Act → Refusal → Type 0
 IsRefusedLoad (acts.Load slot mask layout bytes) refusal = refusal_of (as_loaded bytes mask layout) ≡ Some refusal
 IsRefusedLoad act refusal = ⊥
 
--- If the act is a load, then the verifier accepts its program, and the program is good (`IsAcceptedAndGood`), or the
--- answer is that memory ran out. Of other acts nothing is claimed.
+-- If the act is a load, then either the verifier accepts its program, which is good (`IsAcceptedAndGood`: every run of
+-- it ends safely), or the answer is that memory ran out. Of other acts nothing is claimed.
 abbrev pub IsNotRefused : Act → Answer → Type 0
 IsNotRefused (acts.Load slot mask layout bytes) answer = IsAcceptedAndGood (as_loaded bytes mask layout) ⊎ (answer ≡ answers.OutOfMemory)
 IsNotRefused act answer = ⊤

@@ -94,9 +94,9 @@ abbrev pub counter_text : Option (ℕ × ℕ) → List ℕ
 counter_text (Some p) = join_with_byte 32 (codes "counter" ∷ decimal p.0 ∷ decimal p.1 ∷ []) ++ 10 ∷ []
 counter_text None = answer_line (answers.Line faults.BadNumber)
 
--- The text answers this parsed line. The two pairs are the moment and the site, before and after the line. The answer
--- to `journal` is the text of the site's history. This text is a journal that a site with the same configuration can
--- have (`IsJournal`).
+-- The text answers this parsed line. The first pair is the moment and the site before the line, the second pair those
+-- after it. The answer to `journal` is the text of the site's history. This text is a journal that a site with the same
+-- configuration can have (`IsJournal`).
 abbrev pub IsLineAnswerText : Result ScriptLine LineFault → ℕ × SiteValue → List ℕ → ℕ × SiteValue → Type 0
 IsLineAnswerText (Err fault) s text s' = (text ≡ answer_line (answers.Line fault)) × (s' ≡ s)
 IsLineAnswerText (Ok (lines.Act act)) s text s' = IsActAnswerText s.1 s.0 act text s'.1 × (s'.0 ≡ s.0)
@@ -104,7 +104,8 @@ IsLineAnswerText (Ok (lines.Moment n)) s text s' = (text ≡ moment_text n) × (
 IsLineAnswerText (Ok (lines.Counter c)) s text s' = (text ≡ counter_text (counter_of s.1.state c)) × (s' ≡ s)
 IsLineAnswerText (Ok lines.Journal) s text s' = (text ≡ journal_text s.1.history) × IsJournal s.1.config text × (s' ≡ s)
 
--- The text answers this line of a script. The two pairs are the moment and the site, before and after the line.
+-- The text answers this line of a script. The first pair is the moment and the site before the line, the second pair
+-- those after it.
 abbrev pub AnswersScriptLine : ℕ × SiteValue → List ℕ → List ℕ → ℕ × SiteValue → Type 0
 AnswersScriptLine s line text s' = IsLineAnswerText (line_of line) s text s'
 
@@ -130,7 +131,7 @@ pub record PlayEnds (site : SiteValue) (in_old in_new out_old out_new : Option (
   pub ends : Ends AnswersScriptLine (0, site) (moment, left) in_old in_new out_old out_new count cut
 
 -- The play failed, and a beginning of its answers was written. At the play's end the moment is `moment`, and the site
--- is `left`. Each change of the site was made by a line that has one of these answers, written or not.
+-- is `left`. Each change of the site was made by a line that has an answer, even if this answer wasn't written.
 pub record PlayBreaks (site : SiteValue) (in_old in_new out_old out_new : Option (List ℕ)) : Type 0 where
   pub moment : ℕ
   pub left : SiteValue

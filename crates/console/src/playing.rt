@@ -70,8 +70,7 @@ pub fn play<I: LineIn, O: LineOut>(
         (O.written output.new)) }
     ensures read_fault { RoseBy (one_if (is_read result)) (I.failures input.old) (I.failures input.new) }
     ensures write_fault { RoseBy (one_if (is_write result)) (O.failures output.old) (O.failures output.new) }
-    ensures reads { SpendsReads session_reads result (I.reads input.old) (I.reads input.new) (I.asked input.old)
-        (I.asked input.new) }
+    ensures reads { SpendsReads session_reads result I.reads I.asked input.old input.new }
     ensures journal { result ≢ Err SessionFault.Journal }
     ensures stopped { IfErr result (λ fault. fault ≢ SessionFault.Write
         → PlayStops fault (new_site config) (I.remaining input.old) (I.remaining input.new) (O.written output.old)

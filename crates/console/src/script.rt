@@ -23,7 +23,7 @@ pub enum ScriptLine {
     Journal,
 }
 
-/// Returns whether `word` is `name`, and `value` isn't empty.
+/// Returns whether `word` is `name` and `value` isn't empty.
 fn is_pair(word: &[u8], name: &[u8], value: &[u8]) -> bool
     ensures { result ≡ is_named word.now name.now value.now }
 {

@@ -58,8 +58,9 @@ if-all P points k p false all h = no-point p h
 all-at : (P : PointState → Type 0) (points : List PointState) (n : ℕ) (p : PointState) → All P points → at_number points n ≡ Some p → P p
 all-at P points n p all h = if-all P points (n - 1) p (nat_le 1 n) all h
 
--- ---- These lemmas show: if `HasValidOpeningPoints` holds, then `GivenOut` is true for the points with which the day
--- begins.
+-- ---- These lemmas show: if the configuration has no opening, or one whose points are all valid
+-- (`HasValidOpeningPoints`), then no transaction that is unpaid when the day begins has a number over the last that its
+-- point has given out (`GivenOut`).
 
 -- No unpaid transaction has a number greater than the last number that its point gave out.
 abbrev pub GivenOut : List PointState → Type 0
@@ -93,8 +94,8 @@ opened-points config (Some o) is fits = λ n x p at found.
     let whole : IsPointState p = all-at IsPointState o.points n p (fits o is) (ap (λ ps. at_number ps n) (sym same) ∙ at) in
     found-within x p.last p.unpaid whole.unpaid found
 
--- ---- Let a list have no delivery for transaction x of point n. These lemmas show that it still has none if deliveries
--- are removed from it, or if a delivery for another transaction is added to it.
+-- ---- These lemmas show: if a list has no delivery for transaction x of point n, then it still has none after
+-- deliveries are removed from it, or after a delivery for another transaction is added to it.
 
 none-head : (b : Bool) (u : Delivery) (o : Option Delivery) → (if b then Some u else o) ≡ None → (b ≡ false) × (o ≡ None)
 none-head true u o h = absurd (let e : ◌≡◌ {A = Option Delivery} (Some u) None = h in cc)
@@ -150,7 +151,8 @@ none-between prices number m (Some p) (Some q) n x apart =
     none-at number m _ p q n x (q.last == p.last + 1) refl (λ same grew. apart p q refl refl same grew)
 
 -- ---- `Holds` is an invariant of the day's state. These lemmas show that it is true when the day begins, and that an
--- entry keeps it true, if `GivenOut` is true for the points when the day began.
+-- entry keeps it true, if no transaction that was unpaid when the day began had a number over the last that its point
+-- had given out (`GivenOut`).
 
 -- `first` are the points when the day began, and s is the state now. The record says:
 -- - The last transaction number of each point is at least what it was when the day began.
@@ -211,8 +213,12 @@ holds-more first s e given holds = record {
       (none-uncleared s.unpaid (sale_of s.points e) e.act n x (holds.none n x old)) (none-ended first s e n x given holds old);
 }
 
--- ---- These lemmas show `HasNoDeliveryIfCarriedIn` for each row of a sale. `GivenOut` must be true for the points when
--- the day began, and `Holds` for the state before the entries that the rows are made from.
+-- ---- These lemmas show for the row of each sale: if the sale's transaction was unpaid when the day began, then the
+-- row has no delivery (`HasNoDeliveryIfCarriedIn`). The rows are made from a list of entries. Two things must be so:
+-- - No transaction that was unpaid when the day began had a number over the last that its point had given out
+--   (`GivenOut`).
+-- - `Holds` is true before these entries: in particular, no delivery in the day's state became a transaction that was
+--   unpaid when the day began.
 
 -- If a sale's transaction was unpaid when the day began, then the sale's row has no delivery. The first argument is the
 -- list of the points when the day began.

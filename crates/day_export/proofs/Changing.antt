@@ -1,6 +1,6 @@
 -- An entry changes at most one point: the point that its act names.
 use Rattle.std.proofs.Common.{◌≡◌, ◌≤◌, ◌⊎◌, ℕ, ◌-◌, arith, Bool, true, false, List, [], ◌∷◌, zero, suc, Option, Some, None, slice_get, slice_set}
-use Rattle.std.proofs.Common.{refl, ap, sym, subst, inl, inr}
+use Rattle.std.proofs.Common.{refl, ap, subst, inl, inr}
 use Rattle.std.specs.Prelude.{nat_le, nat_lt, if◌then◌else◌}
 use Rattle.std.proofs.lemmas.Bool.{leb-true}
 use Rattle.fuelling_point.specs.Table.{PointState}
@@ -11,9 +11,10 @@ use Rattle.till_request.specs.declared.act.Act.{Act}
 use Rattle.till_request.specs.declared.act.Act.TheVariants as act
 use Rattle.till_request.specs.declared.act.Reply.{Reply}
 use Rattle.till_request.specs.declared.act.Reply.TheVariants as reply
+use Rattle.till_request.specs.Grammar.{by_form}
 use Rattle.site_core.specs.State.{at_number}
 use Rattle.site_core.specs.Decide.{after_command}
-use Rattle.day_report.specs.Walk.{after_event, done_command, granted_command, with_act, with_changed, with_command}
+use Rattle.day_report.specs.Walk.{after_event, executed_command, with_act, with_changed, with_command}
 use Rattle.day_report.proofs.Walking.{changed-at, changed-nowhere}
 use Rattle.day_export.specs.DayState.{point_of_request, point_of_act}
 use Rattle.day_export.proofs.Growing.{Grows, command-grows, event-grows}
@@ -39,61 +40,33 @@ command-by : (points : List PointState) (till m : ℕ) (c : Command) (b : Bool)
 command-by points till m c true = changes points m (λ p. after_command p till c) (λ p. command-grows p till c) (at_number points m) refl
 command-by points till m c false = inl refl
 
--- If the optional command o is None or is for point m, then executing it changes at most point m.
-told-at : (points : List PointState) (till m : ℕ) (o : Option (ℕ × Command)) → ((n : ℕ) (c : Command) → o ≡ Some (n, c) → n ≡ m)
+-- The number of the point that an optional command is for; m if there is no command.
+abbrev point_or : ℕ → Option (ℕ × Command) → ℕ
+point_or m None = m
+point_or m (Some (n, c)) = n
+
+-- If an optional command is None or is for point m, then executing it changes at most point m.
+optional-changes : (points : List PointState) (till m : ℕ) (o : Option (ℕ × Command)) → point_or m o ≡ m
     → Changes m points (elim o as (λ _. List PointState) [ None ↦ points | Some c ↦ with_command points till c ])
-told-at points till m None here = inl refl
-told-at points till m (Some (n, c)) here =
-    subst (λ k. Changes k points (with_command points till (n, c))) (here n c refl) (command-by points till n c (nat_lt 0 till))
+optional-changes points till m None here = inl refl
+optional-changes points till m (Some (n, c)) here =
+    subst (λ k. Changes k points (with_command points till (n, c))) here (command-by points till n c (nat_lt 0 till))
 
-first-is : (a b : ℕ) (c d : Command) → ◌≡◌ {A = Option (ℕ × Command)} (Some (a, c)) (Some (b, d)) → b ≡ a
-first-is a b c d h =
-    let both : ◌≡◌ {A = ℕ × Command} (a, c) (b, d) = cc in
-    sym (ap (λ (x : ℕ × Command). x.0) both)
-
-no-command : {P : Type 0} (n : ℕ) (c : Command) → ◌≡◌ {A = Option (ℕ × Command)} None (Some (n, c)) → P
-no-command n c h = absurd (cc)
-
-done-here : (r : Request) (n : ℕ) (c : Command) → done_command r ≡ Some (n, c) → n ≡ point_of_request r
-done-here (request.Release m a) n c h = no-command n c h
-done-here (request.Preset m a) n c h = no-command n c h
-done-here (request.Price m a) n c h = no-command n c h
-done-here (request.OpenPoint m) n c h = first-is m n _ c h
-done-here (request.ClosePoint m) n c h = first-is m n _ c h
-done-here (request.Suspend m) n c h = first-is m n _ c h
-done-here (request.Resume m) n c h = first-is m n _ c h
-done-here (request.Stop m) n c h = first-is m n _ c h
-done-here (request.Lock m x) n c h = first-is m n _ c h
-done-here (request.Unlock m x) n c h = first-is m n _ c h
-done-here (request.Clear m x) n c h = first-is m n _ c h
-done-here (request.Show m) n c h = no-command n c h
-
-granted-here : (r : Request) (g n : ℕ) (c : Command) → granted_command r g ≡ Some (n, c) → n ≡ point_of_request r
-granted-here (request.Release m a) g n c h = first-is m n _ c h
-granted-here (request.Preset m a) g n c h = first-is m n _ c h
-granted-here (request.Price m a) g n c h = no-command n c h
-granted-here (request.OpenPoint m) g n c h = no-command n c h
-granted-here (request.ClosePoint m) g n c h = no-command n c h
-granted-here (request.Suspend m) g n c h = no-command n c h
-granted-here (request.Resume m) g n c h = no-command n c h
-granted-here (request.Stop m) g n c h = no-command n c h
-granted-here (request.Lock m x) g n c h = no-command n c h
-granted-here (request.Unlock m x) g n c h = no-command n c h
-granted-here (request.Clear m x) g n c h = no-command n c h
-granted-here (request.Show m) g n c h = no-command n c h
+-- The command that is carried out for a request is for the point that the request names.
+executed-here : (q : Request) (r : Reply) → point_or (point_of_request (by_form q)) (executed_command q r) ≡ point_of_request (by_form q)
+executed-here (request.Show m) reply.Done = refl
+executed-here (request.Show m) (reply.Granted g v) = refl
+executed-here _ reply.Done = refl
+executed-here _ (reply.Granted g v) = refl
+executed-here _ _ = refl
 
 pub act-changes : (points : List PointState) (a : Act) (r : Reply) → Changes (point_of_act a) points (with_act points a r)
-act-changes points (act.Till till q) reply.Done = told-at points till (point_of_request q) (done_command q) (done-here q)
-act-changes points (act.Till till q) (reply.Granted g v) = told-at points till (point_of_request q) (granted_command q g) (granted-here q g)
-act-changes points (act.Till till q) (reply.Version v) = inl refl
-act-changes points (act.Till till q) (reply.Order o) = inl refl
-act-changes points (act.Till till q) (reply.Point a b c d e f g) = inl refl
-act-changes points (act.Till till q) (reply.Refused n v) = inl refl
+act-changes points (act.Till till q) r = optional-changes points till (point_of_request (by_form q)) (executed_command q r) (executed-here q r)
 act-changes points (act.Dispenser n event) r = changes points n (λ p. after_event p event) (λ p. event-grows p event) (at_number points n) refl
 act-changes points (act.Load slot mask layout bytes) r = inl refl
 
--- ---- Let point m be replaced by q. These lemmas show that q is then found at number m, and that any other number has
--- the same point as before.
+-- ---- These lemmas show: if point m is replaced by q, then q is found at number m, and any other number has the same
+-- point as before.
 
 get-set-other : (points : List PointState) (i k : ℕ) (q : PointState) → (i ≡ k → ⊥) → slice_get (slice_set points i q) k ≡ slice_get points k
 get-set-other [] i k q other = refl

@@ -65,24 +65,8 @@ clear-made points e till n y (Some t) sale is h =
 
 pub made-clears : (points : List PointState) (e : Entry) (a : Act) (r : Reply) (sale : Sale) → made points e a r ≡ Some sale → Cleared points a r sale
 made-clears points e (act.Till till (request.Clear n y)) reply.Done sale h = clear-made points e till n y (unpaid_at points n y) sale refl h
-made-clears points e (act.Till till (request.Release n a)) reply.Done sale h = absurd (cc)
-made-clears points e (act.Till till (request.Preset n a)) reply.Done sale h = absurd (cc)
-made-clears points e (act.Till till (request.Price n a)) reply.Done sale h = absurd (cc)
-made-clears points e (act.Till till (request.OpenPoint n)) reply.Done sale h = absurd (cc)
-made-clears points e (act.Till till (request.ClosePoint n)) reply.Done sale h = absurd (cc)
-made-clears points e (act.Till till (request.Suspend n)) reply.Done sale h = absurd (cc)
-made-clears points e (act.Till till (request.Resume n)) reply.Done sale h = absurd (cc)
-made-clears points e (act.Till till (request.Stop n)) reply.Done sale h = absurd (cc)
-made-clears points e (act.Till till (request.Lock n x)) reply.Done sale h = absurd (cc)
-made-clears points e (act.Till till (request.Unlock n x)) reply.Done sale h = absurd (cc)
-made-clears points e (act.Till till (request.Show n)) reply.Done sale h = absurd (cc)
-made-clears points e (act.Dispenser n event) reply.Done sale h = absurd (cc)
-made-clears points e (act.Load slot mask layout bytes) reply.Done sale h = absurd (cc)
-made-clears points e a (reply.Granted g v) sale h = absurd (cc)
-made-clears points e a (reply.Version v) sale h = absurd (cc)
-made-clears points e a (reply.Order o) sale h = absurd (cc)
-made-clears points e a (reply.Point b c d f g i j) sale h = absurd (cc)
-made-clears points e a (reply.Refused n v) sale h = absurd (cc)
+made-clears points e _ reply.Done sale h = absurd (cc)
+made-clears points e _ _ sale h = absurd (cc)
 
 -- ---- These lemmas show: if a till's request Clear is answered `done`, then the transaction is no longer unpaid.
 
@@ -118,8 +102,9 @@ point-clears : (s : SiteState) (n y till : ℕ) (p : PointState) (a : StepResult
 point-clears s n y till p (Err f) is h = fault-no f h
 point-clears s n y till p (Ok (q, d)) is h =
     let left : q.unpaid ≡ without y p.unpaid = cleared-is (find_number y p.unpaid) (λ t. t.holder == till) p q y d is in
-    let is_delivery_of : after_command p till (command.Clear y) ≡ q = ap (λ (x : StepResult (Option ℕ)). elim x as (λ _. PointState) [ Ok o ↦ o.0 | Err _ ↦ p ]) is in
-    ap (λ (x : PointState). find_number y x.unpaid) is_delivery_of ∙ ap (find_number y) left ∙ gone y p.unpaid
+    let new_is : after_command p till (command.Clear y) ≡ q =
+    ap (λ (x : StepResult (Option ℕ)). elim x as (λ _. PointState) [ Ok o ↦ o.0 | Err _ ↦ p ]) is in
+    ap (λ (x : PointState). find_number y x.unpaid) new_is ∙ ap (find_number y) left ∙ gone y p.unpaid
 
 positive : (config : ConfigValue) (till : ℕ) → is_till config till ≡ true → 0 < till
 positive config till h = grind (arith, nat_tests, h)
@@ -141,12 +126,12 @@ till-clears : (config : ConfigValue) (past : List Entry) (s : SiteState) (till m
 till-clears config past s till moment n y p q false is done at later = absurd (cc)
 till-clears config past s till moment n y p q true is done at later =
     let next : PointState = after_command p till (command.Clear y) in
-    let told : (command_effect s n (command_step p till (command.Clear y))).reply ≡ reply.Done =
+    let accepted : (command_effect s n (command_step p till (command.Clear y))).reply ≡ reply.Done =
     sym (ap (λ e. e.reply) (till_command_effect-some s till n (command.Clear y) p at)) ∙ done in
     let there : at_number (slice_set s.points (n - 1) next) n ≡ Some next = at-same s.points n p next at in
     let same : next ≡ q = some-same next q
     (sym there ∙ ap (λ ps. at_number ps n) (sym (points-after s.points till n y p (positive config till is) at)) ∙ later) in
-    ap (λ (x : PointState). find_number y x.unpaid) (sym same) ∙ point-clears s n y till p (command_step p till (command.Clear y)) refl told
+    ap (λ (x : PointState). find_number y x.unpaid) (sym same) ∙ point-clears s n y till p (command_step p till (command.Clear y)) refl accepted
 
 pub effect-clears : (config : ConfigValue) (past : List Entry) (s : SiteState) (till moment n y : ℕ) (p q : PointState)
     → (effect config past s moment (act.Till till (request.Clear n y))).reply ≡ reply.Done → at_number s.points n ≡ Some p

@@ -21,7 +21,7 @@ use Rattle.site_core.specs.Legal.{Legal}
 use Rattle.day_report.specs.Walk.{with_act, with_entry}
 use Rattle.day_report.specs.Sales.{sale_of, unpaid_at}
 use Rattle.day_report.specs.declared.sales.Sale.{Sale}
-use Rattle.day_report.proofs.SiteSteps.{effect-says}
+use Rattle.day_report.proofs.SiteSteps.{effect-agrees}
 use Rattle.day_export.specs.declared.cells.Rows.TheVariants as rows
 use Rattle.day_export.specs.declared.cells.Cell.{Cell}
 use Rattle.day_export.specs.declared.day_state.Delivery.{Delivery}
@@ -82,8 +82,9 @@ there-without [] m y n x other h = nothing-there h
 there-without (u ∷ us) m y n x other h =
     there-kept n x u (without us m y) (delivery_of us n x) (is_delivery_of m y u) (not-both u m y n x other) h (there-without us m y n x other)
 
--- ---- `Kept` is an invariant of the points and the deliveries in the day's state. These lemmas show that an entry
--- keeps it true, if the transaction of any sale that the entry makes is no longer unpaid after the entry (`Takes`).
+-- ---- `Kept` says that the day's state has the delivery of each transaction that is unpaid now, but wasn't unpaid when
+-- the day began. These lemmas show that an entry keeps this true, if the transaction of any sale that the entry makes
+-- is no longer unpaid after the entry (`Takes`).
 
 -- The transaction with this point and this number wasn't unpaid when the day began. The first argument is the list of
 -- the points when the day began.
@@ -105,8 +106,8 @@ Takes s e =
 none-some : {P : Type 0} (o : Option Transaction) → o ≡ None → IsSome o → P
 none-some o none some = nothing-there (subst IsSome none some)
 
--- Let entry `number` change point m from p to q. If the point gave out x as its next transaction number, then the entry
--- ended the delivery of transaction x.
+-- If entry `number` changes point m from p to q, and with this change the point gives out x as its next transaction
+-- number, then the entry ended the delivery of transaction x.
 ended-core : (prices : List ℕ) (number m x : ℕ) (p q : PointState) → q.last ≡ p.last + 1 → (q.last == x) ≡ true
     → IsThere (option_to_list (ended_at prices number m p q)) m x
 ended-core prices number m x p q grew is =
@@ -122,9 +123,12 @@ ended-there points prices e p q x at later grew is =
     subst (λ a. IsThere (option_to_list (ended_between prices e.number m a (at_number (with_act points e.act e.reply) m))) m x) (sym at)
     (subst (λ b. IsThere (option_to_list (ended_between prices e.number m (Some p) b)) m x) (sym later) (ended-core prices e.number m x p q grew is))
 
--- Let `Kept` be true before the entry, and let the entry change the point that it names from p to q, as `Grows` allows.
--- If transaction x of this point is unpaid after the entry, but wasn't unpaid when the day began, then its delivery was
--- in `s.unpaid` before the entry, or the entry ended it.
+-- If transaction x of the point that the entry names is unpaid after the entry, but wasn't unpaid when the day began,
+-- then its delivery was in `s.unpaid` before the entry, or the entry ended it. Two things must be so:
+-- - Before the entry, `s.unpaid` has the delivery of each transaction that is unpaid, but wasn't when the day began
+--   (`Kept`).
+-- - The entry changes the point from p to q, and adds at most one unpaid transaction, which has the next number
+--   (`Grows`).
 grown-there : (first : List PointState) (s : DayStateValue) (e : Entry) (x : ℕ) (p q : PointState) (o : Option Transaction) → Kept first s.points s.unpaid
     → IsOfDay first (point_of_act e.act) x
     → at_number s.points (point_of_act e.act) ≡ Some p → at_number (with_act s.points e.act e.reply) (point_of_act e.act) ≡ Some q → Grows p q
@@ -161,8 +165,8 @@ old-or-new first s e n x q kept new (inr b) at found =
           inl (kept n x q before found new)
     ]
 
--- Let `Takes` be true for the entry. If transaction x of point n is unpaid after the entry, then the entry doesn't
--- remove its delivery from `s.unpaid`.
+-- If transaction x of point n is unpaid after the entry, then the entry doesn't remove its delivery from `s.unpaid`.
+-- For this, the transaction of any sale that the entry makes must no longer be unpaid after the entry (`Takes`).
 survives : (s : DayStateValue) (e : Entry) (n x : ℕ) (q : PointState) (o : Option Sale) → Takes s e → sale_of s.points e ≡ o
     → at_number (with_act s.points e.act e.reply) n ≡ Some q → IsSome (find_number x q.unpaid) → IsThere s.unpaid n x
     → IsThere (uncleared s.unpaid o e.act) n x
@@ -188,8 +192,12 @@ kept-more first s e kept takes = λ n x q at found new.
       | inr now ↦ there-behind left ended n x now
     ]
 
--- ---- These lemmas show `HasDeliveryIfOfDay` for the row of a sale, if `Kept` is true. They also show `Takes` for an
--- entry that the site makes, if the day's state has the same points as the site's state before the entry (`Fits`).
+-- ---- These lemmas show two things:
+-- - If the day's state has the delivery of each transaction that is unpaid, but wasn't when the day began (`Kept`),
+--   then the row of a sale has its delivery, unless the sale's transaction was unpaid when the day began
+--   (`HasDeliveryIfOfDay`).
+-- - If the site makes an entry, and the day's state has the same points as the site's state before the entry (`Fits`),
+--   then the transaction of a sale that the entry makes is no longer unpaid after the entry (`Takes`).
 
 abbrev row-made : (s : DayStateValue) (e : Entry) (o : Option Sale) → Option (List Cell)
 row-made s e o =
@@ -243,9 +251,10 @@ takes config past b s e fits = λ sale q is later.
     (λ j. at_number (with_act (sym fits.points j) (sym cleared.act_is j) (sym cleared.reply_is j)) sale.point) ∙ later in
     effect-clears config past b sale.till e.moment sale.point x at.0 q done before after
 
--- ---- These lemmas show by induction, for any legal history (`Comes`): the points and the prices in the day's state
--- are the site's, `Kept` is true, and `HasDeliveryIfOfDay` is true for the row of each sale. `past` is the history,
--- newest entry first.
+-- ---- These lemmas show by induction for any legal history (`past`, newest entry first) that `Comes` is true:
+-- - The points and the prices in the day's state are the site's.
+-- - The day's state has the delivery of each transaction that is unpaid now, but wasn't unpaid when the day began.
+-- - The row of each sale has its delivery, unless the sale's transaction was unpaid when the day began.
 
 record Comes (config : ConfigValue) (past : List Entry) (b : SiteState) : Type 0 where
   points : (state_after_entries (state_at_start config) (reverse past)).points ≡ b.points
@@ -271,7 +280,7 @@ entry-points : (config : ConfigValue) (past : List Entry) (b : SiteState) (s : D
 unfolding state_after_entry with_entry
 entry-points config past b s e fits =
     let answered : e.reply ≡ (effect config past b e.moment e.act).reply = ap (λ (y : Entry). y.reply) fits.is in
-    (λ j. with_act (fits.points j) e.act (answered j)) ∙ (effect-says config past b e.moment e.act).points
+    (λ j. with_act (fits.points j) e.act (answered j)) ∙ (effect-agrees config past b e.moment e.act).points
 
 entry-prices : (config : ConfigValue) (past : List Entry) (b : SiteState) (s : DayStateValue) (e : Entry) → Fits config past b s e → s.prices ≡ b.prices
     → (state_after_entry s e).prices ≡ (effect config past b e.moment e.act).after.prices

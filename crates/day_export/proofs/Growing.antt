@@ -18,9 +18,9 @@ use Rattle.fuelling_point.specs.declared.kinds.Transaction.{Transaction}
 use Rattle.site_core.specs.Decide.{after_command}
 use Rattle.day_report.specs.Walk.{after_event}
 
--- ---- Let a list have no transaction x. These lemmas show that it still has none if a transaction with another number
--- is added, if transactions are removed, or if the holder of a transaction changes. `gone` shows that a list has no
--- transaction y after y was removed from it.
+-- ---- These lemmas show: if a list has no transaction x, then it still has none after a transaction with another
+-- number is added, after transactions are removed, or after the holder of a transaction changes. `gone` shows that a
+-- list has no transaction y after y was removed from it.
 
 -- If a transaction isn't found in a list, then it isn't the first one, and it isn't found in the rest.
 none-first : (b : Bool) (t : Transaction) (rest : Option Transaction) → (if b then Some t else rest) ≡ None → (b ≡ false) × (rest ≡ None)
@@ -175,13 +175,10 @@ found-grows None b p q what h = same p
 found-grows (Some t) b p q what h = if-grows (b t) p q (what t) NotYourTransaction h
 
 pub command-grows : (p : PointState) (till : ℕ) (c : Command) → Grows p (after_command p till c)
-command-grows p till command.OpenPoint = if-grows _ p _ None _ (same p)
-command-grows p till command.ClosePoint = if-grows _ p _ None _ (same p)
 command-grows p till (command.Release g) =
     if-if-grows {T = Option ℕ} (is_ready p.state) (nat_lt (length p.unpaid) 2) p
     (record p { state = state.Authorised; limit = g; preset = 0; order = Some (order.Authorise g); taken = false }) None
     TransactionsFull (WrongState p.state) (same p)
-command-grows p till (command.Preset g) = if-grows _ p _ None _ (same p)
 command-grows p till command.Suspend = suspend-grows p.state p _ _ (same p) (same p)
 command-grows p till command.Resume = resume-grows p.state _ p _ _ _ (same p) (same p)
 command-grows p till command.Stop = if-grows _ p _ None _ (rest-grows _ p)
@@ -194,3 +191,4 @@ command-grows p till (command.Unlock n) =
 command-grows p till (command.Clear n) =
     found-grows (find_number n p.unpaid) (λ t. t.holder == till) p (record p { unpaid = without n p.unpaid })
     (λ t. Some t.amount) (inl (refl, λ x h. none-without x n p.unpaid h))
+command-grows p till _ = if-grows _ p _ None _ (same p)

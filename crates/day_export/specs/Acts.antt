@@ -6,14 +6,20 @@ use Rattle.fuelling_point.specs.declared.kinds.Order.TheVariants as order
 use Rattle.fuelling_point.specs.declared.kinds.DispenserEvent.{DispenserEvent}
 use Rattle.fuelling_point.specs.declared.kinds.DispenserEvent.TheVariants as event
 use Rattle.bpf_model.specs.declared.context.Layout.{Layout}
-use Rattle.bpf_model.specs.declared.context.Layout.TheVariants as layout
+use Rattle.bpf_model.specs.declared.context.Layout.TheVariants as layouts
 use Rattle.bpf_model.specs.Layouts.{bytes_of}
-use Rattle.till_request.specs.declared.act.Request.{Request}
-use Rattle.till_request.specs.declared.act.Request.TheVariants as request
 use Rattle.till_request.specs.declared.act.Act.{Act}
 use Rattle.till_request.specs.declared.act.Act.TheVariants as act
 use Rattle.till_request.specs.declared.act.Reply.{Reply}
 use Rattle.till_request.specs.declared.act.Reply.TheVariants as reply
+use Rattle.till_request.specs.declared.form.AmountVerb.{AmountVerb}
+use Rattle.till_request.specs.declared.form.AmountVerb.TheVariants as amounts
+use Rattle.till_request.specs.declared.form.Form.{Form}
+use Rattle.till_request.specs.declared.form.Form.TheVariants as forms
+use Rattle.till_request.specs.declared.form.RequestByForm.{RequestByForm}
+use Rattle.till_request.specs.declared.form.RequestByForm.TheVariants as request_forms
+use Rattle.till_request.specs.Grammar.{by_form}
+use Rattle.till_request.specs.Spelling.{event_form}
 use Rattle.decision_journal.specs.declared.entries.Run.{Run}
 use Rattle.day_export.specs.declared.cells.Word.{Word}
 use Rattle.day_export.specs.declared.cells.Word.TheVariants as word
@@ -27,13 +33,13 @@ use Rattle.day_export.specs.Cells.{optional}
 -- ---- the cells of an act
 
 -- the cells of an act that has no values but its sender and its verb
-abbrev pub bare_act_cells : Word → Word → ActCells
+abbrev pub bare_act_cells : Word → Form → ActCells
 bare_act_cells sender verb =
     record {
       sender = cell.Word sender;
       till = cell.Nothing;
       point = cell.Nothing;
-      verb = cell.Word verb;
+      verb = cell.Word (word.Verb verb);
       product = cell.Nothing;
       nozzle = cell.Nothing;
       transaction = cell.Nothing;
@@ -44,53 +50,49 @@ bare_act_cells sender verb =
       layout = cell.Nothing;
     }
 
--- The cells of a till's request at a point. The arguments are the till, the verb and the point. All cells but these and
--- the sender are empty.
-abbrev pub point_request_cells : ℕ → Word → ℕ → ActCells
+-- The cells of a till's request that names a point and has no further values. The arguments are the till, the verb and
+-- the point. Only the cells of these three and of the sender are filled.
+abbrev pub point_request_cells : ℕ → Form → ℕ → ActCells
 point_request_cells till verb n = record (bare_act_cells word.Till verb) { till = cell.Number till; point = cell.Number n }
 
-abbrev pub transaction_request_cells : ℕ → Word → ℕ → ℕ → ActCells
-transaction_request_cells till verb n transaction = record (point_request_cells till verb n) { transaction = cell.Number transaction }
+-- The cells of a till's request with an amount or a price. The arguments are the till, the verb, the point (for a price
+-- the product), and the amount or the price.
+abbrev pub amount_request_cells : ℕ → AmountVerb → ℕ → ℕ → ActCells
+amount_request_cells till amounts.Price product price =
+    record (bare_act_cells word.Till (forms.Amount amounts.Price)) { till = cell.Number till; product = cell.Number product; amount = cell.Number price }
+amount_request_cells till verb n amount = record (point_request_cells till (forms.Amount verb) n) { amount = cell.Number amount }
 
-abbrev pub request_cells : ℕ → Request → ActCells
-request_cells till (request.Release n amount) = record (point_request_cells till word.Release n) { amount = cell.Number amount }
-request_cells till (request.Preset n amount) = record (point_request_cells till word.Preset n) { amount = cell.Number amount }
-request_cells till (request.Price product price) =
-    record (bare_act_cells word.Till word.Price) { till = cell.Number till; product = cell.Number product; amount = cell.Number price }
-request_cells till (request.OpenPoint n) = point_request_cells till word.Open n
-request_cells till (request.ClosePoint n) = point_request_cells till word.Close n
-request_cells till (request.Suspend n) = point_request_cells till word.Suspend n
-request_cells till (request.Resume n) = point_request_cells till word.Resume n
-request_cells till (request.Stop n) = point_request_cells till word.Stop n
-request_cells till (request.Lock n transaction) = transaction_request_cells till word.Lock n transaction
-request_cells till (request.Unlock n transaction) = transaction_request_cells till word.Unlock n transaction
-request_cells till (request.Clear n transaction) = transaction_request_cells till word.Clear n transaction
-request_cells till (request.Show n) = point_request_cells till word.Show n
+abbrev pub request_cells : ℕ → RequestByForm → ActCells
+request_cells till (request_forms.Amount verb subject amount) = amount_request_cells till verb subject amount
+request_cells till (request_forms.Point verb n) = point_request_cells till (forms.Point verb) n
+request_cells till (request_forms.Transaction verb n transaction) =
+    record (point_request_cells till (forms.Transaction verb) n) { transaction = cell.Number transaction }
 
--- The cells of an event of the dispenser at a point. The arguments are the point and the verb. All cells but these and
--- the sender are empty.
-abbrev pub point_event_cells : ℕ → Word → ActCells
-point_event_cells n verb = record (bare_act_cells word.Dispenser verb) { point = cell.Number n }
+-- The cells of an event of the dispenser at a point, without the event's numbers. The arguments are the point and the
+-- event.
+abbrev pub bare_event_cells : ℕ → DispenserEvent → ActCells
+bare_event_cells n event = record (bare_act_cells word.Dispenser (event_form event)) { point = cell.Number n }
 
 abbrev pub event_cells : ℕ → DispenserEvent → ActCells
-event_cells n (event.Up nozzle) = record (point_event_cells n word.Up) { nozzle = cell.Number nozzle }
-event_cells n event.Down = point_event_cells n word.Down
-event_cells n event.Started = point_event_cells n word.Started
-event_cells n (event.Flowed amount volume) = record (point_event_cells n word.Flow) { amount = cell.Number amount; volume = cell.Number volume }
-event_cells n event.Fault = point_event_cells n word.Fault
-event_cells n event.Repaired = point_event_cells n word.Repaired
-event_cells n event.TakeOrder = point_event_cells n word.Order
+event_cells n (event.Up nozzle) = record (bare_event_cells n (event.Up nozzle)) { nozzle = cell.Number nozzle }
+event_cells n (event.Flowed amount volume) =
+    record (bare_event_cells n (event.Flowed amount volume)) { amount = cell.Number amount; volume = cell.Number volume }
+event_cells n e = bare_event_cells n e
 
 abbrev pub layout_number : Layout → ℕ
-layout_number layout.One = 1
-layout_number layout.Two = 2
+layout_number layouts.One = 1
+layout_number layouts.Two = 2
 
--- The cells of an act. The bytes of a load's program have no cell.
+-- The cells of an act. The bytes of a load's program have no cell. The verb of a load is `load` for both layouts.
 abbrev pub act_cells : Act → ActCells
-act_cells (act.Till till request) = request_cells till request
+act_cells (act.Till till request) = request_cells till (by_form request)
 act_cells (act.Dispenser n event) = event_cells n event
 act_cells (act.Load slot mask layout bytes) =
-    record (bare_act_cells word.Owner word.Load) { slot = cell.Number slot; mask = cell.Number mask; layout = cell.Number (layout_number layout) }
+    record (bare_act_cells word.Owner (forms.Load layouts.One)) {
+      slot = cell.Number slot;
+      mask = cell.Number mask;
+      layout = cell.Number (layout_number layout);
+    }
 
 -- ---- the cells of a reply
 

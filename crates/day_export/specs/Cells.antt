@@ -1,5 +1,6 @@
 -- Definitions: the columns of each kind of rows, and the text of a cell.
 use Rattle.std.specs.Prelude.{ℕ, ◌==◌, if◌then◌else◌, List, [], ◌∷◌, codes, decimal, Option, Some, None}
+use Rattle.till_request.specs.Grammar.{text}
 use Rattle.day_export.specs.declared.cells.Rows.{Rows}
 use Rattle.day_export.specs.declared.cells.Rows.TheVariants as rows
 use Rattle.day_export.specs.declared.cells.Word.{Word}
@@ -24,29 +25,14 @@ columns rows.Events =
     ∷ codes "reply" ∷ codes "granted" ∷ codes "version" ∷ codes "order" ∷ codes "refusal" ∷ codes "detail" ∷ []
 
 abbrev pub word_text : Word → List ℕ
+word_text (word.Verb form) = text form
 word_text word.Till = codes "till"
 word_text word.Dispenser = codes "dispenser"
 word_text word.Owner = codes "owner"
-word_text word.Release = codes "release"
-word_text word.Preset = codes "preset"
-word_text word.Price = codes "price"
-word_text word.Open = codes "open"
-word_text word.Close = codes "close"
 word_text word.Suspend = codes "suspend"
 word_text word.Resume = codes "resume"
 word_text word.Stop = codes "stop"
-word_text word.Lock = codes "lock"
-word_text word.Unlock = codes "unlock"
-word_text word.Clear = codes "clear"
-word_text word.Show = codes "show"
-word_text word.Up = codes "up"
-word_text word.Down = codes "down"
-word_text word.Started = codes "started"
-word_text word.Flow = codes "flow"
-word_text word.Fault = codes "fault"
-word_text word.Repaired = codes "repaired"
 word_text word.Order = codes "order"
-word_text word.Load = codes "load"
 word_text word.Done = codes "done"
 word_text word.Granted = codes "granted"
 word_text word.Denied = codes "denied"

@@ -3,12 +3,15 @@ use Rattle.std.specs.Prelude.{◌≡◌, ℕ, ◌+◌, ◌-◌, ◌==◌, ◌&&�
 use Rattle.std.specs.Prelude.{option_to_list, fold}
 use Rattle.std.specs.Prelude.{filter, find, Option, Some, None}
 use Rattle.fuelling_point.specs.Table.{PointState}
-use Rattle.till_request.specs.declared.act.Request.{Request}
 use Rattle.till_request.specs.declared.act.Request.TheVariants as request
 use Rattle.till_request.specs.declared.act.Act.{Act}
 use Rattle.till_request.specs.declared.act.Act.TheVariants as act
 use Rattle.till_request.specs.declared.act.Reply.{Reply}
 use Rattle.till_request.specs.declared.act.Reply.TheVariants as reply
+use Rattle.till_request.specs.declared.form.AmountVerb.TheVariants as amounts
+use Rattle.till_request.specs.declared.form.RequestByForm.{RequestByForm}
+use Rattle.till_request.specs.declared.form.RequestByForm.TheVariants as request_forms
+use Rattle.till_request.specs.Grammar.{by_form}
 use Rattle.decision_journal.specs.declared.entries.Entry.{Entry}
 use Rattle.site_core.specs.Limits.{ConfigValue}
 use Rattle.site_core.specs.State.{at_number, opening_state}
@@ -40,23 +43,15 @@ abbrev pub prices_after : List ℕ → Act → Reply → List ℕ
 prices_after prices (act.Till till (request.Price product price)) (reply.Granted granted version) = with_price prices product granted
 prices_after prices _ _ = prices
 
--- the number of the point that a request names; 0 if it names none
-abbrev pub point_of_request : Request → ℕ
-point_of_request (request.Release n amount) = n
-point_of_request (request.Preset n amount) = n
-point_of_request (request.Price product price) = 0
-point_of_request (request.OpenPoint n) = n
-point_of_request (request.ClosePoint n) = n
-point_of_request (request.Suspend n) = n
-point_of_request (request.Resume n) = n
-point_of_request (request.Stop n) = n
-point_of_request (request.Lock n transaction) = n
-point_of_request (request.Unlock n transaction) = n
-point_of_request (request.Clear n transaction) = n
-point_of_request (request.Show n) = n
+-- the number of the point that a request of this form names; 0 if it names none
+abbrev pub point_of_request : RequestByForm → ℕ
+point_of_request (request_forms.Amount amounts.Price product price) = 0
+point_of_request (request_forms.Amount verb n amount) = n
+point_of_request (request_forms.Point verb n) = n
+point_of_request (request_forms.Transaction verb n transaction) = n
 
 abbrev pub point_of_act : Act → ℕ
-point_of_act (act.Till till request) = point_of_request request
+point_of_act (act.Till till request) = point_of_request (by_form request)
 point_of_act (act.Dispenser n event) = n
 point_of_act (act.Load slot mask layout bytes) = 0
 

@@ -93,15 +93,16 @@ HasValidOpeningPoints config = (o : OpeningValue) → config.opening ≡ Some o 
 -- After the history, the rows agree with the site's state:
 -- - The points and the prices that follow from the entries are those of the site.
 -- - The row of each sale has its delivery, unless the sale's transaction was unpaid when the day began.
--- - If a sale's transaction was unpaid when the day began, and `HasValidOpeningPoints` holds, then the sale's row has
---   no delivery.
+-- - If a sale's transaction was unpaid when the day began, then the sale's row has no delivery. For this, the points of
+--   the opening, if there is one, must be valid (`HasValidOpeningPoints`).
 pub record RowsAgreeWithTheSite (config : ConfigValue) (history : List Entry) (state : SiteState) : Type 0 where
   pub points : (state_after_history config history).points ≡ state.points
   pub prices : (state_after_history config history).prices ≡ state.prices
   pub deliveries : All (λ (row : List Cell). IsFalse (is_carried_in config row) → HasDelivery row) (rows_of rows.Sales config history)
   pub carried : HasValidOpeningPoints config → All (λ (row : List Cell). IsTrue (is_carried_in config row) → HasNoDelivery row) (rows_of rows.Sales config history)
 
--- The rows of any legal history agree with the state that the history leads to, as `RowsAgreeWithTheSite` says.
+-- The rows of any history that the site's steps can make (`LegalHistory`) agree with the state that the history leads
+-- to, as `RowsAgreeWithTheSite` says.
 abbrev pub RowsAgreeWithEachSite : Type 0
 RowsAgreeWithEachSite =
     (config : ConfigValue) (history : List Entry) (state : SiteState) → LegalHistory config history state → RowsAgreeWithTheSite config history state

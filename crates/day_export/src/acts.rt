@@ -1,13 +1,14 @@
 //! Makes the cells of a row that describe an act: a till's request, a dispenser's event, or a load of a program.
 
 ghost use Rattle.std.specs.Prelude.{◌≡◌};
-ghost use Rattle.day_export.specs.Acts.{act_cells, point_request_cells, transaction_request_cells, event_cells, layout_number, point_event_cells, request_cells};
-ghost use Rattle.day_export.specs.Acts.{bare_act_cells};
+ghost use Rattle.day_export.specs.Acts.{act_cells, bare_act_cells, bare_event_cells, event_cells, layout_number};
+ghost use Rattle.day_export.specs.Acts.{amount_request_cells, point_request_cells, request_cells};
 
 use crate::cells::{Cell, Word, number};
 use bpf_model::context::Layout;
 use fuelling_point::DispenserEvent;
-use till_request::{Act, Request};
+use till_request::spelling::event_form;
+use till_request::{Act, AmountVerb, Form, RequestByForm};
 
 /// The cells of an act, one for each column that describes the act. If the act has no value for a column, the column's
 /// cell is `Nothing`.
@@ -28,14 +29,14 @@ pub(crate) struct ActCells {
 }
 
 /// Returns the cells of an act that has no values but its sender and its verb.
-fn bare_act_cells(sender: Word, verb: Word) -> ActCells
+fn bare_act_cells(sender: Word, verb: Form) -> ActCells
     ensures { result ≡ bare_act_cells sender verb }
 {
     ActCells {
         sender: Cell::Word(sender),
         till: Cell::Nothing,
         point: Cell::Nothing,
-        verb: Cell::Word(verb),
+        verb: Cell::Word(Word::Verb(verb)),
         product: Cell::Nothing,
         nozzle: Cell::Nothing,
         transaction: Cell::Nothing,
@@ -49,7 +50,7 @@ fn bare_act_cells(sender: Word, verb: Word) -> ActCells
 
 /// Returns the cells of a till's request that names point `n` and has no further values. Only the cells of the sender,
 /// the till, the verb and the point are filled.
-fn point_request_cells(till: u32, verb: Word, n: u32) -> ActCells
+fn point_request_cells(till: u32, verb: Form, n: u32) -> ActCells
     ensures { result ≡ point_request_cells till verb n }
 {
     ActCells {
@@ -59,82 +60,49 @@ fn point_request_cells(till: u32, verb: Word, n: u32) -> ActCells
     }
 }
 
-/// Returns the cells of a till's request that names a transaction of point `n`.
-fn transaction_request_cells(till: u32, verb: Word, n: u32, transaction: u32) -> ActCells
-    ensures { result ≡ transaction_request_cells till verb n transaction }
+/// Returns the cells of a till's request with an amount in cents, or with a price in thousandths of the currency per
+/// litre. Either is in the cell `amount`. `subject` is the request's point or, for a price, its product.
+fn amount_request_cells(till: u32, verb: AmountVerb, subject: u32, amount: u64) -> ActCells
+    ensures { result ≡ amount_request_cells till verb subject amount }
 {
-    ActCells {
-        transaction: number(transaction),
-        ..point_request_cells(till, verb, n)
-    }
-}
-
-/// Returns the cells of a till's request for an amount, in cents, at point `n`.
-fn amount_request_cells(till: u32, verb: Word, n: u32, amount: u64) -> ActCells
-    ensures { result ≡ record (point_request_cells till verb n) { amount = Cell.Number amount } }
-{
-    ActCells {
-        amount: Cell::Number(amount),
-        ..point_request_cells(till, verb, n)
-    }
-}
-
-/// Returns the cells of a till's request to change the price of a product. The price, in thousandths of the currency
-/// per litre, is in the cell `amount`.
-fn price_request_cells(till: u32, product: u32, price: u64) -> ActCells
-    ensures { result ≡ request_cells till (Request.Price product price) }
-{
-    ActCells {
-        till: number(till),
-        product: number(product),
-        amount: Cell::Number(price),
-        ..bare_act_cells(Word::Till, Word::Price)
+    match verb {
+        AmountVerb::Price => ActCells {
+            till: number(till),
+            product: number(subject),
+            amount: Cell::Number(amount),
+            ..bare_act_cells(Word::Till, Form::Amount(verb))
+        },
+        AmountVerb::Release | AmountVerb::Preset => ActCells {
+            amount: Cell::Number(amount),
+            ..point_request_cells(till, Form::Amount(verb), subject)
+        },
     }
 }
 
 /// Returns the cells of a till's request.
-fn request_cells(till: u32, request: Request) -> ActCells
+fn request_cells(till: u32, request: RequestByForm) -> ActCells
     ensures { result ≡ request_cells till request }
 {
     match request {
-        Request::Release(n, amount) => amount_request_cells(till, Word::Release, n, amount),
-        Request::Preset(n, amount) => amount_request_cells(till, Word::Preset, n, amount),
-        Request::Price(product, price) => price_request_cells(till, product, price),
-        Request::OpenPoint(n) => point_request_cells(till, Word::Open, n),
-        Request::ClosePoint(n) => point_request_cells(till, Word::Close, n),
-        Request::Suspend(n) => point_request_cells(till, Word::Suspend, n),
-        Request::Resume(n) => point_request_cells(till, Word::Resume, n),
-        Request::Stop(n) => point_request_cells(till, Word::Stop, n),
-        Request::Lock(n, transaction) => transaction_request_cells(
-            till,
-            Word::Lock,
-            n,
-            transaction,
-        ),
-        Request::Unlock(n, transaction) => transaction_request_cells(
-            till,
-            Word::Unlock,
-            n,
-            transaction,
-        ),
-        Request::Clear(n, transaction) => transaction_request_cells(
-            till,
-            Word::Clear,
-            n,
-            transaction,
-        ),
-        Request::Show(n) => point_request_cells(till, Word::Show, n),
+        RequestByForm::Amount(verb, subject, amount) => {
+            amount_request_cells(till, verb, subject, amount)
+        }
+        RequestByForm::Point(verb, n) => point_request_cells(till, Form::Point(verb), n),
+        RequestByForm::Transaction(verb, n, transaction) => ActCells {
+            transaction: number(transaction),
+            ..point_request_cells(till, Form::Transaction(verb), n)
+        },
     }
 }
 
-/// Returns the cells of an event of the dispenser at point `n`, for an event that has no further values. Only the cells
-/// of the sender, the verb and the point are filled.
-fn point_event_cells(n: u32, verb: Word) -> ActCells
-    ensures { result ≡ point_event_cells n verb }
+/// Returns the cells of an event of the dispenser at point `n`, without the event's numbers. Only the cells of the
+/// sender, the verb and the point are filled.
+fn bare_event_cells(n: u32, event: DispenserEvent) -> ActCells
+    ensures { result ≡ bare_event_cells n event }
 {
     ActCells {
         point: number(n),
-        ..bare_act_cells(Word::Dispenser, verb)
+        ..bare_act_cells(Word::Dispenser, event_form(event))
     }
 }
 
@@ -142,21 +110,22 @@ fn point_event_cells(n: u32, verb: Word) -> ActCells
 fn event_cells(n: u32, event: DispenserEvent) -> ActCells
     ensures { result ≡ event_cells n event }
 {
+    let bare = bare_event_cells(n, event);
     match event {
         DispenserEvent::Up(nozzle) => ActCells {
             nozzle: number(nozzle),
-            ..point_event_cells(n, Word::Up)
+            ..bare
         },
-        DispenserEvent::Down => point_event_cells(n, Word::Down),
-        DispenserEvent::Started => point_event_cells(n, Word::Started),
         DispenserEvent::Flowed(amount, volume) => ActCells {
             amount: Cell::Number(amount),
             volume: Cell::Number(volume),
-            ..point_event_cells(n, Word::Flow)
+            ..bare
         },
-        DispenserEvent::Fault => point_event_cells(n, Word::Fault),
-        DispenserEvent::Repaired => point_event_cells(n, Word::Repaired),
-        DispenserEvent::TakeOrder => point_event_cells(n, Word::Order),
+        DispenserEvent::Down
+        | DispenserEvent::Started
+        | DispenserEvent::Fault
+        | DispenserEvent::Repaired
+        | DispenserEvent::TakeOrder => bare,
     }
 }
 
@@ -170,12 +139,13 @@ fn layout_number(layout: Layout) -> u32
     }
 }
 
-/// Returns the cells of an act. The bytes of a load's program have no cell.
+/// Returns the cells of an act. The bytes of a load's program have no cell. The verb of a load is `load` for both
+/// layouts.
 pub(crate) fn act_cells(act: &Act) -> ActCells
     ensures { result ≡ act_cells act.now }
 {
     match act {
-        Act::Till { till, request } => request_cells(*till, *request),
+        Act::Till { till, request } => request_cells(*till, request.by_form()),
         Act::Dispenser { point, event } => event_cells(*point, *event),
         Act::Load {
             slot,
@@ -186,7 +156,7 @@ pub(crate) fn act_cells(act: &Act) -> ActCells
             slot: number(*slot),
             mask: number(*mask),
             layout: number(layout_number(*layout)),
-            ..bare_act_cells(Word::Owner, Word::Load)
+            ..bare_act_cells(Word::Owner, Form::Load(Layout::One))
         },
     }
 }

@@ -3,6 +3,9 @@
 ghost use Rattle.std.specs.Prelude.{◌≡◌, map};
 ghost use Rattle.day_export.specs.Cells.{columns, word_text, optional, moment_cell};
 
+use till_request::Form;
+use till_request::form::text_of;
+
 /// Which rows of a day are written.
 #[derive(Clone, Copy)]
 pub enum Rows {
@@ -26,29 +29,15 @@ pub enum Format {
 /// One of the fixed words that a cell of an exported row can hold.
 #[derive(Clone, Copy)]
 pub enum Word {
+    /// The verb of a line of this form, such as `release`.
+    Verb(Form),
     Till,
     Dispenser,
     Owner,
-    Release,
-    Preset,
-    Price,
-    Open,
-    Close,
     Suspend,
     Resume,
     Stop,
-    Lock,
-    Unlock,
-    Clear,
-    Show,
-    Up,
-    Down,
-    Started,
-    Flow,
-    Fault,
-    Repaired,
     Order,
-    Load,
     Done,
     Granted,
     Denied,
@@ -151,29 +140,14 @@ pub(crate) fn word_text(word: Word) -> &'static str
     ensures { result.now ≡ word_text word }
 {
     match word {
+        Word::Verb(form) => text_of(form),
         Word::Till => "till",
         Word::Dispenser => "dispenser",
         Word::Owner => "owner",
-        Word::Release => "release",
-        Word::Preset => "preset",
-        Word::Price => "price",
-        Word::Open => "open",
-        Word::Close => "close",
         Word::Suspend => "suspend",
         Word::Resume => "resume",
         Word::Stop => "stop",
-        Word::Lock => "lock",
-        Word::Unlock => "unlock",
-        Word::Clear => "clear",
-        Word::Show => "show",
-        Word::Up => "up",
-        Word::Down => "down",
-        Word::Started => "started",
-        Word::Flow => "flow",
-        Word::Fault => "fault",
-        Word::Repaired => "repaired",
         Word::Order => "order",
-        Word::Load => "load",
         Word::Done => "done",
         Word::Granted => "granted",
         Word::Denied => "denied",

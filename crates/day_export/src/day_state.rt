@@ -18,7 +18,7 @@ use decision_journal::Entry;
 use fuelling_point::Point;
 use site_core::Config;
 use std::alloc::{AllocError, Global};
-use till_request::{Act, Reply, Request};
+use till_request::{Act, AmountVerb, Reply, Request, RequestByForm};
 
 /// A delivery of fuel that ended:
 ///
@@ -82,17 +82,15 @@ fn change_price(prices: &mut [u64], act: &Act, reply: Reply)
     }
 }
 
-/// Returns the number of the point that a request names, or 0 if it names none.
-fn point_of_request(request: Request) -> u32
+/// Returns the number of the point that a request of this form names, or 0 if it names none.
+fn point_of_request(request: RequestByForm) -> u32
     ensures { result ≡ point_of_request request }
 {
     match request {
-        Request::Release(n, _) | Request::Preset(n, _) => n,
-        Request::Price(_, _) => 0,
-        Request::OpenPoint(n) | Request::ClosePoint(n) => n,
-        Request::Suspend(n) | Request::Resume(n) | Request::Stop(n) => n,
-        Request::Lock(n, _) | Request::Unlock(n, _) | Request::Clear(n, _) => n,
-        Request::Show(n) => n,
+        RequestByForm::Amount(AmountVerb::Price, _, _) => 0,
+        RequestByForm::Amount(_, n, _) => n,
+        RequestByForm::Point(_, n) => n,
+        RequestByForm::Transaction(_, n, _) => n,
     }
 }
 
@@ -101,7 +99,7 @@ fn point_of_act(act: &Act) -> u32
     ensures { result ≡ point_of_act act.now }
 {
     match act {
-        Act::Till { request, .. } => point_of_request(*request),
+        Act::Till { request, .. } => point_of_request(request.by_form()),
         Act::Dispenser { point, .. } => *point,
         Act::Load { .. } => 0,
     }

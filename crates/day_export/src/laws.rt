@@ -22,7 +22,7 @@ pub fn law_of_contexts()
     ensures { RowsShowContexts }
 {}
 
-/// Does nothing. Its contract is a law about the rows after a legal history:
+/// Does nothing. Its contract is a law about the rows after a legal history (one that the site's steps can make):
 ///
 /// - The points and the prices from which rows are made are the site's.
 /// - The row of a sale has numbers in the columns `ended`, `product` and `price`, unless the sale's transaction was

@@ -111,7 +111,7 @@ pub(crate) fn decision_row(entry: &Entry) -> Option<[Cell; 26]>
     Some(decision_cells(entry, decision.is_granted))
 }
 
-/// Returns the row of the kind `Rows::Events` for an entry.
+/// Returns the row that an entry has among the rows of all entries (`Rows::Events`).
 #[tactic(auto, unfolding(crate::specs::Rows::event_row))]
 pub(crate) fn event_row(entry: &Entry) -> [Cell; 21]
     ensures { result ≡ event_row entry.now }

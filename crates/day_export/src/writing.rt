@@ -20,8 +20,8 @@ use site_core::{Config, Site};
 use std::alloc::Global;
 use std::io::Write;
 
-/// Writes the row, unless it is `None`. `is_ready` must hold for `to`, and still holds if there is no error. The error
-/// is an error of `write_row`. Without a row there is no error.
+/// Writes the row, unless it is `None`. `to` must be ready for a row (`is_ready`), and is ready again if there is no
+/// error. The error is an error of `write_row`. Without a row there is no error.
 fn put_some<T: RowWriter, const N: usize>(
     to: &mut T,
     rows: Rows,
@@ -39,9 +39,9 @@ fn put_some<T: RowWriter, const N: usize>(
     }
 }
 
-/// Writes the row of the kind `rows` for an entry, if it has one; `day_state` is the state before the entry. `is_ready`
-/// must hold for `to`, and still holds if there is no error. The error is an error of `write_row`. Without a row
-/// nothing is written, and there is no error.
+/// Writes the row of the kind `rows` for an entry, if it has one; `day_state` is the state before the entry. `to` must
+/// be ready for a row (`is_ready`), and is ready again if there is no error. The error is an error of `write_row`.
+/// Without a row nothing is written, and there is no error.
 fn put_row<T: RowWriter>(
     to: &mut T,
     rows: Rows,
@@ -61,9 +61,9 @@ fn put_row<T: RowWriter>(
     }
 }
 
-/// Writes all rows of the kind `rows` for these entries, on a site with this configuration. `is_ready` must hold for
-/// `to`, and still holds if there is no error. There must be at most 1,048,576 entries. The error is that memory ran
-/// out, or an error of `write_row`. After an error, some of the rows were perhaps written.
+/// Writes all rows of the kind `rows` for these entries, on a site with this configuration. `to` must be ready for a
+/// row (`is_ready`), and is ready again if there is no error. There must be at most 1,048,576 entries. The error is
+/// that memory ran out, or an error of `write_row`. After an error, some of the rows were perhaps written.
 fn put_rows<T: RowWriter>(
     alloc: Global,
     to: &mut T,

@@ -8,10 +8,10 @@ use crate::tables::outcome_of;
 use crate::texts::{Text, number, scaled};
 use day_report::{FIRST_REFUSAL, REFUSALS, Sum, Totals};
 
-/// The distance from the top of a bar to the top of the next.
+/// The distance from the top of a bar to the top of the next, in units of the picture.
 const APART: usize = 28;
 
-/// The width that stays free to the right of the longest bar, for its value.
+/// The width, in units of the picture, that stays free to the right of the longest bar, for its value.
 const VALUE_WIDTH: usize = 140;
 
 /// Adds the start of a picture that has room for `bars` bars. `title` and `text` are the title and description that
@@ -46,7 +46,7 @@ fn add_bar(
     );
 }
 
-/// How far from the left of the picture the bars of points begin.
+/// The distance, in units of the picture, from the left edge of the picture of sales by point to its bars.
 const POINT_BARS_LEFT: usize = 90;
 
 /// Returns the greatest number of cents in any of `sums`, or 0 if there are no sums.
@@ -58,7 +58,8 @@ fn most_sold(sums: &[Sum]) -> u128 {
     most
 }
 
-/// Adds the picture of sales by point: one bar for each point. `sums` has the sales of each point, point 1 first.
+/// Adds the picture of sales by point: one bar for each fuelling point. `sums` has the sales of each point, point 1
+/// first.
 pub(crate) fn add_points(html: &mut TextBuilder, sums: &[Sum]) {
     add_bars_head(
         html,
@@ -82,8 +83,8 @@ pub(crate) fn add_points(html: &mut TextBuilder, sums: &[Sum]) {
     html.add(END);
 }
 
-/// How far from the left of the picture the bars of refusals begin. The refusals' names in words are to the left of the
-/// bars.
+/// The distance, in units of the picture, from the left edge of the picture of refusals to its bars. The refusals'
+/// names in words are to the left of the bars.
 const REFUSAL_BARS_LEFT: usize = 440;
 
 /// Returns the greatest of `counts` (0 if there are none), and how many of `counts` aren't 0: each of these gets a bar.
@@ -170,18 +171,17 @@ const COLUMNS: usize = 1000;
 /// granted and denied. If there are fewer than 1,000 versions, each has its own column; else neighbouring versions
 /// share a column.
 pub(crate) fn add_versions(html: &mut TextBuilder, totals: &Totals) {
-    add_head(
-        html,
-        226,
-        "Decisions by version",
+    let together = (totals.versions.len() / COLUMNS).saturating_add(1);
+    let words = if together == 1 {
         "A column for each version, those of earlier days first and then in the order of their \
-            loads: below what it granted, above what it denied. The table below has the figures.",
-    );
-    add_columns(
-        html,
-        totals,
-        (totals.versions.len() / COLUMNS).saturating_add(1),
-    );
+            loads: below what it granted, above what it denied. The table below has the figures."
+    } else {
+        "A column for some neighbouring versions, those of earlier days first and then in the \
+            order of their loads: below what they granted, above what they denied. The table below \
+            has the figures of each."
+    };
+    add_head(html, 226, "Decisions by version", words);
+    add_columns(html, totals, together);
     html.add(COLUMNS_END);
 }
 

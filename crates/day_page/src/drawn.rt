@@ -7,7 +7,7 @@ use day_report::steps::step_of;
 use day_report::{Axis, Bands};
 use fuelling_point::State;
 
-/// The distance from the left edge of a picture to the drawing in it.
+/// The distance, in units of the picture, from the left edge of a picture to the drawing in it.
 pub(crate) const LEFT: usize = 90;
 
 pub(crate) const WIDTH: usize = 900;
@@ -63,12 +63,13 @@ fn name_at(axis: Axis, quarters: usize) -> Text {
     }
 }
 
-/// How far the band of each point lies below the band of the point before it, from middle to middle.
+/// The distance, in units of the picture, from the middle of a point's band down to the middle of the next point's
+/// band.
 const APART: usize = 26;
 
-/// Adds the picture of the points' states: a band for each point, and the axis below the bands. In each step of the
-/// axis, a band has the colour of the state that `bands` has for the point in this step. `axis` must be the axis for
-/// which `bands` was made.
+/// Adds the picture of the points' states: a band for each point, and the axis below the bands. The axis is divided
+/// into `bands.steps` equal steps. In each of them, a band has the colour of the state that `bands` has for the point.
+/// `axis` must be the axis for which `bands` was made.
 pub(crate) fn add_bands(html: &mut TextBuilder, bands: &Bands, axis: Axis) {
     let foot = bands.points.saturating_mul(APART).saturating_add(6);
     add_head(

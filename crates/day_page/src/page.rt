@@ -1,4 +1,4 @@
-//! The page and its sections.
+//! The page of HTML that shows a site's history, and the sections of this page.
 
 use crate::builder::TextBuilder;
 use crate::style::{HEAD, STYLE};

@@ -164,8 +164,9 @@ fn add_line(
     }
 }
 
-/// Adds the legend of the lines' colours, with an item for each product that has a price at the start or at the end.
-/// `opening` has the prices of products 1 to 8 before the first entry, 0 for none.
+/// Adds the legend of the lines' colours, with an item for each product that has a price at the start or at the end of
+/// the day. `opening` has the prices of products 1 to 8 before the first entry, 0 for none. `changes` has the changes
+/// since then, oldest first.
 pub(crate) fn add_legend(html: &mut TextBuilder, opening: &[u32; 8], changes: &[PriceChange]) {
     html.add("<ul class=\"legend\">\n");
     for (place, price) in opening.iter().enumerate() {

@@ -123,7 +123,7 @@ fn add_transaction(html: &mut TextBuilder, unpaid: &Unpaid) {
 
 const UNPAID: &str = head!("unpaid"; "Point", "Transaction", "Money", "Litres", "Held by till");
 
-/// Adds the table of the transactions that are unpaid at the end.
+/// Adds the table of the transactions that are unpaid at the end of the history.
 pub(crate) fn add_unpaid(html: &mut TextBuilder, unpaid: &[Unpaid]) {
     html.add(UNPAID);
     for transaction in unpaid {
@@ -279,8 +279,8 @@ fn add_counter(html: &mut TextBuilder, place: usize, counter: &(u64, u64)) {
 
 const COUNTERS: &str = head!("counters"; "Counter", "Value at the end", "Bound");
 
-/// Adds the table of the counters whose bound isn't 0, with their values at the end and their bounds. `counters` has
-/// the value and the bound of each counter, counter 0 first.
+/// Adds the table of the counters whose bound isn't 0, with their bounds, and their values at the end of the history.
+/// `counters` has the value and the bound of each counter, counter 0 first.
 pub(crate) fn add_counters(html: &mut TextBuilder, counters: &[(u64, u64)]) {
     html.add(COUNTERS);
     for (place, counter) in counters.iter().enumerate() {

@@ -26,9 +26,10 @@ shows-push states points [] entry = refl
 shows-push states points (e ∷ entries) entry =
     shows-push (with_point states (with_entry points e) (point_changed_by_act e.act)) (with_entry points e) entries entry
 
--- A step is a part of a picture's axis, and shows one state of each point. Before the entries it shows `states`. The
--- entry at place i changes what it shows as `with_point` does: for the point that the entry can change, the state after
--- the entry replaces the shown one if its `state_number` is greater.
+-- A picture divides a history into steps, and each step shows one state of each point. What a step shows after the
+-- first i + 1 entries is what it shows after the first i, changed by the entry at place i: for the point that this
+-- entry can change, the state after the entry replaces the shown one if its `state_number` is greater. `states` is what
+-- the step shows before all entries, and `points` are the points then.
 pub shows-more : (states : List State) (points : List PointState) (entries : List Entry) (i : ℕ) (entry : Entry) → i < length entries
     → entry ≡ get_or entries i entry
     → with_points states points (take (i + 1) entries)
@@ -52,8 +53,9 @@ module _ (axis : Axis) (steps : ℕ) where
       cond_both (is_behind k (step_at axis place e.moment steps)) place (cut_from axis steps k (place + 1) entries) (λ x. x ≤ place + length (e ∷ entries))
       (λ _. omega arith) (λ _. omega (arith, at_most k (place + 1) entries))
 
-  -- Let j be at most k. In a list of entries, let step j end at place a, and step k at place b. Let a and x be at most
-  -- b. If an entry of step `s`, at place x, is put before the list, then step j still ends no later than step k.
+  -- If step j ends no later than step k in a list of entries, then this is still so after an entry of step `s`, at
+  -- place x, is put before the list. a and b are the places where steps j and k end in the list. j must be at most k,
+  -- and x at most b.
   behind_both : (s : Option ℕ) (j k : ℕ) → j ≤ k → (x a b : ℕ) → x ≤ b → a ≤ b → (if is_behind j s then x else a) ≤ (if is_behind k s then x else b)
   behind_both None j k le x a b low up = up
   behind_both (Some step) j k le x a b low up =
@@ -78,7 +80,7 @@ module _ (axis : Axis) (steps : ℕ) where
     cuts_ascend j k le lt = omega (arith, cut_is j (omega (arith, le, lt)), cut_is k lt, ascend j k le 0 entries)
 
 -- ---- `Stands` is the invariant of the loop over the steps. These lemmas show that it holds at the start and after
--- each step, and that the loop has found all states at the end.
+-- each step, and that the loop has found all states when it has passed the last step.
 
 -- A loop over `step_ends` has come to step i, and has applied the first `done` entries:
 -- - `now` are the points after these entries. They have given out no transaction number over 4,290,000,000 + `done`:

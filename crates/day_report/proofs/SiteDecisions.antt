@@ -11,13 +11,9 @@ use Rattle.std.proofs.lemmas.List.Elements.{filter_map-append, All-head, All-tai
 use Rattle.std.proofs.lemmas.List.Sums.{sum_by-cons, sum_by-append}
 use Rattle.fuelling_point.specs.Table.{PointState, StepResult, command_step, event_step}
 use Rattle.fuelling_point.specs.declared.kinds.Command.{Command}
-use Rattle.fuelling_point.specs.declared.kinds.Command.TheVariants as command
 use Rattle.fuelling_point.specs.declared.kinds.DispenserEvent.{DispenserEvent}
 use Rattle.fuelling_point.specs.declared.kinds.Order.{Order}
-use Rattle.fuelling_point.specs.declared.kinds.PointFault.{PointFault}
-use Rattle.fuelling_point.specs.declared.kinds.PointFault.TheVariants.{WrongState, TransactionsFull, NotYourTransaction, NoSuchTransaction, NoOrder, Unexpected}
 use Rattle.till_request.specs.declared.act.Request.{Request}
-use Rattle.till_request.specs.declared.act.Request.TheVariants as request
 use Rattle.till_request.specs.declared.act.Act.{Act}
 use Rattle.till_request.specs.declared.act.Act.TheVariants as act
 use Rattle.till_request.specs.declared.act.Reply.{Reply}
@@ -31,19 +27,20 @@ use Rattle.program_slots.specs.Value.{Version}
 use Rattle.program_slots.specs.Slots.{IsRule}
 use Rattle.site_core.specs.Opening.{OpeningValue, IsOpening, rule_numbers}
 use Rattle.site_core.specs.declared.question.Question.{Question}
+use Rattle.site_core.specs.declared.question.RequestAction.{RequestAction}
+use Rattle.site_core.specs.declared.question.RequestAction.TheVariants as action
 use Rattle.site_core.specs.Limits.{ConfigValue}
-use Rattle.site_core.specs.State.{SiteState, at_number, first_busy, view_of}
+use Rattle.site_core.specs.State.{SiteState, at_number, view_of}
 use Rattle.site_core.specs.Context.{context}
 use Rattle.site_core.specs.History.{loaded, in_force, versions, versions_before, opening_rule}
-use Rattle.site_core.specs.Decide.{Effect, replied, refused, denied, no_such_till, is_decided, is_till, release_question, preset_question, price_question}
+use Rattle.site_core.specs.Decide.{Effect, replied, refused, denied, no_such_till, is_decided, is_till, admitted, request_action}
 use Rattle.site_core.specs.Decide.{decided, verdict, run_result, grant}
-use Rattle.site_core.specs.Step.{effect, asked, till_command_effect, command_effect, dispenser_effect, event_effect, order_reply, fault_reply, show_reply}
+use Rattle.site_core.specs.Step.{effect, effect_of, asked, till_command_effect, command_effect, dispenser_effect, event_effect, order_reply}
 use Rattle.site_core.specs.Legal.{Legal}
 use Rattle.site_core.proofs.Points.{till_command_effect-none, till_command_effect-some, dispenser_effect-none, dispenser_effect-some}
 use Rattle.site_core.proofs.Decisions.{decided-refused, decided-none, decided-some}
 use Rattle.site_core.proofs.Grants.{verdict-deny, verdict-grant}
-use Rattle.site_core.proofs.Undecided.{refuses, release-no, preset-no, price-no}
-use Rattle.day_report.specs.Decisions as told
+use Rattle.day_report.specs.Decisions as decisions
 use Rattle.decision_journal.specs.Tally.{verdict_of}
 use Rattle.day_report.specs.Decisions.{kind_of_request, decision_of, loaded_at, load_of, loads, moment_after}
 use Rattle.day_report.specs.Carried.{carried_from, carried_rules, HasValidOpening}
@@ -56,6 +53,7 @@ use Rattle.day_report.specs.declared.rulings.RequestKind.TheVariants as kinds
 use Rattle.day_report.specs.declared.rulings.Decision.{Decision}
 use Rattle.day_report.specs.declared.counting.DecisionPart.TheVariants as deciding
 use Rattle.day_report.proofs.OneMore.{loads-push}
+use Rattle.day_report.proofs.SiteSteps.{Executes, executes, Admits, admits, fault-plain, show-plain}
 use Rattle.day_report.proofs.SiteSales.{none-key, one-key, add-keys, no-keys}
 
 -- ---- A version has six counts of decisions: grants and denials of releases, of presets and of prices. These lemmas
@@ -118,8 +116,8 @@ above-none v m (n ∷ ns) h lt =
 first-once : (n : ℕ) (ns : List ℕ) → AllByRecursion (λ k. (n == k) ≡ false) ns → times n (n ∷ ns) ≡ 1
 first-once n ns h = sum_by-cons (λ k. if n == k then 1 else 0) n ns ∙ (λ i. (if eq-eqb n n refl i then 1 else 0) + apart-none n ns h i)
 
--- ---- Let the configuration have no opening or a valid one. These lemmas show that the version numbers in the slots
--- are distinct when the day begins, and at most the count of versions loaded before the day.
+-- ---- These lemmas show: if the configuration has no opening or a valid one, then the version numbers in the slots
+-- when the day begins are distinct, and none is over the count of versions loaded before the day.
 
 -- If P holds for the number of each version in the slots, then it holds for the number of v, the version in `slot`.
 at-slot : (P : ℕ → Type 0) (rules : List (Option Version)) (slot : ℕ) (v : Version) → AllByRecursion P (rule_numbers rules)
@@ -153,7 +151,7 @@ low-numbers m (None ∷ rules) h = low-numbers m rules (All-tail (IsRule m) None
 low-numbers m (Some v ∷ rules) h =
     ((All-head (IsRule m) (Some v) rules h).1, low-numbers m rules (All-tail (IsRule m) (Some v) rules h))
 
--- the numbers of the versions that are carried in
+-- the numbers of the versions that are carried in from the day before
 abbrev olds : ConfigValue → List ℕ
 olds config = map (λ (rule : CarriedRule). rule.version) (carried_rules config)
 
@@ -196,8 +194,9 @@ lows config (Some o) good is =
     subst (λ ns. AllByRecursion (λ n. n ≤ versions_before config) ns) (sym numbers)
     (subst (λ m. AllByRecursion (λ n. n ≤ m) (rule_numbers o.rules)) (sym before) (low-numbers o.versions o.rules fits.rules))
 
--- ---- Let each decision be by a version of the day, and let no version carried in have a number over
--- `versions_before`. These lemmas show that the decisions of all versions add up to the number of decisions.
+-- ---- These lemmas show: the decisions of all versions of the day add up to the number of decisions, if each decision
+-- is by a version of the day, and no version carried in from the day before has a number over `versions_before` (the
+-- count of versions loaded before the day).
 
 -- v is the number of a version of a day with n accepted loads. Either exactly one version that was carried in has this
 -- number, or one of the n loads gave this number to its version.
@@ -249,7 +248,10 @@ all-versions config n (d ∷ ds) low fits =
     let later = all-versions config n ds low fits.1 in
     (λ i. sum_by (λ v. sum_by-cons (λ (x : Decision). if x.version == v then 1 else 0) d ds i) (numbers_with config n)) ∙ omega (arith, sums, first, later)
 
--- ---- If `Opens` holds, the version in force in a slot is a version of the day.
+-- ---- These lemmas show that each version in force, when the day begins or later, is a version of the day: it was
+-- carried in from the day before or loaded in the day (`IsVersion`). For this, the number of each version in force when
+-- the day begins must come exactly once among the numbers of the versions carried in, and must be at most
+-- `versions_before` (`Opens`).
 
 if-force : (config : ConfigValue) (b : Bool) (n : ℕ) (p : ProgramText) (o : Option Version) (v : Version) → (o ≡ Some v → IsVersion config n v.number)
     → (if b then Some (record { number = versions_before config + n + 1; program = p }) else o) ≡ Some v → IsVersion config (n + 1) v.number
@@ -277,21 +279,18 @@ in-range config first slot [] v h = inl (first slot v h)
 in-range config first slot (entry ∷ earlier) v h =
     force-more config slot earlier v (loaded entry.act entry.reply) (in-range config first slot earlier v) h
 
--- ---- `DecidesOne` says: if the reply to an act is a grant or S24, then there is exactly one decision, and it is by a
--- version of the day. For any other reply there is no decision.
+-- ---- `DecidesOne` says: if the reply to an act is a grant or S24 (a denial by a program), then there is exactly one
+-- decision, and it is by a version of the day. For any other reply there is no decision.
 
 record DecidesOne (config : ConfigValue) (past : List Entry) (a : Act) (r : Reply) : Type 0 where
-  count : length (option_to_list (told.decided a r)) ≡ (if is_decided r then 1 else 0)
-  fits : VersionsFit config (versions past) (option_to_list (told.decided a r))
+  count : length (option_to_list (decisions.decided a r)) ≡ (if is_decided r then 1 else 0)
+  fits : VersionsFit config (versions past) (option_to_list (decisions.decided a r))
 
 verdict-none : (r : Reply) → is_decided r ≡ false → verdict_of r ≡ None
 verdict-none (reply.Granted g v) h = absurd (cc)
 verdict-none (reply.Refused n None) h = refl
 verdict-none (reply.Refused n (Some v)) h = ap (λ b. if b then Some (v, false) else None) h
-verdict-none reply.Done h = refl
-verdict-none (reply.Version v) h = refl
-verdict-none (reply.Order o) h = refl
-verdict-none (reply.Point b c d e f g i) h = refl
+verdict-none _ h = refl
 
 ask-none : (till : ℕ) (o : Option RequestKind) (w : Option (ℕ × Bool)) → w ≡ None
     → (elim o as (λ _. Option Decision) [
@@ -318,7 +317,7 @@ ask-none till (Some a) w h = ap
       })
     ]) h
 
-act-none : (a : Act) (r : Reply) → is_decided r ≡ false → told.decided a r ≡ None
+act-none : (a : Act) (r : Reply) → is_decided r ≡ false → decisions.decided a r ≡ None
 act-none (act.Till till q) r h = ask-none till (kind_of_request q) (verdict_of r) (verdict-none r h)
 act-none (act.Dispenser n event) r h = refl
 act-none (act.Load slot mask layout bytes) r h = refl
@@ -333,10 +332,11 @@ quiet config past a r h =
 
 -- Let q be a request that a rule decides, and let v be a version of the day. If the reply r to q is the verdict of v (a
 -- grant if g is true, or else a denial), then r counts as exactly one decision.
-says : (config : ConfigValue) (past : List Entry) (till : ℕ) (q : Request) (x : RequestKind) (r : Reply) (v : Version) (g : Bool) → kind_of_request q ≡ Some x → verdict_of r ≡ Some (v.number, g)
-    → is_decided r ≡ true → IsVersion config (versions past) v.number → DecidesOne config past (act.Till till q) r
-says config past till q x r v g asks gives is range =
-    let made : told.decided (act.Till till q) r ≡ Some (record { till = till; asked = x; version = v.number; is_granted = g }) =
+one-decides : (config : ConfigValue) (past : List Entry) (till : ℕ) (q : Request) (x : RequestKind) (r : Reply) (v : Version) (g : Bool)
+    → kind_of_request q ≡ Some x → verdict_of r ≡ Some (v.number, g) → is_decided r ≡ true
+    → IsVersion config (versions past) v.number → DecidesOne config past (act.Till till q) r
+one-decides config past till q x r v g asks gives is range =
+    let made : decisions.decided (act.Till till q) r ≡ Some (record { till = till; asked = x; version = v.number; is_granted = g }) =
     (λ i. elim (asks i) as (λ _. Option Decision) [
       | None ↦ None
       | Some a ↦ elim (gives i) as (λ _. Option Decision) [
@@ -354,45 +354,42 @@ says config past till q x r v g asks gives is range =
       fits = subst (λ o. VersionsFit config (versions past) (option_to_list o)) (sym made) (range, tt);
     }
 
-verdict-says : (config : ConfigValue) (past : List Entry) (s : SiteState) (till moment : ℕ) (q : Question) (v : Version) (n : ℕ) (c : Counters) (r : Request) (x : RequestKind) (b : Bool)
-    → (n == 0) ≡ b → kind_of_request r ≡ Some x → IsVersion config (versions past) v.number → DecidesOne config past (act.Till till r) (verdict s till moment q v n c).reply
-verdict-says config past s till moment q v n c r x true is asks range =
+verdict-decides : (config : ConfigValue) (past : List Entry) (s : SiteState) (till moment : ℕ) (q : Question) (v : Version) (n : ℕ) (c : Counters) (r : Request)
+    (x : RequestKind) (b : Bool) → (n == 0) ≡ b → kind_of_request r ≡ Some x → IsVersion config (versions past) v.number
+    → DecidesOne config past (act.Till till r) (verdict s till moment q v n c).reply
+verdict-decides config past s till moment q v n c r x true is asks range =
     subst (λ e. DecidesOne config past (act.Till till r) e.reply) (sym (verdict-deny s till moment n q v c is))
-    (says config past till r x (denied v.number) v false asks refl refl range)
-verdict-says config past s till moment q v n c r x false is asks range =
+    (one-decides config past till r x (denied v.number) v false asks refl refl range)
+verdict-decides config past s till moment q v n c r x false is asks range =
     let g = grant (record s { counters = c }) till q n in
     subst (λ e. DecidesOne config past (act.Till till r) e.reply) (sym (verdict-grant s till moment n g.0 q v c g.1 is refl))
-    (says config past till r x (reply.Granted g.0 v.number) v true asks refl refl range)
+    (one-decides config past till r x (reply.Granted g.0 v.number) v true asks refl refl range)
 
-version-says : (config : ConfigValue) (first : Opens config) (past : List Entry) (s : SiteState) (till moment : ℕ) (q : Question) (r : Request) (x : RequestKind) (o : Option Version) → in_force config q.slot past ≡ o
-    → kind_of_request r ≡ Some x → DecidesOne config past (act.Till till r) (decided config past s till moment (Ok q)).reply
-version-says config first past s till moment q r x None none asks =
+version-decides : (config : ConfigValue) (first : Opens config) (past : List Entry) (s : SiteState) (till moment : ℕ) (q : Question) (r : Request)
+    (x : RequestKind) (o : Option Version) → in_force config q.slot past ≡ o → kind_of_request r ≡ Some x
+    → DecidesOne config past (act.Till till r) (decided config past s till moment (Ok q)).reply
+version-decides config first past s till moment q r x None none asks =
     subst (λ e. DecidesOne config past (act.Till till r) e.reply) (sym (decided-none config past s till moment q none)) (quiet config past (act.Till till r) _ refl)
-version-says config first past s till moment q r x (Some v) some asks =
+version-decides config first past s till moment q r x (Some v) some asks =
     let y : ℕ × Counters = run_result (outcome v.program (bytes_of (context v.program.layout s till moment q)) (view_of s) s.counters) s.counters in
     subst (λ e. DecidesOne config past (act.Till till r) e.reply) (sym (decided-some config past s till moment q v some))
-    (verdict-says config past s till moment q v y.0 y.1 r x (y.0 == 0) refl asks (in-range config first q.slot past v some))
+    (verdict-decides config past s till moment q v y.0 y.1 r x (y.0 == 0) refl asks (in-range config first q.slot past v some))
 
-question-says : (config : ConfigValue) (first : Opens config) (past : List Entry) (s : SiteState) (till moment : ℕ) (r : Request) (x : RequestKind) (y : Result Question Reply) → kind_of_request r ≡ Some x
-    → refuses y ≡ false → DecidesOne config past (act.Till till r) (decided config past s till moment y).reply
-question-says config first past s till moment r x (Err f) asks silent =
-    subst (λ e. DecidesOne config past (act.Till till r) e.reply) (sym (decided-refused config past s till moment f)) (quiet config past (act.Till till r) f silent)
-question-says config first past s till moment r x (Ok q) asks silent = version-says config first past s till moment q r x (in_force config q.slot past) refl asks
+question-decides : (config : ConfigValue) (first : Opens config) (past : List Entry) (s : SiteState) (till moment : ℕ) (q : Question) (r : Request)
+    (x : RequestKind) (y : Result Question Reply) → Admits q y → kind_of_request r ≡ Some x
+    → DecidesOne config past (act.Till till r) (decided config past s till moment y).reply
+question-decides config first past s till moment q r x (Err f) plain asks =
+    subst (λ e. DecidesOne config past (act.Till till r) e.reply) (sym (decided-refused config past s till moment f))
+    (quiet config past (act.Till till r) f plain.1)
+question-decides config first past s till moment q r x (Ok y) same asks =
+    version-decides config first past s till moment y r x (in_force config y.slot past) refl asks
 
 -- ---- These lemmas show that the reply to an event, to a load, or to a request that no rule decides is neither a grant
--- nor S24.
-
-fault-no : (f : PointFault) → is_decided (fault_reply f) ≡ false
-fault-no (WrongState st) = refl
-fault-no TransactionsFull = refl
-fault-no NotYourTransaction = refl
-fault-no NoSuchTransaction = refl
-fault-no NoOrder = refl
-fault-no Unexpected = refl
+-- nor S24 (a denial by a program).
 
 command-no : (s : SiteState) (n : ℕ) (a : StepResult (Option ℕ)) → is_decided (command_effect s n a).reply ≡ false
 command-no s n (Ok (p, cleared)) = refl
-command-no s n (Err f) = fault-no f
+command-no s n (Err f) = (fault-plain f).1
 
 till_command_effect-no : (s : SiteState) (till n : ℕ) (c : Command) (o : Option PointState) → at_number s.points n ≡ o → is_decided (till_command_effect s till n c).reply ≡ false
 till_command_effect-no s till n c None at = ap (λ e. is_decided e.reply) (till_command_effect-none s till n c at)
@@ -404,54 +401,35 @@ order-no (Some x) = refl
 
 event-no : (s : SiteState) (n : ℕ) (a : StepResult (Option Order)) → is_decided (event_effect s n a).reply ≡ false
 event-no s n (Ok (p, o)) = order-no o
-event-no s n (Err f) = fault-no f
+event-no s n (Err f) = (fault-plain f).1
 
 dispenser_effect-no : (s : SiteState) (n : ℕ) (event : DispenserEvent) (o : Option PointState) → at_number s.points n ≡ o
     → is_decided (dispenser_effect s n event).reply ≡ false
 dispenser_effect-no s n event None at = ap (λ e. is_decided e.reply) (dispenser_effect-none s n event at)
 dispenser_effect-no s n event (Some p) at = ap (λ e. is_decided e.reply) (dispenser_effect-some s n event p at) ∙ event-no s n (event_step p event)
 
-show-no : (s : SiteState) (n : ℕ) (o : Option PointState) → at_number s.points n ≡ o → is_decided (show_reply s n) ≡ false
-unfolding show_reply
-show-no s n None at = rw (at, show_reply) refl
-show-no s n (Some p) at = rw (at, show_reply) refl
-
 load-no : (slot more : Bool) (v : ℕ) → is_decided (if slot then if more then reply.Version v else refused 30 else refused 32) ≡ false
 load-no true true v = refl
 load-no true false v = refl
 load-no false more v = refl
 
--- ---- If `Opens` holds, `DecidesOne` holds for any act and the site's reply to it.
+-- ---- These lemmas show `DecidesOne` for any act and the site's reply to it: a grant or S24 (a denial by a program) is
+-- one decision by a version of the day, and any other reply is none. For this, the number of each version in force
+-- when the day begins must come exactly once among the numbers of the versions carried in, and must be at most
+-- `versions_before` (`Opens`).
 
-asked-decides : (config : ConfigValue) (first : Opens config) (past : List Entry) (s : SiteState) (till moment : ℕ) (r : Request)
-    → DecidesOne config past (act.Till till r) (asked config past s till moment r).reply
-asked-decides config first past s till moment (request.Release n a) = question-says config first past s till moment (request.Release n a) kinds.Release
-    (release_question config s n a) refl (release-no config s n a (at_number s.points n) refl)
-asked-decides config first past s till moment (request.Preset n a) =
-    question-says config first past s till moment (request.Preset n a) kinds.Preset (preset_question config s n a) refl (preset-no config s n a (at_number s.points n) refl)
-asked-decides config first past s till moment (request.Price n a) =
-    question-says config first past s till moment (request.Price n a) kinds.Price (price_question config s n a) refl (price-no (first_busy s) n a config.price_slot)
-asked-decides config first past s till moment (request.OpenPoint n) =
-    quiet config past (act.Till till (request.OpenPoint n)) _ (till_command_effect-no s till n command.OpenPoint (at_number s.points n) refl)
-asked-decides config first past s till moment (request.ClosePoint n) =
-    quiet config past (act.Till till (request.ClosePoint n)) _ (till_command_effect-no s till n command.ClosePoint (at_number s.points n) refl)
-asked-decides config first past s till moment (request.Suspend n) =
-    quiet config past (act.Till till (request.Suspend n)) _ (till_command_effect-no s till n command.Suspend (at_number s.points n) refl)
-asked-decides config first past s till moment (request.Resume n) =
-    quiet config past (act.Till till (request.Resume n)) _ (till_command_effect-no s till n command.Resume (at_number s.points n) refl)
-asked-decides config first past s till moment (request.Stop n) =
-    quiet config past (act.Till till (request.Stop n)) _ (till_command_effect-no s till n command.Stop (at_number s.points n) refl)
-asked-decides config first past s till moment (request.Lock n x) =
-    quiet config past (act.Till till (request.Lock n x)) _ (till_command_effect-no s till n (command.Lock x) (at_number s.points n) refl)
-asked-decides config first past s till moment (request.Unlock n x) =
-    quiet config past (act.Till till (request.Unlock n x)) _ (till_command_effect-no s till n (command.Unlock x) (at_number s.points n) refl)
-asked-decides config first past s till moment (request.Clear n x) =
-    quiet config past (act.Till till (request.Clear n x)) _ (till_command_effect-no s till n (command.Clear x) (at_number s.points n) refl)
-asked-decides config first past s till moment (request.Show n) = quiet config past (act.Till till (request.Show n)) _ (show-no s n (at_number s.points n) refl)
+action-decides : (config : ConfigValue) (first : Opens config) (past : List Entry) (s : SiteState) (till moment : ℕ) (r : Request) (a : RequestAction)
+    → Executes r a → DecidesOne config past (act.Till till r) (effect_of config past s till moment a).reply
+action-decides config first past s till moment r (action.Decision q) does =
+    question-decides config first past s till moment q r does.0 (admitted s q) (admits s q) does.1
+action-decides config first past s till moment r (action.Command n c) does =
+    quiet config past (act.Till till r) _ (till_command_effect-no s till n c (at_number s.points n) refl)
+action-decides config first past s till moment r (action.Show n) does = quiet config past (act.Till till r) _ (show-plain s n (at_number s.points n) refl).1
 
 till-decides : (config : ConfigValue) (first : Opens config) (past : List Entry) (s : SiteState) (till moment : ℕ) (r : Request) (b : Bool)
     → DecidesOne config past (act.Till till r) (if b then asked config past s till moment r else replied no_such_till s).reply
-till-decides config first past s till moment r true = asked-decides config first past s till moment r
+till-decides config first past s till moment r true =
+    action-decides config first past s till moment r (request_action config r) (executes config r)
 till-decides config first past s till moment r false = quiet config past (act.Till till r) no_such_till refl
 
 effect-decides : (config : ConfigValue) (first : Opens config) (past : List Entry) (s : SiteState) (moment : ℕ) (a : Act) → DecidesOne config past a (effect config past s moment a).reply
@@ -460,8 +438,8 @@ effect-decides config first past s moment (act.Dispenser n event) = quiet config
 effect-decides config first past s moment (act.Load slot mask layout bytes) =
     quiet config past (act.Load slot mask layout bytes) _ (load-no (nat_le slot 15) (nat_lt (versions past) 4096) (versions_before config + versions past + 1))
 
--- ---- If `DecidesOne` holds for an entry's act and reply, then the entry has one decision if its reply is a grant or
--- S24, and otherwise none.
+-- ---- If `DecidesOne` is true for an entry's act and reply, then the entry itself has one decision if its reply is a
+-- grant or S24 (a denial by a program), and otherwise none.
 
 entry-decides : (config : ConfigValue) (past : List Entry) (entry : Entry) → DecidesOne config past entry.act entry.reply
     → (length (option_to_list (decision_of entry)) ≡ (if is_decided entry.reply then 1 else 0))
@@ -473,7 +451,8 @@ one-decision : (entry : Entry) (o : Option Decision) → decision_of entry ≡ o
 one-decision entry None is = rw is refl
 one-decision entry (Some d) is = rw is refl
 
--- ---- These lemmas show that the versions loaded in a day have successive numbers, from `versions_before` + 1 on.
+-- ---- These lemmas show that the versions loaded in a day have successive numbers, from `versions_before` + 1 on
+-- (`versions_before` is the count of versions loaded before the day).
 
 abbrev numbers : List Load → List ℕ
 numbers ls = map (λ (load : Load). load.version) ls
@@ -526,9 +505,12 @@ versions-more : (n : ℕ) (o : Option (ℕ × ProgramText)) → n ≤ (elim o as
 versions-more n None = omega arith
 versions-more n (Some l) = omega arith
 
--- ---- These lemmas show by induction, for any legal history (`Comes`): there are as many decisions as replies that are
--- a grant or S24, all decisions are by versions of the day, and the versions loaded in the day have successive numbers,
--- from `versions_before` + 1 on. `Opens` must hold. `past` is the history, newest entry first.
+-- ---- These lemmas show by induction that `Comes` is true for any legal history. For this, the number of each version
+-- in force when the day begins must come exactly once among the numbers of the versions carried in, and must be at most
+-- `versions_before` (`Opens`). `Comes` says of the history `past`, newest entry first:
+-- - There are as many decisions as replies that are a grant or S24 (a denial by a program).
+-- - All decisions are by versions of the day.
+-- - The versions loaded in the day have successive numbers, from `versions_before` + 1 on.
 
 record Comes (config : ConfigValue) (past : List Entry) : Type 0 where
   count : length (filter_map decision_of (reverse past)) ≡ count_by (λ (e : Entry). is_decided e.reply) (reverse past)
@@ -572,8 +554,8 @@ comes config first (entry ∷ past) s l =
     comes-more config past entry (subst (DecidesOne config past entry.act) (sym answered) (effect-decides config first past l.0 entry.moment entry.act))
     (subst (Numbers config past entry.act) (sym answered) (effect-numbers config past l.0 entry.moment entry.act)) (comes config first past l.0 l.1)
 
-pub tells : VersionsCountAllDecisions
-tells config history state good legal =
+pub versions-count-all : VersionsCountAllDecisions
+versions-count-all config history state good legal =
     let first : Opens config = opens config config.opening good refl in
     let low = lows config config.opening good refl in
     let c : Comes config (reverse history) = comes config first (reverse history) state legal in

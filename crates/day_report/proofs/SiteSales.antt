@@ -32,7 +32,7 @@ use Rattle.day_report.proofs.Walking.{changed-at, changed-nowhere}
 use Rattle.fuelling_point.specs.declared.kinds.Command.{Command}
 use Rattle.std.proofs.Math.ListN.{length-set}
 use Rattle.day_report.proofs.OneMore.{replayed-push, sales-push}
-use Rattle.day_report.proofs.SiteSteps.{AgreesAfter, effect-says, paid, cents_of, one_of}
+use Rattle.day_report.proofs.SiteSteps.{AgreesAfter, effect-agrees, clearing-none, paid, cents_of, one_of}
 
 -- ---- These lemmas show: if an entry cleared an unpaid transaction, then it makes one sale, with the transaction's
 -- cents. Otherwise it makes no sale.
@@ -88,14 +88,6 @@ fit-append : (config : ConfigValue) (xs ys : List Sale) → Fit config xs → Fi
 fit-append config [] ys f g = g
 fit-append config (x ∷ xs) ys f g = (f.0, fit-append config xs ys f.1 g)
 
-clearing-none : (a : Act) (r : Reply) → cleared_by a ≡ None → clearing_of a r ≡ None
-clearing-none a reply.Done none = none
-clearing-none a (reply.Granted g v) none = refl
-clearing-none a (reply.Version v) none = refl
-clearing-none a (reply.Order o) none = refl
-clearing-none a (reply.Point b c d e f g h) none = refl
-clearing-none a (reply.Refused n v) none = refl
-
 none-clearing : {P : Type 0} (a : Act) (r : Reply) (c : Clearing) → cleared_by a ≡ None → clearing_of a r ≡ Some c → P
 none-clearing a r c none some = absurd (let e : ◌≡◌ {A = Option Clearing} None (Some c) = sym (clearing-none a r none) ∙ some in cc)
 
@@ -103,25 +95,11 @@ some-till : (till : ℕ) (r : Request) (c : Clearing) → cleared_by (act.Till t
 some-till till (request.Clear n x) c h =
     let e : ◌≡◌ {A = Clearing} (record { till = till; point = n; number = x }) c = cc in
     sym (ap (λ (y : Clearing). y.till) e)
-some-till till (request.Release n a) c h = absurd (cc)
-some-till till (request.Preset n a) c h = absurd (cc)
-some-till till (request.Price n a) c h = absurd (cc)
-some-till till (request.OpenPoint n) c h = absurd (cc)
-some-till till (request.ClosePoint n) c h = absurd (cc)
-some-till till (request.Suspend n) c h = absurd (cc)
-some-till till (request.Resume n) c h = absurd (cc)
-some-till till (request.Stop n) c h = absurd (cc)
-some-till till (request.Lock n x) c h = absurd (cc)
-some-till till (request.Unlock n x) c h = absurd (cc)
-some-till till (request.Show n) c h = absurd (cc)
+some-till till _ c h = absurd (cc)
 
 of-done : (a : Act) (r : Reply) (c : Clearing) → clearing_of a r ≡ Some c → cleared_by a ≡ Some c
 of-done a reply.Done c h = h
-of-done a (reply.Granted g v) c h = absurd (cc)
-of-done a (reply.Version v) c h = absurd (cc)
-of-done a (reply.Order o) c h = absurd (cc)
-of-done a (reply.Point b d e f g i j) c h = absurd (cc)
-of-done a (reply.Refused n v) c h = absurd (cc)
+of-done a _ c h = absurd (cc)
 
 till-clears : (config : ConfigValue) (past : List Entry) (s : SiteState) (till moment : ℕ) (r : Request) (b : Bool) (c : Clearing) → is_till config till ≡ b
     → clearing_of (act.Till till r) (if b then asked config past s till moment r else replied no_such_till s).reply ≡ Some c → is_till config c.till ≡ true
@@ -172,16 +150,16 @@ record Comes (config : ConfigValue) (past : List Entry) (s : SiteState) : Type 0
 reverse-more : (entry : Entry) (past : List Entry) → reverse (entry ∷ past) ≡ reverse past ++ entry ∷ []
 reverse-more entry past = reverse-append (entry ∷ []) past
 
-entry-tells : (config : ConfigValue) (past : List Entry) (b : SiteState) (entry : Entry) (e : Effect)
+entry-agrees : (config : ConfigValue) (past : List Entry) (b : SiteState) (entry : Entry) (e : Effect)
     → entry ≡ entry_of past entry.pass entry.moment entry.act e → AgreesAfter b entry.act e
     → (with_entry b.points entry ≡ e.after.points) × (e.after.cleared ≡ b.cleared + cents_of (paid b.points (clearing_of entry.act entry.reply)))
     × (e.after.clears ≡ b.clears + one_of (paid b.points (clearing_of entry.act entry.reply)))
 unfolding with_entry
-entry-tells config past b entry e is tells =
+entry-agrees config past b entry e is agrees =
     let answered : entry.reply ≡ e.reply = ap (λ (x : Entry). x.reply) is in (
-      ap (λ r. with_act b.points entry.act r) answered ∙ tells.points,
-      tells.cleared ∙ ap (λ r. b.cleared + cents_of (paid b.points (clearing_of entry.act r))) (sym answered),
-      tells.clears ∙ ap (λ r. b.clears + one_of (paid b.points (clearing_of entry.act r))) (sym answered),
+      ap (λ r. with_act b.points entry.act r) answered ∙ agrees.points,
+      agrees.cleared ∙ ap (λ r. b.cleared + cents_of (paid b.points (clearing_of entry.act r))) (sym answered),
+      agrees.clears ∙ ap (λ r. b.clears + one_of (paid b.points (clearing_of entry.act r))) (sym answered),
     )
 
 changed-long : (points : List PointState) (n : ℕ) (becomes : PointState → PointState) (o : Option PointState) → at_number points n ≡ o
@@ -194,13 +172,13 @@ if-long : (points : List PointState) (n : ℕ) (becomes : PointState → PointSt
 if-long points n becomes true = changed-long points n becomes (at_number points n) refl
 if-long points n becomes false = refl
 
-told-long : (points : List PointState) (till : ℕ) (o : Option (ℕ × Command))
+command-long : (points : List PointState) (till : ℕ) (o : Option (ℕ × Command))
     → length (elim o as (λ _. List PointState) [ None ↦ points | Some c ↦ with_command points till c ]) ≡ length points
-told-long points till None = refl
-told-long points till (Some c) = if-long points c.0 (λ p. after_command p till c.1) (nat_lt 0 till)
+command-long points till None = refl
+command-long points till (Some c) = if-long points c.0 (λ p. after_command p till c.1) (nat_lt 0 till)
 
 act-long : (points : List PointState) (a : Act) (r : Reply) → length (with_act points a r) ≡ length points
-act-long points (act.Till till q) r = told-long points till (executed_command q r)
+act-long points (act.Till till q) r = command-long points till (executed_command q r)
 act-long points (act.Dispenser n event) r = changed-long points n (λ p. after_event p event) (at_number points n) refl
 act-long points (act.Load slot mask layout bytes) r = refl
 
@@ -208,9 +186,9 @@ entry-long : (points : List PointState) (entry : Entry) → length (with_entry p
 unfolding with_entry
 entry-long points entry = act-long points entry.act entry.reply
 
--- Let there be as many points as the site has at its start, and let the clearing o, if any, be by a till of the
--- configuration. Then the sale that the entry makes by this clearing, if any, is at a point that the site has at its
--- start, and by a till of the configuration.
+-- If the entry makes a sale by the clearing o, then the sale is at a point that the site has at its start, and by a
+-- till of the configuration. For this, there must be as many points as at the start, and o must be by a till of the
+-- configuration.
 sold-fits : (config : ConfigValue) (points : List PointState) (entry : Entry) (o : Option Clearing) (t : Option Transaction)
     → length points ≡ length (opening_state config).points → ((c : Clearing) → o ≡ Some c → is_till config c.till ≡ true) → paid points o ≡ t
     → Fit config (option_to_list (sold entry o t))
@@ -242,7 +220,7 @@ comes-more : (config : ConfigValue) (past : List Entry) (b s : SiteState) (entry
 comes-more config past b s entry h is leaves =
     let e : Effect = effect config past b entry.moment entry.act in
     let start : List PointState = (opening_state config).points in
-    let told = entry-tells config past b entry e is (effect-says config past b entry.moment entry.act) in
+    let agrees = entry-agrees config past b entry e is (effect-agrees config past b entry.moment entry.act) in
     let stands : replayed start (reverse (entry ∷ past)) ≡ with_entry b.points entry =
     ap (replayed start) (reverse-more entry past) ∙ replayed-push start (reverse past) entry ∙ ap (λ p. with_entry p entry) h.points in
     let sells : sales start (reverse (entry ∷ past)) ≡ sales start (reverse past) ++ option_to_list (sale_of b.points entry) =
@@ -257,13 +235,13 @@ comes-more config past b s entry h is leaves =
     let summed = h.cents in
     let one = pays.1 in
     let paid_now = pays.0 in
-    let by_clears = told.2 in
-    let by_cleared = told.1 in
+    let by_clears = agrees.2 in
+    let by_cleared = agrees.1 in
     record {
-      points = stands ∙ told.0 ∙ ap (λ (x : SiteState). x.points) (sym leaves);
+      points = stands ∙ agrees.0 ∙ ap (λ (x : SiteState). x.points) (sym leaves);
       count = omega (arith, more, clears, counted, one, by_clears);
       cents = omega (arith, sum, cleared, summed, paid_now, by_cleared);
-      long = ap (λ (x : SiteState). length x.points) leaves ∙ ap length (sym told.0) ∙ entry-long b.points entry ∙ h.long;
+      long = ap (λ (x : SiteState). length x.points) leaves ∙ ap length (sym agrees.0) ∙ entry-long b.points entry ∙ h.long;
       fits = subst (Fit config) (sym sells) (fit-append config (sales start (reverse past)) (option_to_list (sale_of b.points entry)) h.fits
           (sale-fits config past b entry (clearing_of entry.act entry.reply) (paid b.points (clearing_of entry.act entry.reply)) h.long is refl refl));
     }
@@ -284,7 +262,8 @@ comes config (entry ∷ past) s l = comes-more config past l.0 s entry (comes co
 -- ---- A sale's key is its point or its till. These lemmas say that the sums for all keys add up to the sum of all
 -- sales.
 
--- A sum over the n keys from a on counts v for the key x, and 0 for any other key. If x is below a, the sum is 0.
+-- If x is below a, then x is none of the n keys from a on. So a sum over these keys that counts v for the key x, and 0
+-- for any other key, is 0.
 pub none-key : (a n x v : ℕ) → x < a → sum_by (λ k. if x == k then v else 0) (range_with_len a n) ≡ 0
 none-key a zero x v below = refl
 none-key a (suc n) x v below =
@@ -303,7 +282,7 @@ by-first a n x v false is least less later =
     let rest = later more (omega arith) in
     sum_by-cons (λ k. if x == k then v else 0) a (range_with_len (a + 1) n) ∙ (λ i. (if is i then v else 0) + rest i) ∙ omega arith
 
--- A sum over the n keys from a on counts v for the key x, and 0 for any other key. If x is one of these keys, the sum
+-- If x is one of the n keys from a on, then a sum over these keys that counts v for the key x, and 0 for any other key,
 -- is v.
 pub one-key : (a n x v : ℕ) → a ≤ x → x < a + n → sum_by (λ k. if x == k then v else 0) (range_with_len a n) ≡ v
 one-key a zero x v least less = absurd (omega arith)
@@ -350,8 +329,8 @@ till-keys config tills [] most f = tt
 till-keys config tills (s ∷ sales) most f = let l : s.till ≤ config.tills =
     f.0.till in ((f.0.some_till, omega (arith, l, most)), till-keys config tills sales most f.1)
 
-pub tells : SalesAgreeWithTheSite
-tells config history state legal =
+pub sales-agree : SalesAgreeWithTheSite
+sales-agree config history state legal =
     let c : Comes config (reverse history) state = comes config (reverse history) state legal in
     let same : reverse (reverse history) ≡ history = reverse-reverse history in
     let before : ℕ = (opening_state config).cleared in

@@ -16,9 +16,8 @@ use Rattle.site_core.proofs.Points.{at_number-read}
 use Rattle.day_report.specs.Walk.{with_changed, with_command, with_event, after_event}
 use Rattle.day_report.specs.Following.{UpdatesTo}
 
--- `a` is what the table of fuelling points says for a command at the point p: the point after the command, or an error.
--- If the command did what the table says, then the point `new` after the command is the point in `a`, or p if `a` is an
--- error.
+-- If a command at the point p did what the table of fuelling points says, then the point `new` after the command is the
+-- new point in `a`, or p if `a` is an error. `a` is what the table says: the new point, or an error.
 after-command-is : (a : StepResult (Option ℕ)) (p new : PointState) (outcome : Result (Option ℕ) PointFault) → FollowsTable a p outcome new
     → (elim a as (λ _. PointState) [ Ok o ↦ o.0 | Err f ↦ p ]) ≡ new
 after-command-is (Ok (q, given)) p new outcome h = sym h.1

@@ -20,7 +20,7 @@ carried_from slot (rule ∷ rules) = cons_option (carried_at slot rule) (carried
 abbrev pub carried_rules : ConfigValue → List CarriedRule
 carried_rules config = elim config.opening [ None ↦ [] | Some o ↦ carried_from 0 o.rules ]
 
--- The configuration has no opening, or one that a site with the configuration's points can begin with. `IsConfig`
--- includes this.
+-- The configuration has no opening, or one that a site with the configuration's points can begin with. This is so for
+-- every `Config`, since its invariant `IsConfig` includes it.
 abbrev pub HasValidOpening : ConfigValue → Type 0
 HasValidOpening config = (o : OpeningValue) → config.opening ≡ Some o → IsOpening (length config.points) o

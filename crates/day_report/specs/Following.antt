@@ -1,4 +1,5 @@
--- Promises: what the points are after a change, and bounds for the transaction numbers that they have given out.
+-- Promises: what the fuelling points are after a change, and bounds for the transaction numbers that they have given
+-- out.
 use Rattle.std.specs.Prelude.{◌≡◌, ℕ, ◌+◌, ◌≤◌, List, All}
 use Rattle.fuelling_point.specs.Table.{PointState}
 

@@ -31,7 +31,8 @@ pub record AgreesWithItsSite (config : ConfigValue) (history : List Entry) (stat
   pub by_till : (tills : ℕ) → config.tills ≤ tills
       → (opening_state config).cleared + sum_by (λ t. cents_in (part.Till t) (sales_of config history)) (range_with_len 1 tills) ≡ state.cleared
 
--- The sales in the journal of any legal history agree with the state that the history leads to.
+-- For any history that the site's steps can make (`LegalHistory`), the sales in it agree with the state that it leads
+-- to, as `AgreesWithItsSite` says.
 abbrev pub SalesAgreeWithTheSite : Type 0
 SalesAgreeWithTheSite = (config : ConfigValue) (history : List Entry) (state : SiteState) → LegalHistory config history state → AgreesWithItsSite config history state
 
@@ -41,9 +42,10 @@ decided_in_all v ds =
     decided_by deciding.Releases true v ds + decided_by deciding.Releases false v ds + decided_by deciding.Presets true v ds
     + decided_by deciding.Presets false v ds + decided_by deciding.Prices true v ds + decided_by deciding.Prices false v ds
 
--- In a legal history, the decisions (grants and denials) of all versions are together as many as the entries whose
--- reply is a grant or S24 (a denial by a program). The versions are those carried in from the day before and those
--- loaded. `HasValidOpening` is required so that no version is counted twice.
+-- In any history that the site's steps can make (`LegalHistory`), the decisions (grants and denials) of all versions
+-- are together as many as the entries whose reply is a grant or S24 (a denial by a program). The versions are those
+-- carried in from the day before and those loaded. The configuration must have no opening or a valid one
+-- (`HasValidOpening`), so that no version is counted twice.
 abbrev pub VersionsCountAllDecisions : Type 0
 VersionsCountAllDecisions =
     (config : ConfigValue) (history : List Entry) (state : SiteState) → HasValidOpening config → LegalHistory config history state →

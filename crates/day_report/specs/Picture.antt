@@ -9,10 +9,13 @@ use Rattle.fuelling_point.specs.declared.kinds.State.{State}
 use Rattle.fuelling_point.specs.States.{state_number}
 use Rattle.fuelling_point.specs.Table.{PointState}
 use Rattle.site_core.specs.State.{at_number}
-use Rattle.till_request.specs.declared.act.Request.{Request}
-use Rattle.till_request.specs.declared.act.Request.TheVariants as request
 use Rattle.till_request.specs.declared.act.Act.{Act}
 use Rattle.till_request.specs.declared.act.Act.TheVariants as act
+use Rattle.till_request.specs.declared.form.AmountVerb.TheVariants as amount_verbs
+use Rattle.till_request.specs.declared.form.PointVerb.TheVariants as point_verbs
+use Rattle.till_request.specs.declared.form.RequestByForm.{RequestByForm}
+use Rattle.till_request.specs.declared.form.RequestByForm.TheVariants as request_forms
+use Rattle.till_request.specs.Grammar.{by_form}
 use Rattle.day_report.specs.Walk.{with_entry, replayed}
 use Rattle.day_report.specs.declared.steps.Axis.{Axis}
 use Rattle.day_report.specs.declared.steps.Axis.TheVariants as axis
@@ -70,24 +73,17 @@ unfoldable pub axis_of : List Entry → Axis
 axis_of entries =
     axis_by (length entries) (never_fall 0 (moments_in entries)) (first_in (moments_in entries)) (last_in 0 (moments_in entries))
 
--- The point that a till's request can change; None if it can change none.
-abbrev pub point_changed_by_request : Request → Option ℕ
-point_changed_by_request (request.Price product price) = None
-point_changed_by_request (request.Show product) = None
-point_changed_by_request (request.Release n amount) = Some n
-point_changed_by_request (request.Preset n amount) = Some n
-point_changed_by_request (request.Lock n number) = Some n
-point_changed_by_request (request.Unlock n number) = Some n
-point_changed_by_request (request.Clear n number) = Some n
-point_changed_by_request (request.OpenPoint n) = Some n
-point_changed_by_request (request.ClosePoint n) = Some n
-point_changed_by_request (request.Suspend n) = Some n
-point_changed_by_request (request.Resume n) = Some n
-point_changed_by_request (request.Stop n) = Some n
+-- The point that a till's request of this form can change; None if it can change none.
+abbrev pub point_changed_by_request : RequestByForm → Option ℕ
+point_changed_by_request (request_forms.Amount amount_verbs.Price product price) = None
+point_changed_by_request (request_forms.Point point_verbs.Show point) = None
+point_changed_by_request (request_forms.Amount verb point amount) = Some point
+point_changed_by_request (request_forms.Point verb point) = Some point
+point_changed_by_request (request_forms.Transaction verb point number) = Some point
 
 -- The point that an act can change; None if it can change none.
 abbrev pub point_changed_by_act : Act → Option ℕ
-point_changed_by_act (act.Till till request) = point_changed_by_request request
+point_changed_by_act (act.Till till request) = point_changed_by_request (by_form request)
 point_changed_by_act (act.Dispenser n event) = Some n
 point_changed_by_act (act.Load slot mask layout bytes) = None
 

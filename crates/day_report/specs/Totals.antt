@@ -88,8 +88,9 @@ pub record IsSum (sum : Sum) (part : SalesPart) (sales : List Sale) : Type 0 whe
   pub cents : sum.cents ≡ cents_in part sales
   pub centilitres : sum.centilitres ≡ centilitres_in part sales
 
--- The part for place k, counted from 0, in the list of sums by point: the sales at point k + 1. For the sums by till
--- and by hour, `part_of_till` and `part_of_hour` do the same. Points and tills are counted from 1, hours from 0.
+-- The part of the sales that the list of sums by point adds up at place k, counted from 0: the sales at point k + 1.
+-- `part_of_till` and `part_of_hour` are the parts at place k in the lists of sums by till and by hour. Points and tills
+-- are counted from 1, hours from 0.
 abbrev pub part_of_point : ℕ → SalesPart
 part_of_point k = part.Point (k + 1)
 

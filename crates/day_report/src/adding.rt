@@ -34,8 +34,8 @@ pub const MAX_TILLS: u32 = 64;
 
 const HOURS: u32 = 24;
 
-/// The totals of a history: its sales, refusals, versions of rules, price changes and decisions. Also the points and
-/// the unpaid transactions at its end.
+/// The totals of a history: its sales, refusals, versions of rules, price changes and decisions. Also the fuelling
+/// points and the unpaid transactions after its last entry.
 #[derive(Drop)]
 pub struct Totals {
     pub entries: usize,
@@ -146,8 +146,8 @@ fn refused_in(alloc: Global, entries: &[Entry]) -> Result<Vec<usize>, AllocError
     refusal_counts(alloc, &numbers)
 }
 
-/// Returns how often each of these versions of rules granted and how often it denied. Only decisions in `part` are
-/// counted. The error is that memory ran out.
+/// Returns how often each version in `versions` granted requests and how often it denied them, among the decisions in
+/// `part`. The error is that memory ran out.
 fn outcomes(
     alloc: Global,
     decisions: &[Decision],
@@ -241,7 +241,7 @@ fn sums_of(alloc: Global, sales: &[Sale], points: usize) -> Result<Sums, AllocEr
     })
 }
 
-/// How often each version of a rule granted and denied: by the kind of the request, and by the till that sent it.
+/// How often each version of a rule granted and denied requests, counted for each kind of request and for each till.
 #[derive(Drop)]
 struct Verdicts {
     releases: Outcomes,
@@ -307,7 +307,7 @@ fn takings_of(alloc: Global, config: &Config, entries: &[Entry]) -> Result<Sales
 }
 
 /// The versions of a day: the rules that were carried in from the day before, the day's loads, and the version numbers
-/// of both.
+/// of these rules and loads.
 #[derive(Drop)]
 struct Versions {
     carried: Vec<CarriedRule>,

@@ -16,7 +16,7 @@ use decision_journal::Entry;
 use fuelling_point::{Point, State};
 use site_core::Config;
 use std::alloc::{AllocError, Global};
-use till_request::{Act, Request};
+use till_request::{Act, AmountVerb, PointVerb, RequestByForm};
 
 /// The most steps that the axis of a picture is divided into.
 const STEPS: usize = 2000;
@@ -144,7 +144,7 @@ fn step_ends(
     Ok(step_ends)
 }
 
-/// The states of the fuelling points that a picture shows:
+/// The states that a picture shows for the fuelling points:
 ///
 /// - `points` and `steps`: how many points and how many steps the picture has
 /// - `states`: first the states of all points in step 0, point 1 first, then those in step 1, and so on
@@ -161,12 +161,12 @@ fn point_of(entry: &Entry) -> Option<u32>
     ensures { result ≡ point_changed_by_act entry.now.act }
 {
     match &entry.act {
-        Act::Till { request, .. } => match request {
-            Request::Price(_, _) | Request::Show(_) => None,
-            Request::Release(n, _) | Request::Preset(n, _) => Some(*n),
-            Request::Lock(n, _) | Request::Unlock(n, _) | Request::Clear(n, _) => Some(*n),
-            Request::OpenPoint(n) | Request::ClosePoint(n) => Some(*n),
-            Request::Suspend(n) | Request::Resume(n) | Request::Stop(n) => Some(*n),
+        Act::Till { request, .. } => match request.by_form() {
+            RequestByForm::Amount(AmountVerb::Price, _, _) => None,
+            RequestByForm::Point(PointVerb::Show, _) => None,
+            RequestByForm::Amount(_, n, _) => Some(n),
+            RequestByForm::Point(_, n) => Some(n),
+            RequestByForm::Transaction(_, n, _) => Some(n),
         },
         Act::Dispenser { point, .. } => Some(*point),
         Act::Load { .. } => None,
@@ -196,9 +196,9 @@ fn show_point(states: &mut [State], points: &[Point], n: Option<u32>)
     }
 }
 
-/// Applies the entries of a step to the points. An entry can change at most one point. If this point's state after the
-/// entry has a greater `State::number` than its state in `states`, it replaces the state in `states`. The last
-/// transaction number of each point, plus the number of entries, must be at most 2^32 - 1.
+/// Applies the entries of a step to the points. An entry can change at most one point. After the entry, this point's
+/// new state replaces its state in `states`, if the new state has the greater `State::number`. The last transaction
+/// number of each point, plus the number of entries, must be at most 2^32 - 1.
 fn replay_step(points: &mut [Point], states: &mut [State], entries: &[Entry])
     requires within_limit { HaveFreeNumbers points.old (length entries.now) }
     ensures replayed { points.new ≡ replayed points.old entries.now }

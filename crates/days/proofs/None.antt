@@ -49,8 +49,8 @@ not_none ws vs some h = let e : length (vs ++ ws) ≡ 0 = ap length (sym h) in a
 pieces : (bs : List ℕ) → 0 < length (slice_split (λ b. eqb b 10) bs)
 pieces bs = omega (arith, length-slice_split (λ b. eqb b 10) bs)
 
--- Let the spellings of the lines `ms`, followed by an empty piece, be the same list as the spellings of the lines `ls`,
--- followed by the pieces `ws`. Then `ms` is `ls` followed by further lines, and `ws` is the spellings of the further
+-- If the spellings of the lines `ms`, followed by an empty piece, are the same list as the spellings of the lines `ls`,
+-- followed by the pieces `ws`, then `ms` is `ls` followed by further lines, and `ws` is the spellings of the further
 -- lines, followed by an empty piece. Each line must be read back from its spelling, and `ws` mustn't be empty.
 prefix : (ls ms : List Line) (ws : List (List ℕ)) → AllByRecursion ReadsBack ls → AllByRecursion ReadsBack ms → 0 < length ws
     → map line_spelling ms ++ [] ∷ [] ≡ map line_spelling ls ++ ws → (more : List Line) × (ms ≡ ls ++ more) × (map line_spelling more ++ [] ∷ [] ≡ ws)
@@ -169,16 +169,16 @@ one_opening f g good fits good' fits' is =
     } in
     ap (λ (r : ReadingValue). r.file) (one_file (opening_text f) (min (length (opening_lines f) + 1) 4294967295) (record { next = 61; file = f }) has g good' fits' (sym is))
 
--- `r` is what was read of a whole text. `r.next` is 61 only after an opening's last line. If it isn't 61, the text
--- isn't that of an opening.
+-- If a whole text was read, and `r.next` isn't 61, then the text isn't that of an opening. `r` is what was read, and
+-- `r.next` is 61 only after an opening's last line.
 pub short_none : (text : List ℕ) (n : ℕ) (r : ReadingValue) → HasRead text [] n r → ¬ (r.next ≡ 61) → HasNoOpening text
 short_none text n r has open_yet f good fits is = open_yet (ap (λ (x : ReadingValue). x.next) (one_file text n r has f good fits is))
 
 -- ---- if a flaw is found while a text is read (`Flawed`), then what the flaw says of the text is true (`IsFlaw`)
 
 -- Whatever has been read of an opening, some lines (`more`) complete it: they are allowed next, one after another, and
--- after them `next` is 61. `k` is the least place that the next line can have, or 61 after an opening's last line. If
--- `k` is 61, `more` is empty.
+-- after them `next` is 61. `k` is the least rank that the next line can have (an opening's lines come in the order of
+-- their ranks), or 61 after an opening's last line. If `k` is 61, `more` is empty.
 ends : (k : ℕ) (f : OpeningFile) → k ≤ 61 → (more : List Line) × AreAllowedInOrder (record { next = k; file = f }) more
     × ((after_lines (record { next = k; file = f }) more).next ≡ 61)
 ends zero f le = (

@@ -1,6 +1,6 @@
--- The lines of a list of numbered items. Two lists joined have the lines of the first list, and then those of the
--- second, whose numbers go on. If an item gets further lines after its own, and no later item has lines, then the
--- further lines come at the end of the list's lines.
+-- The lines of a list of numbered items (`numbered_lines`). If two lists are joined, the lines are those of the first
+-- list, and then those of the second, whose numbers go on from those of the first. If an item gets further lines after
+-- its own, and no later item has lines, then the further lines come at the end of the list's lines.
 use Rattle.std.proofs.Common.{◌≡◌, ℕ, zero, suc, ◌+◌, ◌-◌, ◌<◌, ◌≤◌, set, subst, List, []}
 use Rattle.std.proofs.Common.{◌∷◌, ◌++◌, length, take, get_or, refl, sym, ◌∙◌, ap, append_assoc, append-nil, arith}
 use Rattle.std.proofs.lemmas.List.{length-take-le, take_more}
@@ -65,8 +65,8 @@ none_set w n i [] v h = tt
 none_set w n zero (x ∷ xs) v h = h
 none_set w n (suc i) (x ∷ xs) v h = none_set w (n + 1) i xs v h
 
--- Let no item after index i have lines, and let a new item replace item i. If the new item has the lines of the old
--- one, and then `more`, then the new list has the lines of the old list, and then `more`.
+-- If item i of a list is replaced by an item that has the lines of the old one, and then `more`, then the new list has
+-- the lines of the old list, and then `more`. No item after index i may have lines.
 pub numbered_set : {T : Type 0} (w : ℕ → T → List Line) (n i : ℕ) (xs : List T) (d v : T) (more : List Line) → i < length xs
     → w (n + i) v ≡ w (n + i) (get_or xs i d) ++ more → NoneFrom w n (suc i) xs → numbered_lines w n (set xs i v) ≡ numbered_lines w n xs ++ more
 numbered_set w n zero [] d v more lt e h = absurd (omega arith)

@@ -19,7 +19,8 @@ use Rattle.fuelling_point.specs.Table.{PointState}
 use Rattle.program_slots.specs.Slots.{IsRule}
 use Rattle.program_slots.specs.Value.{Version}
 use Rattle.till_request.specs.Spelling.{load_word}
-use Rattle.decision_journal.proofs.Parts.{Without, split_word, all_without, digits, without_join}
+use Rattle.till_request.proofs.Apart.{Without, split_word, all_without}
+use Rattle.decision_journal.proofs.Parts.{digits, without_join}
 use Rattle.days.specs.declared.file.OpeningFile.{OpeningFile}
 use Rattle.days.specs.declared.line.Line.{Line}
 use Rattle.days.specs.declared.line.Line.TheVariants as lines

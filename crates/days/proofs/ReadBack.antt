@@ -1,4 +1,5 @@
--- Each line whose numbers are in range is read from its spelling as that line.
+-- If the numbers and bytes of a line are in range, a digest has 32 bytes, and the values of a point have no unpaid
+-- transactions (`LineFits`), then reading the line's spelling gives this line.
 use Rattle.std.proofs.Common.{◌≡◌, ℕ, ◌<◌, ◌^◌, List, [], ◌∷◌, ◌++◌, length, codes, cond, nat_lt, true, false}
 use Rattle.std.proofs.Common.{Bool, Option, Some, None, Result, Ok, refl, sym, ◌∙◌, ap, arith, rules, lit<}
 use Rattle.std.specs.Fmt.{decimal}
@@ -64,7 +65,7 @@ large n f h = bound (number 64 (decimal n)) n f (number-large n h)
 -- if a line is read from words that have no spaces, it is also read from these words joined by spaces
 worded : (w : List ℕ) (ws : List (List ℕ)) (l : Line) → NoSpace w → AllByRecursion NoSpace ws → line_of_words (w ∷ ws) ≡ Ok l
     → line_read (join_with_byte 32 (w ∷ ws)) ≡ Ok l
-worded w ws l h hs e = ap line_of_words (split_joined w ws h hs) ∙ e
+worded w ws l h hs e = ap line_of_words (split_joined 32 w ws h hs) ∙ e
 
 layout_back : (layout : Layout) → layout_with (load_word layout) ≡ layout
 layout_back layouts.One = refl

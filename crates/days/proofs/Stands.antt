@@ -44,7 +44,7 @@ leads_both r s t ls ms h k = record {
 leads_one : (r s : ReadingValue) (l : Line) → IsAllowedNext r l → after_line r l ≡ s → Leads r (l ∷ []) s
 leads_one r s l h e = record { allowed = (h, tt); after = e }
 
--- ---- if each item of a list fills its index (`Fills`), then all of the list's lines are allowed one after another
+-- ---- if each item of a list is blank, or its line can come next (`Fills`), the lines are allowed one after another
 
 set_front : {T : Type 0} (xs : List T) (i : ℕ) (x y : T) (rest : List T) → length xs ≡ i → set (xs ++ x ∷ rest) i y ≡ (xs ++ y ∷ []) ++ rest
 set_front [] zero x y rest e = refl
@@ -53,17 +53,18 @@ set_front (z ∷ xs) zero x y rest e = absurd (omega (arith, e))
 set_front (z ∷ xs) (suc i) x y rest e = ap (λ ys. z ∷ ys) (set_front xs i x y rest (omega (arith, e)))
 
 -- The item `x` fills index i of a list of the opening (its slots, products or counters). Either `x` has no line, and is
--- `blank`, as an item is before it is read. Or `x` has one line. This line can come next, and reading it puts `x` at
--- index i of `ys`. The least place that the next line can have is then `base` + i + 1: `base` is the place of index 0.
--- `St k ys` is what has been read when the list has the items `ys`, and k is the least place that the next line can
--- have. `w number x` is the lines of `x`, whose number is `number`.
+-- `blank`, as an item is before it is read. Or `x` has one line, this line can come next, and reading it puts `x` at
+-- index i of `ys`. The next line then has at least the rank `base` + i + 1: an opening's lines come in the order of
+-- their ranks, and `base` is the rank for index 0. `St k ys` is what has been read when the list has the items `ys`,
+-- and k is the least rank that the next line can have. `w number x` is the lines of `x`, whose number is `number`.
 abbrev Fills : {T : Type 0} → (ℕ → List T → ReadingValue) → (ℕ → T → List Line) → T → ℕ → ℕ → ℕ → ℕ → List T → T → Type 0
 Fills St w blank base k i number ys x =
     ((w number x ≡ []) × (x ≡ blank))
     ⊎ ((l : Line) × (w number x ≡ l ∷ []) × IsAllowedNext (St k ys) l × (after_line (St k ys) l ≡ St (base + i + 1) (set ys i x)))
 
--- The lines `ls` lead from `r` to `St j ys`, for some j from 3 to `most`. `St` is as in `Fills`: the list has the items
--- `ys`, and j is the least place that the next line can have.
+-- The lines `ls` are allowed one after another when `r` has been read. What has been read after these lines is
+-- `St j ys`, for some j from 3 to `most`: the list that is being read has the items `ys`, and j is the least rank that
+-- the next line can have (an opening's lines come in the order of their ranks).
 abbrev Filled : {T : Type 0} → (ℕ → List T → ReadingValue) → ReadingValue → List Line → ℕ → List T → Type 0
 Filled St r ls most ys = (j : ℕ) × (3 ≤ j) × (j ≤ most) × Leads r ls (St j ys)
 
@@ -123,10 +124,11 @@ fill St w blank n base count Good item k i number xs (x ∷ zs) e ge le total at
     (omega (arith, le')) (omega (arith, total)) (omega (arith, at)) good.1)
     (item k i number (xs ++ replicate (length (x ∷ zs)) blank) x ge le (omega (arith, total)) at good.0)
 
--- ---- each slot, product and counter that is allowed in an opening fills its index of its list (`Fills`)
+-- ---- each slot, product and counter that is allowed in an opening is blank or has one line that can come next
 
--- What has been read of the opening `f` before its last line, with these slots, prices, counters and points. k is the
--- least place that the next line can have.
+-- What has been read of the opening `f` before its last line, if the slots, prices, counters and points read so far are
+-- `rs`, `ps`, `cs` and `qs`. k is the least rank that the next line can have: an opening's lines come in the order of
+-- their ranks.
 abbrev stage : OpeningFile → List (Option Version) → List ℕ → List (ℕ × ℕ) → List PointState → ℕ → ReadingValue
 stage f rs ps cs qs k = record {
   next = k;

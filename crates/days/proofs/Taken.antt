@@ -51,8 +51,8 @@ abbrev pub lines_read : ReadingValue → List Line
 lines_read r = take r.next (head_lines r.file) ++ rules_on r.next r.file
 
 -- This is true of what has been read, `r`, after any number of lines. The values that were read are allowed in an
--- opening. No slot, product or counter whose place is `next` or a later one has a line yet. There are points only if
--- `next` is 59 or more.
+-- opening. No slot, product or counter has a line yet if the rank of its line is `next` or more (an opening's lines
+-- come in the order of their ranks). There are points only if `next` is 59 or more.
 pub record IsReading (r : ReadingValue) : Type 0 where
   pub few : r.next ≤ 61
   pub day : 1 ≤ r.next → 2 ≤ r.file.day
@@ -76,8 +76,8 @@ pub record IsReading (r : ReadingValue) : Type 0 where
   pub rules : All (IsRule r.file.opening.versions) r.file.opening.rules
   pub distinct : HaveOwnNumbers r.file.opening.rules
 
--- `r` is what has been read. Once the line `l` is read too, `IsReading` holds, and the lines that were read
--- (`lines_read`) are those before, followed by `l`.
+-- Reading the line `l` after `r`, which is what has been read, adds this line: the lines that were read (`lines_read`)
+-- are then those before, followed by `l`, and the values that were read are allowed in an opening (`IsReading`).
 pub record AddsLine (r : ReadingValue) (l : Line) : Type 0 where
   pub is : IsReading (after_line r l)
   pub lines : lines_read (after_line r l) ≡ lines_read r ++ l ∷ []
@@ -119,7 +119,7 @@ headed : (r : ReadingValue) (next : ℕ) (f : OpeningFile) (ys ys' : List Line) 
 headed r next f ys ys' l h k e g =
     ap (λ t. t ++ ys') (take_all next (head_lines f) k ∙ e ∙ sym (heads r h)) ∙ behind (take r.next (head_lines r.file)) ys' ys l g
 
--- ---- if `IsReading` holds, then reading a first, second or third line that can come next adds this line (`AddsLine`)
+-- ---- a first, second or third line that can come next is added (`AddsLine`) to what has been read (`IsReading`)
 
 day_goes : (f : OpeningFile) (n : ℕ) → IsReading (record { next = 0; file = f }) → 2 ≤ n → AddsLine (record { next = 0; file = f }) (lines.Day n)
 day_goes f n h k = record {
@@ -207,7 +207,7 @@ versions_goes f n h k = record {
   lines = snoc (lines.Day f.day ∷ lines.Cleared f.opening.cleared f.opening.clears ∷ []) (rules_on 2 f) (lines.Versions n) (h.early (lit≤ tt));
 }
 
--- ---- if `IsReading` holds, then reading a slot's, product's or counter's line that can come next adds this line
+-- ---- a slot's, product's or counter's line that can come next is added to what has been read (`IsReading`)
 
 version_goes : (r : ReadingValue) (slot number mask : ℕ) (layout : Layout) (bytes : List ℕ) → IsReading r
     → IsAllowedNext r (lines.Version slot number mask layout bytes) → AddsLine r (lines.Version slot number mask layout bytes)
@@ -363,7 +363,7 @@ counter_goes r n value bound h c =
           (no_points_on r.next f points (omega (arith, c.1, c.2))))));
     }
 
--- ---- if `IsReading` holds, then reading a point's or unpaid transaction's line that can come next adds this line
+-- ---- a point's or unpaid transaction's line that can come next is added to what has been read (`IsReading`)
 
 -- if the snapshot `s` has no unpaid transactions, then an opening has one line for its point: the line of point n with
 -- the values of `s`
@@ -475,7 +475,7 @@ unpaid_goes f n t h c =
           (none_past point_lines 1 (suc (n - 1)) f.opening.points (omega (arith, c.1, c.2)))) refl refl))));
     }
 
--- ---- if `IsReading` holds, and an opening's last line can come next, then reading it adds this line (`AddsLine`)
+-- ---- an opening's last line, if it can come next, is added (`AddsLine`) to what has been read (`IsReading`)
 
 journal_goes : (r : ReadingValue) (entries : ℕ) (digest : List ℕ) → IsReading r → IsAllowedNext r (lines.Journal entries digest)
     → AddsLine r (lines.Journal entries digest)
@@ -515,7 +515,7 @@ journal_goes r entries digest h c =
           (ap (λ ls. ls ++ l ∷ []) (sym (no_ending r.next f c.1)))))));
     }
 
--- ---- if `IsReading` holds, then reading any line that can come next adds this line (`AddsLine`)
+-- ---- any line that can come next is added (`AddsLine`) to what has been read (`IsReading`)
 
 pub goes : (r : ReadingValue) (l : Line) → IsReading r → IsAllowedNext r l → AddsLine r l
 goes r (lines.Day n) h c =
@@ -539,8 +539,9 @@ goes r (lines.Unpaid n t) h c =
     subst Q (sym c.0) (unpaid_goes r.file n t (subst P c.0 h) (refl, c.1, c.2, c.3))
 goes r (lines.Journal entries digest) h c = journal_goes r entries digest h c
 
--- `r` is what has been read. Once the lines `ls` are read too, `IsReading` holds, and the lines that were read
--- (`lines_read`) are those before, followed by `ls`.
+-- Reading the lines `ls` after `r`, which is what has been read, adds these lines: the lines that were read
+-- (`lines_read`) are then those before, followed by `ls`, and the values that were read are allowed in an opening
+-- (`IsReading`).
 pub record AddsAllLines (r : ReadingValue) (ls : List Line) : Type 0 where
   pub is : IsReading (after_lines r ls)
   pub lines : lines_read (after_lines r ls) ≡ lines_read r ++ ls

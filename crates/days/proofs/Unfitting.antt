@@ -1,7 +1,7 @@
 -- No site of a configuration begins with an opening in these two cases:
 -- - The opening doesn't fit the configuration.
--- - The opening fits, but when its counters are given the bounds in the configuration, no site with the configuration's
---   number of points can begin with this changed opening.
+-- - The opening fits. Let the changed opening be the same opening, except that each counter has its bound from the
+--   configuration. No site with as many points as the configuration has can begin with the changed opening.
 -- There is at most one way for a site of a configuration to begin with an opening.
 use Rattle.std.proofs.Common.{◌≡◌, ℕ, ◌<◌, ◌≤◌, List, [], ◌∷◌, length, Option, Some, None, false, sym, ap, ◌∙◌, subst, arith, refl}
 use Rattle.std.specs.Prelude.{All, IfSome, nat_lt, slice_index_or}

@@ -1,5 +1,4 @@
--- Lines are appended to a text one after another. If the text was empty, and they are all lines of an opening, then the
--- result is the opening's text.
+-- If all lines of an opening are appended to an empty text, one after another, then the result is the opening's text.
 use Rattle.std.proofs.Common.{◌≡◌, ℕ, ◌+◌, ◌<◌, List, [], ◌∷◌, ◌++◌, length, take, get_or, arith, ◌≤◌, refl, sym, ◌∙◌, ap, subst, append_assoc}
 use Rattle.std.proofs.lemmas.List.{take_all}
 use Rattle.std.specs.List.{flat_map}
@@ -28,27 +27,31 @@ adds_item w n xs i d a b c lt h k =
     let P : List Line → Type 0 = λ ls. AddsLines a c ls in
     subst P (sym (numbered_more w n xs i d lt)) (adds_both a b c (numbered_lines w n (take i xs)) (w (n + i) (get_or xs i d)) h k)
 
--- like `adds_item`, but the number of the next item is written as i + n instead of n + i
+-- If the lines of the first i items were appended, followed by those of the next item, then those of the first i + 1
+-- items were appended. The first item has the number n, and the next one after i items has the number i + n.
 pub adds_next : {T : Type 0} (w : ℕ → T → List Line) (n : ℕ) (xs : List T) (i : ℕ) (d : T) (a b c : List ℕ) → i < length xs
     → AddsLines a b (numbered_lines w n (take i xs)) → AddsLines b c (w (i + n) (get_or xs i d)) → AddsLines a c (numbered_lines w n (take (i + 1) xs))
 adds_next w n xs i d a b c lt h k =
     let P : ℕ → Type 0 = λ m. AddsLines b c (w m (get_or xs i d)) in
     let e : i + n ≡ n + i = omega arith in adds_item w n xs i d a b c lt h (subst P e k)
 
--- like `adds_next`, but the next item is given as `x`
+-- If the lines of the first i items were appended, followed by those of the next item, `x`, then those of the first
+-- i + 1 items were appended. The first item has the number n, and `x` has the number i + n.
 pub adds_indexed : {T : Type 0} (w : ℕ → T → List Line) (n : ℕ) (xs : List T) (i : ℕ) (x : T) (a b c : List ℕ) → i < length xs
     → AddsLines a b (numbered_lines w n (take i xs)) → x ≡ get_or xs i x → AddsLines b c (w (i + n) x) → AddsLines a c (numbered_lines w n (take (i + 1) xs))
 adds_indexed w n xs i x a b c lt h e k =
     let P : _ → Type 0 = λ y. AddsLines b c (w (i + n) y) in adds_next w n xs i x a b c lt h (subst P e k)
 
--- like `adds_indexed`, but the items are numbered from 0
+-- If the lines of the first i items were appended, followed by those of the next item, `x`, then those of the first
+-- i + 1 items were appended. The first item has the number 0, and `x` has the number i.
 pub adds_from_zero : {T : Type 0} (w : ℕ → T → List Line) (xs : List T) (i : ℕ) (x : T) (a b c : List ℕ) → i < length xs
     → AddsLines a b (numbered_lines w 0 (take i xs)) → x ≡ get_or xs i x → AddsLines b c (w i x) → AddsLines a c (numbered_lines w 0 (take (i + 1) xs))
 adds_from_zero w xs i x a b c lt h e k =
     let P : ℕ → Type 0 = λ m. AddsLines b c (w m x) in
     let z : i ≡ i + 0 = omega arith in adds_indexed w 0 xs i x a b c lt h e (subst P z k)
 
--- like `adds_item`, but the items are the counters: `value` and `bound` must be those of counter i
+-- If the lines of the counters before counter i were appended, followed by those of counter i, then those of the first
+-- i + 1 counters were appended. `value` and `bound` must be those of counter i.
 pub adds_counter : (xs : Counters) (i value bound : ℕ) (a b c : List ℕ) → i < 32 → AreCounters xs → value ≡ (counter xs i).0 → bound ≡ (counter xs i).1
     → AddsLines a b (numbered_lines counter_lines 0 (take i xs)) → AddsLines b c (counter_lines i (value, bound))
     → AddsLines a c (numbered_lines counter_lines 0 (take (i + 1) xs))

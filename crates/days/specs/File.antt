@@ -4,8 +4,8 @@ use Rattle.fuelling_point.specs.Snapshot.{IsPointState}
 use Rattle.site_core.specs.Opening.{IsOpening}
 use Rattle.days.specs.declared.file.OpeningFile.{OpeningFile}
 
--- A site with as many points as the opening has can begin with it, and the values of each point are in their ranges.
--- The opening has the prices of 8 products. Its day is day 2 or a later one.
+-- A site with as many fuelling points as the opening has can begin with this opening, and the values of each point are
+-- in their ranges. The opening has the prices of 8 products, and is that of day 2 or of a later day.
 pub record IsOpeningFile (f : OpeningFile) : Type 0 where
   pub day : 2 ≤ f.day
   pub opening : IsOpening (length f.opening.points) f.opening

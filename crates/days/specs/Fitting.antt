@@ -25,7 +25,7 @@ pub record Fits (config : ConfigValue) (o : OpeningValue) : Type 0 where
   pub tills : HaveTills config.tills o.points
   pub counters : AreWithin o.counters config.counters
 
--- The counters `cells` have the values in `values` and the bounds in `bounds`.
+-- The counters `cells` have their values from `values` and their bounds from `bounds`.
 abbrev pub AreBounded : Counters → Counters → Counters → Type 0
 AreBounded values bounds cells = (c : ℕ) → c < 32 → counter cells c ≡ ((counter values c).0, (counter bounds c).1)
 

@@ -32,9 +32,9 @@ pub record BeginOne (lines : List Line) : Type 0 where
   pub more : List Line
   pub lines_are : opening_lines f ≡ lines ++ more
 
--- The text, split at its LFs, has a piece with this number. Pieces are counted from 1; 4,294,967,295 stands for all
--- greater numbers too. The pieces before this one are the first lines of an opening. `IsSo` holds of these lines, of
--- the piece, and of the pieces after it.
+-- The text, split at its LFs, has a piece with this number. Pieces are counted from 1, and a number above 4,294,967,295
+-- is given as 4,294,967,295. The pieces before this one are the first lines of an opening. `IsSo` holds of these lines,
+-- of the piece, and of the pieces after it.
 pub record IsPiece (text : List ℕ) (number : ℕ) (IsSo : List Line → List ℕ → List (List ℕ) → Type 0) : Type 0 where
   pub before : List Line
   pub begin_one : BeginOne before
@@ -50,7 +50,7 @@ CannotFollow before piece behind =
     (f : OpeningFile) → IsOpeningFile f → FileFits f → (next : List ℕ) (rest : List (List ℕ))
     → pieces (opening_text f) ≡ map line_spelling before ++ piece ∷ next ∷ rest → ⊥
 
--- The piece isn't empty, and no LF comes after it.
+-- The piece is cut off: it isn't empty, and no LF comes after it.
 abbrev pub IsCut : List Line → List ℕ → List (List ℕ) → Type 0
 IsCut before piece behind = (behind ≡ []) × (0 < length piece)
 

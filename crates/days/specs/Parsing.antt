@@ -65,14 +65,15 @@ abbrev pub counter_of : List (List ℕ) → Result Line LineFault
 counter_of (c ∷ v ∷ b ∷ []) = counter_with c v b
 counter_of ws = Err BadLine
 
--- The state with this number. Any number but 1 to 8 is taken for 9.
+-- The state with this number, of the nine states of a fuelling point. Any number but 1 to 8 is taken for 9.
 abbrev pub state_with : ℕ → State
 state_with n =
     if n == 1 then states.Inoperative else if n == 2 then states.Closed else if n == 3 then states.Idle else if n == 4 then states.Calling
     else if n == 5 then states.Authorised else if n == 6 then states.Started else if n == 7 then states.SuspendedStarted
     else if n == 8 then states.Fuelling else states.SuspendedFuelling
 
--- The order that a word of at most ten bytes names, or None for `none`. Any unknown word is taken for `stop`.
+-- The order to a dispenser that a word of at most ten bytes names, or None for `none`. Any unknown word is taken for
+-- `stop`.
 abbrev pub short_order : List ℕ → Option Order
 short_order w =
     if bytes_eq w (codes "none") then None else if bytes_eq w (codes "suspend") then Some orders.Suspend

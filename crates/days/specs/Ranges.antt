@@ -8,7 +8,7 @@ use Rattle.fuelling_point.specs.Table.{PointState}
 use Rattle.program_slots.specs.Value.{Version}
 use Rattle.days.specs.declared.file.OpeningFile.{OpeningFile}
 
--- The amount of a pending order is below 2^64.
+-- If the pending order has an amount, this amount is below 2^64.
 abbrev pub OrderFits : Option Order → Type 0
 OrderFits (Some (orders.Authorise amount)) = amount < 2 ^ 64
 OrderFits order = Unit {0}

@@ -151,7 +151,7 @@ ReadsBack line = line_read (line_spelling line) ≡ Ok line
 
 -- What the result of reading these bytes as a line means. The result is never `Refused`.
 -- - Ok: the bytes are the line's spelling, and the line is read back from them.
--- - `Misplaced`: no line has these bytes as its spelling and is read back from them.
+-- - `Misplaced`: there is no line that has these bytes as its spelling and can be read back from them.
 -- - `OutOfMemory`: nothing is claimed.
 abbrev pub LineFound : List ℕ → Result Line StepFault → Type 0
 LineFound bytes (Ok line) = (line_spelling line ≡ bytes) × ReadsBack line
@@ -161,7 +161,7 @@ LineFound bytes (Err OutOfMemory) = Unit {0}
 
 -- What the result of taking line `number` of a text means. `bytes` is the line's bytes. The result is never `CutLine`.
 -- - Ok: the line was taken, and `new` is what has then been read.
--- - `BadLine` with `number`: no line that has these bytes as its spelling and is read back from them can come next.
+-- - `BadLine` with `number`: these bytes aren't the spelling of a line that can come next and is read back from them.
 -- - `BadProgram` with `number`: the verifier refuses the line's program.
 -- - `OutOfMemory`: nothing is claimed.
 abbrev pub Takes : ℕ → List ℕ → ReadingValue → Result (Unit {0}) OpeningFlaw → ReadingValue → Type 0
@@ -173,8 +173,9 @@ Takes number bytes old (Err (flaws.BadProgram n refusal)) new =
     (n ≡ number) × ((line : Line) × (line_spelling line ≡ bytes) × ReadsBack line × IsRefusedIn (program_in line) refusal)
 Takes number bytes old (Err flaws.OutOfMemory) new = Unit {0}
 
--- All lines of the text before `rest` were read. Each is read back from its spelling, and could come after those before
--- it. `r` is what has been read, and `number` is the number of the next line, but at most 4,294,967,295.
+-- The text was read line by line, up to `rest`. Reading the spelling of each of these lines gives that line back, and
+-- each could come after those before it. `r` is what has been read, and `number` is the number of the next line, but at
+-- most 4,294,967,295.
 pub record HasRead (text rest : List ℕ) (number : ℕ) (r : ReadingValue) : Type 0 where
   pub taken : List Line
   pub split : slice_split (λ b. b == 10) text ≡ map line_spelling taken ++ slice_split (λ b. b == 10) rest

@@ -24,8 +24,8 @@ abbrev pub yes_or_no : Bool → List ℕ
 yes_or_no true = codes "yes"
 yes_or_no false = codes "no"
 
--- The words of a line. A version's layout is spelled as the first word of a request that loads a program for it, `load`
--- or `load2`. Bytes are spelled in lower-case hexadecimal digits.
+-- The words of a line. The word for a version's layout is `load` or `load2`, as in a request that loads a program for
+-- this layout. Bytes are spelled in lower-case hexadecimal digits.
 abbrev pub line_words : Line → List (List ℕ)
 line_words (lines.Day n) = codes "day" ∷ decimal n ∷ []
 line_words (lines.Cleared total count) = codes "cleared" ∷ decimal total ∷ decimal count ∷ []
@@ -40,11 +40,11 @@ line_words (lines.Point n s) =
 line_words (lines.Unpaid n t) = codes "unpaid" ∷ decimal n ∷ decimal t.number ∷ decimal t.amount ∷ decimal t.volume ∷ decimal t.holder ∷ []
 line_words (lines.Journal entries digest) = codes "journal" ∷ decimal entries ∷ encode_lower digest ∷ []
 
--- A line, without its LF.
+-- The text of a line, without its LF.
 abbrev pub line_spelling : Line → List ℕ
 line_spelling line = join_with_byte 32 (line_words line)
 
--- A line, with its LF.
+-- The text of a line, with its LF.
 abbrev pub line_text : Line → List ℕ
 line_text line = line_spelling line ++ 10 ∷ []
 
@@ -83,7 +83,7 @@ own_values p = record {
   unpaid = None ∷ None ∷ [];
 }
 
--- A point's line, and one for each unpaid transaction, the older one first.
+-- The lines of a point: its own line, and then one for each of its unpaid transactions, the older one first.
 abbrev pub point_lines : ℕ → PointState → List Line
 point_lines n p = lines.Point n (own_values p) ∷ map (λ t. lines.Unpaid n t) p.unpaid
 

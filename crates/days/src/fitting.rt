@@ -1,5 +1,5 @@
-//! Whether an opening fits a configuration: both have the same number of points, each counter is within its bound in
-//! the configuration, and the configuration has each till that holds a transaction.
+//! Whether an opening fits a configuration: both have the same number of fuelling points, each counter is within its
+//! bound in the configuration, and the configuration has each till that holds a transaction.
 ghost use Rattle.std.specs.Prelude.{◌≡◌, ◌≤◌, ◌<◌, ℕ, All, MatchOption, IfErr, IfOk, OnOk, Some, option_to_list};
 ghost use Rattle.bpf_model.specs.Machine.{counter};
 ghost use Rattle.days.specs.Fitting.{AreBounded, AreWithin, Fits, HasTill, HaveTills};
@@ -14,7 +14,7 @@ use std::fmt::{self, Display};
 /// apply, this is the first of them.
 #[derive(Clone, Copy)]
 pub enum Misfit {
-    /// How many points the opening has, and how many the configuration has. These numbers differ.
+    /// How many fuelling points the opening has, and how many the configuration has. These numbers differ.
     Points(usize, usize),
     /// An unpaid transaction is held by a till whose number is over the configuration's number of tills. The values are
     /// the index of the first point with such a transaction, counted from 0, this point's first such transaction, and

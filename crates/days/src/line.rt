@@ -23,13 +23,13 @@ pub enum Line {
         layout: Layout,
         bytes: Bytes,
     },
-    /// A product, counted from 1, and its price.
+    /// A product's number, counted from 1, and the product's price.
     Price(u32, u32),
-    /// A counter, counted from 0, its value and its bound.
+    /// A counter's number, counted from 0, and the counter's value and bound.
     Counter(u32, u64, u64),
-    /// A point's number, counted from 1, and all values of the point but its unpaid transactions.
+    /// The number of a fuelling point, counted from 1, and all values of the point except its unpaid transactions.
     Point(u64, Snapshot),
-    /// A point's number, counted from 1, and one of the point's unpaid transactions.
+    /// The number of a fuelling point, counted from 1, and one of the point's unpaid transactions.
     Unpaid(u64, Transaction),
     /// The journal of the day that left this opening: how many entries it has, and the SHA-256 of its bytes.
     Journal(u32, [u8; 32]),

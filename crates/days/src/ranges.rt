@@ -26,7 +26,7 @@ fn order_in_range(order: Option<Order>)
     }
 }
 
-/// Proves that a transaction's holder is in the range of its type.
+/// Proves that the number of the till that holds a transaction is below 2^32.
 fn holder_in_range(place: Option<Transaction>)
     ensures { All (λ t. t.holder < 2 ^ 32) (option_to_list place) }
 {
@@ -35,7 +35,7 @@ fn holder_in_range(place: Option<Transaction>)
     }
 }
 
-/// Proves that the holders of a point's unpaid transactions are in the range of their type.
+/// Proves that for each unpaid transaction of a point, the number of the till that holds it is below 2^32.
 fn holders_in_range(point: &Point)
     ensures { All (λ t. t.holder < 2 ^ 32) point.now.unpaid }
 {

@@ -24,8 +24,8 @@ pub(crate) fn is_same(text: &[u8], other: &[u8]) -> bool
     text == other
 }
 
-/// Returns the line of an opening that `bytes` spell, without an LF. `room` is a buffer that is overwritten. The error
-/// is `Misplaced` if the bytes don't spell a line, or that memory ran out.
+/// Returns the line of an opening that `bytes` spell. `bytes` is the line without its LF. `room` is a buffer that is
+/// overwritten. The error is `Misplaced` if `bytes` spell no line, or that memory ran out.
 fn read_line(alloc: Global, room: &mut String, bytes: &[u8]) -> Result<Line, StepFault>
     ensures { LineFound bytes.now result }
 {
@@ -47,9 +47,10 @@ fn read_line(alloc: Global, room: &mut String, bytes: &[u8]) -> Result<Line, Ste
     }
 }
 
-/// Reads the line that `bytes` spell, without an LF, and adds it to `reading`. `room` is a buffer that is overwritten.
-/// The error is `BadLine` if `bytes` spell no line that can come next, or `BadProgram` if the verifier refuses the
-/// line's program, each with the line's `number`. It can also be that memory ran out.
+/// Reads the line of an opening that `bytes` spell, and adds it to `reading`. `bytes` is the line without its LF.
+/// `room` is a buffer that is overwritten. The error is `BadLine` if `bytes` spell no line that can come next, or
+/// `BadProgram` if the verifier refuses the line's program, each with the line's `number`. It can also be that memory
+/// ran out.
 fn take_line(
     alloc: Global,
     room: &mut String,
@@ -127,7 +128,7 @@ pub fn read_opening(alloc: Global, text: &[u8]) -> Result<OpeningFile, OpeningFl
         return Err(OpeningFlaw::BadLine(number));
     }
     let file = reading.finish();
-    // This call tells the prover that the numbers are in the ranges of their types.
+    // This call tells the prover that the numbers in `file` are in the ranges of their types.
     file_in_range(&file);
     Ok(file)
 }

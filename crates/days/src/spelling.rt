@@ -3,7 +3,7 @@
 ghost use Rattle.std.specs.Prelude.{◌≡◌, ◌∷◌, [], OnOk, Some, codes, decimal, string_bytes};
 ghost use Rattle.hex.specs.Hex.{encode_lower};
 ghost use Rattle.till_request.specs.Short.{with_words};
-ghost use Rattle.till_request.specs.Spelling.{load_word as load_by};
+ghost use Rattle.till_request.specs.Spelling.{load_word};
 ghost use Rattle.days.specs.Text.{line_spelling, line_words, order_word, version_lines, yes_or_no};
 ghost use Rattle.days.specs.Spelling.{AddsLines, with_line};
 
@@ -13,6 +13,7 @@ use fuelling_point::{Order, Snapshot, Transaction};
 use itoa::Buffer;
 use program_slots::Version;
 use std::alloc::{AllocError, Global};
+use till_request::spelling::load_word;
 
 /// Appends a space and a word. The error is that memory ran out.
 fn put_word(text: &mut String, word: &str) -> Result<(), AllocError>
@@ -37,16 +38,6 @@ fn put_hex(alloc: Global, text: &mut String, bytes: &[u8]) -> Result<(), AllocEr
 {
     let digits = hex::encode(alloc, bytes)?;
     put_word(text, digits.as_str())
-}
-
-/// Returns the first word of a request that loads a program for contexts of this layout.
-fn load_word(layout: Layout) -> &'static str
-    ensures { result.now ≡ load_by layout }
-{
-    match layout {
-        Layout::One => "load",
-        Layout::Two => "load2",
-    }
 }
 
 /// Appends a space and an order as one word, which is `none` if there is no order. The error is that memory ran out.
@@ -106,7 +97,8 @@ fn put_versions(text: &mut String, count: u32) -> Result<(), AllocError>
     put_number(text, u64::from(count))
 }
 
-/// Appends the words of a version's line that come before its program's bytes. The error is that memory ran out.
+/// Appends the first words of the line of a version in an opening: all but the program's bytes. The error is that
+/// memory ran out.
 fn put_version(
     text: &mut String,
     slot: u64,
@@ -115,7 +107,7 @@ fn put_version(
     layout: Layout,
 ) -> Result<(), AllocError>
     ensures { OnOk result (string_bytes text.new ≡ with_line (string_bytes text.old)
-        (codes "version" ∷ decimal slot ∷ decimal number ∷ decimal mask ∷ load_by layout ∷ [])) }
+        (codes "version" ∷ decimal slot ∷ decimal number ∷ decimal mask ∷ load_word layout ∷ [])) }
 {
     text.push_str("version")?;
     put_number(text, slot)?;
@@ -238,7 +230,7 @@ pub(crate) fn put_line(alloc: Global, text: &mut String, line: &Line) -> Result<
     text.push_str("\n")
 }
 
-/// Appends the line of a slot's version with its LF. The error is that memory ran out.
+/// Appends the line of the version in a slot, and an LF at its end. The error is that memory ran out.
 pub(crate) fn put_version_line(
     alloc: Global,
     text: &mut String,

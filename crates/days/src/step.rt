@@ -26,24 +26,27 @@ const MOST: u32 = 4_290_000_000;
 /// The greatest total of cleared amounts in cents, and the greatest count of cleared transactions.
 const MOST_CLEARED: u64 = 1_000_000_000_000_000_000;
 
-/// The rank of the line of slot 0. An opening's lines come in the order of their ranks. A rank isn't a line's number,
-/// since some lines can be missing. The first three lines have the ranks 0 to 2, and the lines of slots 1 to 15 have 4
-/// to 18.
+/// The rank of the line of slot 0. An opening's lines come in the order of their ranks. A rank isn't the line's number
+/// in the opening: lines between the third and the last can be missing, and all lines of points have the same rank. The
+/// first three lines have the ranks 0 to 2, and the lines of slots 1 to 15 have 4 to 18.
 const SLOTS_AT: u32 = 3;
 
-/// The rank (not the line's number) of the line of product 1 in the order of an opening's lines. The lines of products
-/// 2 to 8 have the ranks 20 to 26.
+/// The rank of the line of product 1. An opening's lines come in the order of their ranks. A rank isn't the line's
+/// number in the opening: the lines of some slots or products can be missing. The lines of products 2 to 8 have the
+/// ranks 20 to 26.
 const PRODUCTS_AT: u32 = 19;
 
-/// The rank (not the line's number) of the line of counter 0 in the order of an opening's lines. The lines of counters
-/// 1 to 31 have the ranks 28 to 58.
+/// The rank of the line of counter 0. An opening's lines come in the order of their ranks. A rank isn't the line's
+/// number in the opening: the lines of some slots, products or counters can be missing. The lines of counters 1 to 31
+/// have the ranks 28 to 58.
 const COUNTERS_AT: u32 = 27;
 
-/// The rank (not a line's number) of the lines of points and of unpaid transactions in the order of an opening's lines.
-/// All these lines have the same rank.
+/// The rank of the lines of points and of unpaid transactions. All these lines have this rank. An opening's lines come
+/// in the order of their ranks.
 const POINTS_AT: u32 = 59;
 
-/// The rank (not the line's number) of the last line in the order of an opening's lines.
+/// The rank of the last line. An opening's lines come in the order of their ranks. A rank isn't the line's number in
+/// the opening: lines before the last can be missing, and all lines of points have the same rank.
 const END_AT: u32 = 60;
 
 /// Why a line isn't added to a `Reading`.
@@ -62,8 +65,9 @@ pub(crate) enum StepFault {
 #[derive(Drop)]
 pub(crate) struct Reading {
     alloc: Global,
-    /// The least rank (not a line's number) that the next line can have. An opening's lines come in the order of their
-    /// ranks. After the last line `next` is 61, which is the rank of no line.
+    /// The least rank that the next line can have. An opening's lines come in the order of their ranks. A rank isn't a
+    /// line's number in the opening: lines can be missing, and all lines of points have the same rank. After the last
+    /// line `next` is 61, which is the rank of no line.
     next: u32,
     day: u32,
     points: Vec<Point>,

@@ -34,7 +34,7 @@ impl Display for Name {
 }
 
 /// Writes the numbers of the fuelling points for which a bit is set in `points`, in the form `points 1 3`. Bit p,
-/// counted from 0, stands for point p + 1.
+/// counted from 0, is the bit of point p + 1.
 fn write_points<W: fmt::Write>(f: &mut fmt::Formatter<W>, points: u32) -> fmt::Result {
     f.write_str("points")?;
     for place in 0..32u32 {
@@ -69,8 +69,8 @@ fn write_address<W: fmt::Write>(
     }
 }
 
-/// The list of the open doors, as it is printed for an operator. If a browser can look at the site on a port, this port
-/// comes last.
+/// The list of a site's open doors, as it is printed for an operator. Last comes the site's page port (where a browser
+/// can look at the site), if it has one.
 #[derive(Clone, Copy)]
 pub struct DoorListing<'a> {
     pub doors: &'a [Door],

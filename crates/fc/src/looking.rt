@@ -1,11 +1,12 @@
-//! Shows a site on its page port, if it has one, while the site is served.
+//! Shows a site on its page port (where a browser can look at the site), if it has one, while the site is served.
 use page_port::{ConnectionCounts, PagePort};
 use site_server::{Forecourt, Journal, SiteLedger, Watcher};
 use std::sync::Wait;
 use std::thread::Threads;
 use std::time::Clock;
 
-/// The watcher of a served site, which shows the site on its page port. Without a port the watcher does nothing.
+/// The watcher of a served site: it shows the site on its page port (where a browser can look at the site). Without a
+/// page port it does nothing.
 #[derive(Drop)]
 pub struct PageWatcher<'a>(pub Option<PagePort<'a>>);
 

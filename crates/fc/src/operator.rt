@@ -67,7 +67,8 @@ impl<'a, H: Wait + Clock> OperatorReports<'a, H> {
     }
 
     /// Returns the current time in whole seconds since the start of 1970. If the clock can't be read, or is before
-    /// 1970, returns 0: then all reports count as if they came in the same second.
+    /// 1970, returns 0. Of the reports for the operator that come one after another with the same result, at most ten
+    /// are printed.
     fn second(&self) -> u64 {
         match SystemTime::now(self.host) {
             Ok(time) => match time.duration_since(UNIX_EPOCH) {

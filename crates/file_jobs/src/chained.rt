@@ -186,8 +186,8 @@ fn audit_span(
 
 /// Prints why the days of a folder are refused, and returns the error with which the job ends. If a day couldn't be
 /// read, prints nothing, and returns `days.job_error`, the error of reading the day (or `AlreadyReported` with the exit
-/// status 3 if that is `None`). An error `Failed` isn't printed here. The `AllocError` means that memory ran out before
-/// anything was printed.
+/// status 3 if that is `None`). If the error is `Failed`, its cause isn't printed here. The `AllocError` means that
+/// memory ran out before anything was printed.
 fn refuse_days(
     rt: &HostRuntime,
     days: FolderIn<'_>,
@@ -203,8 +203,8 @@ fn refuse_days(
 
 /// Prints why the days of a folder are refused at this day, and returns the error with which the job ends. `paths`
 /// names the day's opening and its journal. If the day couldn't be read, prints nothing, and returns `days.job_error`,
-/// the error of reading the day (or `AlreadyReported` with the exit status 3 if that is `None`). An error `Failed`
-/// isn't printed here.
+/// the error of reading the day (or `AlreadyReported` with the exit status 3 if that is `None`). If the error is
+/// `Failed`, its cause isn't printed here.
 fn refuse_cause(
     rt: &HostRuntime,
     days: FolderIn<'_>,
@@ -234,7 +234,7 @@ fn refuse_cause(
     }
 }
 
-/// Prints that a folder has no day. The result has the exit status.
+/// Prints that a folder has no day. Returns `AlreadyReported` with the exit status.
 fn refuse_folder(rt: &HostRuntime, folder: Folder<'_>) -> JobError
     ensures { result ≡ JobError.AlreadyReported 1 }
 {

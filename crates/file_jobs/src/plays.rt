@@ -93,8 +93,8 @@ fn read_error(fault: SessionFault, read: Option<&io::Error>) -> Option<&io::Erro
 /// script. The errors are:
 ///
 /// - `AlreadyReported` with the exit status: the configuration is refused, or memory ran out when its settings were
-///   read. Then prints why.
-/// - `Failed`: memory ran out before anything was read. This isn't printed here.
+///   read. This has been printed.
+/// - `Failed`: memory ran out before anything was read. This hasn't been printed.
 pub fn play_input(rt: &HostRuntime) -> Result<u8, JobError>
     ensures ended { IfOk result IsEnded }
     ensures refused { IfErr result (IsReportedOrFailed 1) }
@@ -127,8 +127,9 @@ fn play_both<'a>(rt: &'a HostRuntime, input: &mut Script<'a, '_, '_>) -> Result<
     }
 }
 
-/// Returns the settings in `head`, the bytes that `read_head` returned. If the configuration in them has over 65,536
-/// bytes or is refused, or if memory runs out, prints why, and the error is `AlreadyReported` with the exit status.
+/// Returns the settings in `head`, the bytes that come before a script in the same input: a configuration, and the line
+/// `---` if there is one. If the configuration has over 65,536 bytes or is refused, or if memory runs out, prints why,
+/// and the error is `AlreadyReported` with the exit status.
 fn settings_before(rt: &HostRuntime, head: &[u8]) -> Result<Settings, JobError>
     ensures { IfErr result (IsReported 1) }
 {
@@ -163,8 +164,8 @@ fn outlet<'a, 'b>(answers: &'b Answers<'a>) -> StreamOut<Outgoing<'a, 'b>> {
 /// entries. Returns the exit status. The errors are:
 ///
 /// - `AlreadyReported` with the exit status: a file can't be opened, the configuration or the opening can't be read or
-///   is refused, memory ran out when one of the two was read, or two files are standard input. Then prints why.
-/// - `Failed`: memory ran out, which isn't printed yet.
+///   is refused, memory ran out when one of the two was read, or two files are standard input. This has been printed.
+/// - `Failed`: memory ran out at another step. This hasn't been printed.
 pub fn play_files<'a>(
     rt: &'a HostRuntime,
     site: SiteFiles<'_>,

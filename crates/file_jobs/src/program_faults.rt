@@ -83,7 +83,7 @@ fn print_asm_fault(
     Ok(())
 }
 
-/// Returns the place of this line of a file. Returns `file` as it is for `None`.
+/// Returns the place that a message names for line `line` of a file. If `line` is `None`, returns `file` as it is.
 fn at_line(file: Place<'_>, line: Option<u64>) -> Place<'_>
     ensures name { result.name.now ≡ file.entry.name.now }
     ensures line { result.line ≡ (if is_some line then line else file.entry.line) }

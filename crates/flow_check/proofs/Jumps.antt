@@ -15,7 +15,8 @@ use Rattle.flow_check.specs.Faults.{IsFirstFlowFault, numbered}
 below_suc : (p m : ℕ) → p < suc m → (p ≡ m) ⊎ (p < m)
 below_suc p m h = elim (cases_lt p m) [ inl l ↦ inr l | inr g ↦ inl (omega arith) ]
 
--- if unit pc is the first whose jump has a fault, it is also the first such unit among the first n, for each n above pc
+-- if no jump before unit pc has a fault, and the jump at unit pc has the fault f, then for each n above pc, f at pc is
+-- the first fault among the first n units
 pub fault_stays : (us : List ProgramUnit) (pc n : ℕ) (f : JumpFault) → pc < n → flow_fault_below us pc ≡ None → jump_fault us pc ≡ Some f
     → flow_fault_below us n ≡ Some (pc, f)
 fault_stays us pc zero f lt a b = absurd (omega arith)
@@ -54,7 +55,7 @@ distance_inside : (us : List ProgramUnit) (pc : ℕ) (o : Option ProgramUnit) (z
 distance_inside us pc None z e d = absurd (cc)
 distance_inside us pc (Some u) z e d = get_inside us pc u e
 
--- if `landing_fault` finds nothing wrong with unit `to`, then an instruction begins at unit `to`
+-- if `landing_fault` finds nothing wrong with a jump to unit `to`, then an instruction begins at unit `to`
 lands : (us : List ProgramUnit) (to : ℕ) (o : Option ProgramUnit) → slice_get us to ≡ o → landing_fault o ≡ None → (i : _) × (slice_get us to ≡ Some (First i))
 lands us to None e h = absurd (cc)
 lands us to (Some (First i)) e h = (i, e)

@@ -5,8 +5,8 @@ use Rattle.fuelling_point.specs.declared.snapshot.Snapshot.{Snapshot}
 use Rattle.fuelling_point.specs.States.{is_busy}
 use Rattle.fuelling_point.specs.Table.{PointState}
 
--- A point whose newest transaction has the number `last` can have this unpaid transaction: its number is from 1 to
--- `last`, and its amount in cents and its volume in centilitres are at most 999,999,999.
+-- A point whose newest transaction has the number `last` can have the unpaid transaction `t`: the number of `t` is from
+-- 1 to `last`, and its amount in cents and its volume in centilitres are at most 999,999,999.
 pub record IsUnpaid (last : ℕ) (t : Transaction) : Type 0 where
   pub some : 1 ≤ t.number
   pub number : t.number ≤ last

@@ -1,5 +1,5 @@
--- If an audit of entries refuses the entry at a place, then a flaw that explains the audit's fault is what is wrong
--- with the entry at this place (`ShowsFlawAt`).
+-- If an audit refuses the entry at a place, and a flaw explains the audit's fault (`ExplainsFault`), then this flaw is
+-- what is wrong with the entry at this place (`ShowsFlawAt`).
 use Rattle.std.proofs.Common.{◌≡◌, ℕ, ◌+◌, ◌-◌, ◌<◌, ◌≤◌, List, [], ◌∷◌, ◌++◌, length, take, Option, Some, Ok, refl, sym, ap, ◌∙◌, subst, arith}
 use Rattle.std.proofs.Common.{inl, inr, length-append}
 use Rattle.std.specs.Prelude.{slice_get, reverse}

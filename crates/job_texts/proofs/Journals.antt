@@ -1,4 +1,4 @@
--- What is printed after an audit of entries is right (`AuditPrints`). What is printed for a journal's text is right
+-- Conditions under which an output is what `fc audit` prints for entries (`AuditPrints`) or for a text
 -- (`JournalPrints`), whether the text was read up to its end or reading found a fault.
 use Rattle.std.proofs.Common.{◌≡◌, ◌≢◌, ◌⊎◌, Bool, ℕ, List, [], ◌++◌, Option, Some, None, Result, Ok, Err, sym, ap, ◌∙◌, subst, inl, inr}
 use Rattle.std.specs.Prelude.{IfErr, IfOk, OnOk}
@@ -37,8 +37,8 @@ output-fault config entries fault (Ok output) complete shows printed differs =
     inr (record { none = λ h. differs (complete h); fault = fault; shows = shows; is_fault_of_input = differs; printed = printed })
 output-fault config entries fault (Err e) complete shows printed differs = tt
 
--- If a text was read as these entries up to its end, then an output that is right for the entries (`AuditPrints`) is
--- right for the text (`JournalPrints`).
+-- If a text was read up to its end as these entries, then what `fc audit` prints for the entries (`AuditPrints`) is
+-- also what it prints for the text (`JournalPrints`).
 module _ (text : List ℕ) (entries : List Entry) where
   all-is : (new : Option (List ℕ)) → Consumes (Some text) new (journal_text entries ++ []) → IsAtEnd new → text ≡ journal_text entries
   all-is None taken at_end = absurd taken
@@ -60,14 +60,14 @@ module _ (text : List ℕ) (entries : List Entry) where
       → JournalPrints config text output
   all-output config new output r tells = judged config output (all-is new r.reads.taken r.at_end) r.reads.each tells
 
--- An output is right for a text (`JournalPrints`), if:
+-- The output is what `fc audit` prints for a text (`JournalPrints`), if these three things are true:
 -- - The text was read up to its end, and an auditor took the text's entries one by one. The auditor began as `before`,
 --   with a new site and no fault, and ended as `after`.
 -- - For each list of entries that the auditor can have taken (`Found`), `audited` is a right result of their audit
---   (`Audits`). It isn't an error if a site can have these entries as its history.
--- - The output is right (`AuditPrints`) for each configuration and list of entries for which two things hold: `audited`
---   is a right result of their audit, and it is no error but `OutOfMemory` if a site can have these entries as its
---   history.
+--   (`Audits`), and isn't an error if a site can have them as its history.
+-- - For each configuration and list of entries: if `audited` is a right result of their audit, and is no error but
+--   `OutOfMemory` if a site can have them as its history, then the output is what `fc audit` prints for them
+--   (`AuditPrints`).
 pub all-taken : (text : List ℕ) (config : ConfigValue) (new : Option (List ℕ)) (before after : AuditorValue)
     (audited : Result SiteValue AuditFault) (output : JobOutput)
     → before.site ≡ new_site config → before.fault ≡ None → TakesAll (Some text) new (TookEntries before after)
@@ -103,8 +103,10 @@ fault-output config text new fault (Ok output) reads wants printed =
     })
 fault-output config text new fault (Err e) reads wants printed = tt
 
--- `FailsOrRunsOut` uses a result only to see whether it is the error `Device`. So if both `r` and `s` are this error,
--- or neither is, then what `FailsOrRunsOut` says of `r` is true of `s` too.
-pub fails-so : {T U : Type 0} (r : Result T JournalFault) (s : Result U JournalFault) (a b c d : ℕ) → is_device s ≡ is_device r
-    → FailsOrRunsOut r a b c d → FailsOrRunsOut s a b c d
-fails-so r s a b c d e = subst (λ (f : Bool). RoseBy (one_if f) a b ⊎ (RoseBy 0 a b × RoseBy journal_reads c d)) (sym e)
+-- What `FailsOrRunsOut` says of a result (how many reads failed or were made) depends only on whether the result is the
+-- error `Device`. So if both `r` and `s` are this error, or neither is, then what it says of `r` is true of `s` too.
+pub fails-so : {T U I : Type 0} (r : Result T JournalFault) (s : Result U JournalFault) (failures reads : I → ℕ) (old new : I) → is_device s ≡ is_device r
+    → FailsOrRunsOut r failures reads old new → FailsOrRunsOut s failures reads old new
+fails-so r s failures reads old new e =
+    subst (λ (f : Bool). RoseBy (one_if f) (failures old) (failures new) ⊎ (RoseBy 0 (failures old) (failures new) × RoseBy journal_reads (reads old) (reads new)))
+    (sym e)

@@ -18,7 +18,7 @@ use Rattle.job_texts.specs.Differing.{Differs}
 use Rattle.job_texts.specs.Reasons.{IsReason}
 
 -- A site of this configuration can have the history `before`, and an audit refuses `entry` after it, with this fault.
--- If memory ran out, nothing is claimed about `entry`.
+-- If the fault is that memory ran out, nothing is claimed about `entry`.
 pub record IsRejected (config : ConfigValue) (before : List Entry) (entry : Entry) (fault : AuditFault) : Type 0 where
   pub old : SiteValue
   pub config_is : old.config ≡ config

@@ -51,8 +51,9 @@ abbrev pub kind_wanted : List ProgramUnit → Refusal → Option Kind
 kind_wanted code (OfType (BadArgument unit argument)) = wanted_by (slice_get code unit) argument
 kind_wanted code refusal = None
 
--- The kind of value that the argument named by a refusal must have, given the units of the refused program. The units
--- are None if the program's bytes can't be decoded. The result is None in this case, and if `kind_wanted` gives None.
+-- The kind of value that the argument named by a refusal must be, given the units of the refused program. The units are
+-- None if the program's bytes can't be decoded. Then the result is None too. It is also None if the refusal names no
+-- argument, if no instruction begins at its unit, or if there is no such helper or argument (`kind_wanted`).
 abbrev pub wanted_in : Option (List ProgramUnit) → Refusal → Option Kind
 wanted_in None refusal = None
 wanted_in (Some code) refusal = kind_wanted code refusal
@@ -85,7 +86,8 @@ pub record Names (bytes : List ℕ) (reported : RefusedProgram) : Type 0 where
 abbrev pub IsSpelling : List ℕ → Type 0
 IsSpelling text = (code : List ProgramUnit) × AssemblesTo text code
 
--- `reported` is why the program is refused, with the line and the kind of argument that the refusal names.
+-- `reported` is why the program is refused, with the line of the unit at fault and the kind of value that the argument
+-- at fault must be, if the refusal names a unit or an argument.
 pub record IsReason (p : ProgramText) (reported : RefusedProgram) : Type 0 where
   pub refused : refusal_of p ≡ Some reported.refusal
   pub names : Names p.bytes reported

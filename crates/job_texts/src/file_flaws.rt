@@ -79,8 +79,8 @@ pub fn dis_flaw(alloc: Global, file: &[u8]) -> Result<Option<ProgramFlaw>, Alloc
     }
 }
 
-/// Returns why bytes don't decode, or `None` if they do. The error is that memory ran out. Bytes that aren't 1 to 512
-/// whole units give no error.
+/// Returns why bytes don't decode, or `None` if they do. The error is that memory ran out. This error can't occur for
+/// bytes that aren't 1 to 512 whole units.
 fn undecoded(alloc: Global, bytes: &[u8]) -> Result<Option<ProgramFlaw>, AllocError>
     ensures flaw { IfOk result (λ found. MatchOption found (DecodesOf (Ok bytes.now)) (DisFlawOf (Ok bytes.now))) }
     ensures length { has_valid_length bytes.now ≡ false → IsOk result }

@@ -249,9 +249,8 @@ pub fn journal_flaw<I: LineIn>(
     ensures reported { IfOk result
         (λ found. IfSome found (λ p. IsJournalFlaw config (I.remaining input.old) (I.remaining input.new) p.0 p.1)) }
     ensures want { IfErr result IsDeviceOrOutOfMemory }
-    ensures failed { FailsOrRunsOut result (I.failures input.old) (I.failures input.new) (I.reads input.old)
-        (I.reads input.new) }
-    ensures reads { SpendsBlocks (I.reads input.old) (I.reads input.new) (I.asked input.old) (I.asked input.new) }
+    ensures failed { FailsOrRunsOut result I.failures I.reads input.old input.new }
+    ensures reads { SpendsBlocks I.reads I.asked input.old input.new }
 {
     match read_entries(alloc, input) {
         Ok(entries) => match entries_flaw(alloc, config, &entries) {

@@ -21,7 +21,7 @@ use std::alloc::{AllocError, Global};
 use std::fmt;
 
 /// Why a program is refused: the refusal, and the line of the unit that it names. If an argument of a helper (a
-/// function that programs can call) is at fault, `wanted` is the kind that this argument must have.
+/// function that programs can call) is at fault, `wanted` is the kind of value that this argument must be.
 #[derive(Drop)]
 pub struct RefusedProgram {
     pub refusal: Refusal,
@@ -82,8 +82,8 @@ impl fmt::Display for LineAtFault<'_> {
     }
 }
 
-/// A refusal, and the kind that an argument of a helper must have, if such an argument is at fault. A helper is a
-/// function that programs can call. `Display` writes in words what is wrong.
+/// A refusal, and the kind of value that an argument of a helper must be, if such an argument is at fault. A helper is
+/// a function that programs can call. `Display` writes in words what is wrong.
 #[derive(Clone, Copy)]
 struct Wrong(Refusal, Option<Kind>);
 
@@ -249,8 +249,8 @@ pub fn explain_refusal(
 }
 
 /// Returns why the bytes of a program are refused for contexts of this layout, or `None` if they are accepted. Bit c of
-/// `counters` declares counter c. The error is that memory ran out. Bytes that aren't 1 to 512 whole units give no
-/// error.
+/// `counters` declares counter c. The error is that memory ran out. This error can't occur for bytes that aren't 1 to
+/// 512 whole units.
 pub fn refused_program(
     alloc: Global,
     bytes: &[u8],
@@ -276,8 +276,8 @@ pub fn refused_program(
     }
 }
 
-/// Returns why an assembler text is refused: its fault, and the flaw with the line or the label that the fault's
-/// message shows, if it shows one. Returns `None` if the text assembles. The error is that memory ran out.
+/// Returns why an assembler text is refused: its fault, and an `AsmFlaw`, which has the line or the label that the
+/// fault's message shows, if it shows one. Returns `None` if the text assembles. The error is that memory ran out.
 pub fn asm_flaw(alloc: Global, text: &[u8]) -> Result<Option<(AsmFault, AsmFlaw<'_>)>, AllocError>
     ensures { IfOk result
         (λ found. MatchOption found (IsSpelling text.now)

@@ -1,7 +1,7 @@
--- While answers wait in a buffer, the promises of a session hold for the written bytes and the buffered bytes together.
--- Once all buffered bytes are written, these promises hold for the output, with `StopsAtDoor` in place of `Stops`. If a
--- write fails, `Breaks` holds for the output. If a read fails, `StopsAtDoor` holds although the buffered bytes aren't
--- written.
+-- While answers are in a buffer, the promises of a session hold for the written bytes and the buffered bytes together.
+-- Once all buffered bytes are written, the promises hold for the output alone. If a write fails, the output has a
+-- beginning of the answers (`Breaks`). If a read fails, the output may have only a beginning too, since the buffered
+-- bytes aren't written (`StopsAtDoor`).
 use Rattle.std.proofs.Common.{◌≡◌, ◌≢◌, ◌⊎◌, ℕ, ◌+◌, List, [], ◌∷◌, ◌++◌, Option, Some, None, Result, Ok, Err, IfOk, IfErr, OnErr, refl, sym, ◌∙◌, ap, subst, append_assoc, append-nil}
 use Rattle.std.proofs.Common.{inl, inr}
 use Rattle.std.specs.List.{flat_map}
@@ -30,8 +30,9 @@ is_answered (Some fault) now rest h = h
 read_is_no_write : session.Read ≡ session.Write → ⊥
 read_is_no_write e = absurd (cc)
 
--- if `HoldsWithBuffered` holds with `pending` in the buffer, and a beginning of these bytes is written, then
--- `HoldsWithBuffered` holds with only their rest, `after`, in the buffer
+-- If a promise `X` holds for the written and the buffered bytes together (`HoldsWithBuffered`), and a beginning of the
+-- buffered bytes `pending` is written, then `X` still holds for both together, with only the rest of these bytes,
+-- `after`, in the buffer.
 pub still_holds_after_write : (X : Option (List ℕ) → Option (List ℕ) → Type 0) (o p q : Option (List ℕ)) (pending after : List ℕ) → HoldsWithBuffered X o p pending
     → Sends pending after p q → HoldsWithBuffered X o q after
 still_holds_after_write X o p q pending after w s =
@@ -50,7 +51,8 @@ module _ {C D : Type 0} (answers_with : C × D → List ℕ → List ℕ → C �
   pub waits_none : (s : C × D) (i o : Option (List ℕ)) → HoldsWithBuffered (Answers s s i i 0) o o []
   waits_none s i o = record { sent = []; as_if_out = talks_none answers_with s i (Some []); out = appends_none o }
 
-  -- if one more line is read and answered, and the answer is buffered, then `HoldsWithBuffered` holds for one line more
+  -- if the answers to `count` lines were written or are buffered, and one more line is read and its answer buffered,
+  -- then the answers to `count + 1` lines were written or are buffered
   holds_after_answer : (s m s' : C × D) (i j k o p : Option (List ℕ)) (pending : List ℕ) (count : ℕ) (l text : List ℕ) → HoldsWithBuffered (Answers s m i j count) o p pending
       → IsLine l → Consumes j k (l ++ 10 ∷ []) → answers_with m l text s' → HoldsWithBuffered (Answers s s' i k (count + 1)) o p (pending ++ text)
   holds_after_answer s m s' i j k o p pending count l text w whole taken all_answered = record {
@@ -66,7 +68,8 @@ module _ {C D : Type 0} (answers_with : C × D → List ℕ → List ℕ → C �
   waits_more s m s' i j k o p q pending after count l w whole taken a =
       still_holds_after_write (Answers s s' i k (count + 1)) o p q (pending ++ a.text) after (holds_after_answer s m s' i j k o p pending count l a.text w whole taken a.is_answer) a.goes_on
 
-  -- If the lines so far were answered, then `Ends` holds for what was written and what is buffered in two cases:
+  -- If the lines so far were answered, then the session has ended without a failure (`Ends`), where buffered bytes
+  -- count as written, in two cases:
   -- - The input has ended right after these lines.
   -- - The next line is too long, or is a last line without LF, and the answer to this fault is buffered too.
   ends_so : (s m : C × D) (i j k o p : Option (List ℕ)) (pending : List ℕ) (count : ℕ) (cut : Option LineFault) (more : List ℕ)
@@ -105,8 +108,8 @@ module _ {C D : Type 0} (answers_with : C × D → List ℕ → List ℕ → C �
       (ends_so s m i j k o p pending count cut more w taken is) h.1))
 
   module _ (drops : HandlerError → C × D → List ℕ → C × D → Type 0) where
-    -- if `Breaks` holds for an empty output to which `text` was written, then it also holds for an output to which only
-    -- `sent`, a beginning of `text`, was written
+    -- `Breaks` says that a failed session wrote a beginning of its answers. If it says so of a session that wrote
+    -- `text`, then it also says so of one that wrote only `sent`, a beginning of `text`.
     part_out : (s m : C × D) (i k o q : Option (List ℕ)) (text sent lost : List ℕ) → Breaks answers_with drops s m i k (Some []) (Some text) → sent ++ lost ≡ text
         → Appends o q sent → Breaks answers_with drops s m i k o q
     part_out s m i k o q text sent lost b in_order out = record {
@@ -137,7 +140,7 @@ module _ {C D : Type 0} (answers_with : C × D → List ℕ → List ℕ → C �
         record { sent = w.sent; as_if_out = breaks_here answers_with drops s m i j (Some []) (Some (w.sent ++ pending)) count k more w.as_if_out taken is; out = w.out }
 
     -- if the lines so far were answered, and a write of the buffered answers fails after it has written a beginning of
-    -- them, then `Breaks` holds for the session
+    -- them, then a beginning of the session's answers was written, as `Breaks` says of a failed session
     pub breaks_gone : (s m : C × D) (i j o p q : Option (List ℕ)) (pending : List ℕ) (count : ℕ) → HoldsWithBuffered (Answers s m i j count) o p pending
         → (lost : List ℕ) × Sends pending lost p q → Breaks answers_with drops s m i j o q
     breaks_gone s m i j o p q pending count w e =
@@ -192,8 +195,9 @@ module _ {C D : Type 0} (answers_with : C × D → List ℕ → List ℕ → C �
         (ends_so s m i j k o p pending count (Some h.0) more w taken (subst P h.1 is)) (h.2, h.3)
 
     module _ (needs_memory : List ℕ → Type 0) where
-      -- if the lines so far were answered, and reading the next line failed with this fault after at most a beginning
-      -- of it, then `Stops` holds for what was written and what is buffered
+      -- if the lines so far were answered, and the next line couldn't be read whole because of this fault (zero or more
+      -- of its bytes were read, but not its LF), then the session failed with this fault, and its answers are the
+      -- written and the buffered bytes together (`Stops`)
       pub stops_read : (fault : InputFault) (s m : C × D) (i j k o p : Option (List ℕ)) (pending : List ℕ) (count : ℕ) (more : List ℕ)
           → HoldsWithBuffered (Answers s m i j count) o p pending → Consumes j k more → IsLine more
           → HoldsWithBuffered (Stops answers_with drops needs_memory (fault_of_input fault) s m i k) o p pending
@@ -230,8 +234,9 @@ module _ {C D : Type 0} (answers_with : C × D → List ℕ → List ℕ → C �
         out = w.out;
       }
 
-      -- if `Stops` holds for what was written and what is buffered, then `StopsAtDoor` holds once all buffered bytes
-      -- are written
+      -- if a session failed, but no write failed, and its answers are the written and the buffered bytes together
+      -- (`Stops`), then `StopsAtDoor` holds once the buffered bytes are written: unless a read failed, it promises that
+      -- all answers are in the output
       pub stops_out : (fault : SessionFault) (s m : C × D) (i k o p q : Option (List ℕ)) (pending : List ℕ) → HoldsWithBuffered (Stops answers_with drops needs_memory fault s m i k) o p pending
           → Sends pending [] p q → StopsAtDoor answers_with drops needs_memory fault s m i k o q
       unfolding part_out
@@ -239,15 +244,17 @@ module _ {C D : Type 0} (answers_with : C × D → List ℕ → List ℕ → C �
           let x = still_holds_after_write (Stops answers_with drops needs_memory fault s m i k) o p q pending [] w sends in
           (part_out s m i k o q (x.sent ++ []) x.sent [] x.as_if_out.0 refl x.out, x.as_if_out.1, λ _. x.as_if_out.2, x.as_if_out.3)
 
-      -- if `Stops` holds for what was written and what is buffered, and the fault is a failed read, then `StopsAtDoor`
-      -- holds although the buffered answers are not written
+      -- if a session failed because a read failed, and its answers are the written and the buffered bytes together
+      -- (`Stops`), then `StopsAtDoor` holds although the buffered bytes aren't written: after a failed read it promises
+      -- only a beginning of the answers
       stops_waiting : (fault : SessionFault) (s m : C × D) (i k o p : Option (List ℕ)) (pending : List ℕ) → HoldsWithBuffered (Stops answers_with drops needs_memory fault s m i k) o p pending
           → fault ≡ session.Read → StopsAtDoor answers_with drops needs_memory fault s m i k o p
       unfolding part_out
       stops_waiting fault s m i k o p pending w is =
           (part_out s m i k o p (w.sent ++ pending) w.sent pending w.as_if_out.0 refl w.out, w.as_if_out.1, λ e. absurd (e is), w.as_if_out.3)
 
-      -- `stops_waiting` for a device's fault (a failed read or a failed write), if it isn't a failed write
+      -- if a device failed in a read or a write, but no write failed, and the session's answers are the written and the
+      -- buffered bytes together (`Stops`), then `StopsAtDoor` holds although the buffered bytes aren't written
       pub stops_off : (fault : SessionFault) (s m : C × D) (i k o p : Option (List ℕ)) (pending : List ℕ) → (fault ≡ session.Read) ⊎ (fault ≡ session.Write)
           → (fault ≢ session.Write → HoldsWithBuffered (Stops answers_with drops needs_memory fault s m i k) o p pending) → fault ≢ session.Write
           → StopsAtDoor answers_with drops needs_memory fault s m i k o p

@@ -36,7 +36,8 @@ line_first : (l a r rest : List ℕ) → ((with_lf l ++ a) ++ r) ++ rest ≡ l +
 line_first l a r rest =
     ap (λ t. (t ++ r) ++ rest) (append_assoc l (10 ∷ []) a) ∙ ap (λ t. t ++ rest) (append_assoc l (10 ∷ a) r) ∙ append_assoc l (10 ∷ (a ++ r)) rest
 
--- the bytes after a session's last line don't begin with a line and its LF
+-- if a session ended without a failure, then what its input has after the last whole line that the session read doesn't
+-- begin with another whole line, of at most 8,400 bytes, and its LF
 no_more : (cut : Option LineFault) (r k rest x : List ℕ) → IsCut cut (Some rest) r → IsLine k → r ++ rest ≡ k ++ 10 ∷ x → ⊥
 no_more None r k rest x h l e =
     let n : length (r ++ rest) ≡ length (k ++ 10 ∷ x) = ap length e in

@@ -1,6 +1,6 @@
--- Let a caller see `f s` of each state s of a session. Let each step of the session, from s to s', be a step from `f s`
--- to `f s'` for the caller. A step is an answer to a line, or a line left without an answer. Then the promises about a
--- session or a worker also hold for what the caller sees.
+-- The promises about a session or a worker also hold for what a caller sees of it, if the caller sees `f s` of each
+-- state s, and each step of the session, from s to s', is a step from `f s` to `f s'` for the caller. A step is an
+-- answer to a line, or a line left without an answer.
 use Rattle.std.proofs.Common.{◌≡◌, ◌⊎◌, ℕ, List, [], ◌∷◌, Option, Some, None, Result, Ok, Err, ap, inl, inr}
 use Rattle.till_request.specs.declared.act.Act.{Act}
 use Rattle.till_request.specs.declared.act.Role.{Role}

@@ -1,5 +1,6 @@
--- A session fulfils its promises: `AnswersLines` after each line, `Ends` at its end, `Breaks` if it fails, and also
--- `Stops` if it fails but no write failed.
+-- A session fulfils its promises. After each line, all lines so far are answered (`AnswersLines`). At its end, all
+-- lines are (`Ends`). If it fails, a beginning of its answers was written (`Breaks`), and all of them if no write
+-- failed (`Stops`).
 use Rattle.std.proofs.Common.{◌≡◌, ℕ, ◌+◌, List, [], ◌∷◌, ◌++◌, take, drop, Option, Some, None, Result, Ok, Err, IfOk, OnErr, refl, sym, ◌∙◌, ap, subst, arith, append_assoc, append-nil}
 use Rattle.std.proofs.Common.{length-append, inl, inr}
 use Rattle.std.specs.List.{flat_map, AllByRecursion}
@@ -67,8 +68,9 @@ module _ {C D : Type 0} (answers_with : C × D → List ℕ → List ℕ → C �
     counted = omega (arith, length-append t.texts (a.text ∷ []), t.counted);
   }
 
-  -- If the lines so far were answered, and the input has ended or the next line is too long or has no LF, then `Ends`
-  -- holds for the session's result.
+  -- If the lines so far were answered, and the input has ended or the next line is too long or has no LF, then a result
+  -- without an error means that the session ended with all its answers written (`Ends`). With such a result, the answer
+  -- to the fault of that line, if there is one, must have been written.
   pub ends_said : (s m : C × D) (i j k o p q : Option (List ℕ)) (count : ℕ) (cut : Option LineFault) (more : List ℕ) (r : Result Ended SessionFault)
       → AnswersLines answers_with s m i j o p count [] [] → Consumes j k more → IsCut cut k more → IfOk r (λ e. IsEnd count cut e × Appends p q (cut_line cut))
       → IfOk r (λ e. Ends answers_with s m i k o q e.lines e.cut)
@@ -112,7 +114,8 @@ module _ {C D : Type 0} (answers_with : C × D → List ℕ → List ℕ → C �
       begins = refl;
     }
 
-    -- if the next line was read and dropped (left without an answer), then `Breaks` holds for the session
+    -- if the lines so far were answered, and the next line was read and dropped (left without an answer), then the
+    -- session failed, and a beginning of its answers was written (`Breaks`)
     dropped_next : (why : HandlerError) (s m s' : C × D) (i j k o p : Option (List ℕ)) (count : ℕ) (l : List ℕ)
         → AnswersLines answers_with s m i j o p count [] [] → IsLine l → Consumes j k (l ++ 10 ∷ []) → drops why m l s' → Breaks answers_with drops s s' i k o p
     dropped_next why s m s' i j k o p count l t whole taken d = record {
@@ -200,7 +203,8 @@ module _ {C D : Type 0} (answers_with : C × D → List ℕ → List ℕ → C �
         let P : Option LineFault → Type 0 = λ c. IsCut c k more in
         breaks_cut s m i j k o p q count more h.0 h.2 t taken (subst P h.1 is) h.3
 
-    -- if reading the next line failed with this fault, then `StopsFor` holds for the session's fault
+    -- if reading the next line failed with this fault after `more`, at most a beginning of the line, then this is why
+    -- the session failed (`StopsFor`)
     stops_reading : (needs_memory : List ℕ → Type 0) (fault : InputFault) (s : C × D) (more : List ℕ) → IsLine more
         → StopsFor drops needs_memory (fault_of_input fault) s s more
     stops_reading needs_memory input.Read s more line = (refl, line)
@@ -208,7 +212,7 @@ module _ {C D : Type 0} (answers_with : C × D → List ℕ → List ℕ → C �
     stops_reading needs_memory input.OutOfMemory s more line = inl (refl, line)
 
     -- if the lines so far were answered, and reading the next line failed with this fault after at most a beginning of
-    -- it, then `Stops` holds
+    -- it, then the session failed with this fault, and all its answers were written whole (`Stops`)
     pub stops_here : (needs_memory : List ℕ → Type 0) (fault : InputFault) (s m : C × D) (i j o p : Option (List ℕ)) (count : ℕ) (k : Option (List ℕ))
         (more : List ℕ) → AnswersLines answers_with s m i j o p count [] [] → Consumes j k more → IsLine more
         → Stops answers_with drops needs_memory (fault_of_input fault) s m i k o p

@@ -1,5 +1,5 @@
 -- Bytes are written, and then a text. If a write of the bytes fails, then their rest and the whole text are lost. If a
--- write of the text fails, then its rest is lost.
+-- write of the text fails, then the rest of the text is lost.
 use Rattle.std.proofs.Common.{◌≡◌, ℕ, List, [], ◌++◌, take, drop, Option, sym, ◌∙◌, ap, append_assoc, append-nil}
 use Rattle.std.specs.Io.KnownBytes.{Appends}
 use Rattle.std.proofs.lemmas.List.{take-append-drop}

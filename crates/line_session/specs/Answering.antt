@@ -17,6 +17,7 @@ use Rattle.till_request.specs.Line.{HasNoLf, IsLine}
 use Rattle.till_request.specs.declared.act.Answer.TheVariants.{Line}
 use Rattle.till_request.specs.declared.act.LineFault.{LineFault}
 use Rattle.till_request.specs.declared.act.LineFault.TheVariants as line
+use Rattle.line_session.specs.declared.connection.Connection.{Connection}
 use Rattle.line_session.specs.declared.line_handler.HandlerError.{HandlerError}
 use Rattle.line_session.specs.declared.line_handler.HandlerError.TheVariants as error
 use Rattle.line_session.specs.declared.answering.SessionFault.{SessionFault}
@@ -40,8 +41,8 @@ pub record Dropped {S O : Type 0} (drops : S → List ℕ → S → Type 0) (lin
   pub drops_it : drops s line s'
   pub output : o' ≡ o
 
--- The `drops` of a handler that leaves a line without an answer in one case alone: the line needs memory, memory ran
--- out, and nothing changed (`RunsOutOfMemory`).
+-- Holds for no line: it is the `drops` of a handler that drops no line. Such a handler leaves a line without an answer
+-- only if the line needs memory, memory ran out, and nothing changed (`RunsOutOfMemory`).
 abbrev pub drops_none : {S : Type 0} → HandlerError → S → List ℕ → S → Type 0
 drops_none why s line s' = ⊥
 
@@ -53,9 +54,10 @@ pub record RunsOutOfMemory {S O : Type 0} (needs_memory : List ℕ → Type 0) (
 
 -- Why the whole answer to `line` wasn't written:
 -- - `Write`: the write failed after a beginning of the answer.
--- - `OutOfMemory`: memory ran out. Either the line needed it and changed nothing, or the line was dropped (left without
---   an answer).
--- - `Journal`: the journal failed, and the line was dropped.
+-- - `OutOfMemory`: memory ran out, and nothing was written. Either the line is one for which the handler needs memory
+--   (`needs_memory`), and the state stayed the same. Or the state changed from s to s' as `drops` allows for a line
+--   that is left without an answer.
+-- - `Journal`: the journal failed, and nothing was written. The state changed from s to s' as `drops` allows.
 -- s and s' are the states before and after the line, o and o' the outputs. `out` gives all bytes that were written to
 -- an output.
 abbrev pub HandlerFails : {S O : Type 0} → (S → List ℕ → List ℕ → S → Type 0) → (HandlerError → S → List ℕ → S → Type 0) → (List ℕ → Type 0)
@@ -174,9 +176,10 @@ abbrev pub ReadsOn : {S : Type 0} → S → S → List ℕ → Type 0
 ReadsOn s s' rest = (s' ≡ s) × IsLine rest
 
 -- Memory ran out at the next line, of which `rest` was read. There are three cases:
--- - The line wasn't read whole, and nothing changed.
--- - The line was read whole, needs memory, and changed nothing.
--- - The line was read whole and dropped (left without an answer), which led from state s to s'.
+-- - The line wasn't read whole, and the state stayed the same.
+-- - The line was read whole, the handler needs memory for it (`needs_memory`), and the state stayed the same.
+-- - The line was read whole, and the state changed from s to s' as `drops` allows for a line that is left without an
+--   answer.
 abbrev pub RunsOutAtNextLine : {S : Type 0} → (HandlerError → S → List ℕ → S → Type 0) → (List ℕ → Type 0) → S → S → List ℕ → Type 0
 RunsOutAtNextLine drops needs_memory s s' rest =
     ReadsOn s s' rest ⊎ ((line : List ℕ) × IsLine line × (rest ≡ with_lf line) × (((s' ≡ s) × needs_memory line) ⊎ drops error.OutOfMemory s line s'))
@@ -201,13 +204,20 @@ abbrev pub Stops : {S : Type 0} → (S → List ℕ → List ℕ → S → Type 
 Stops answers_with drops needs_memory fault s s' in_old in_new out_old out_new =
     (b : Breaks answers_with drops s s' in_old in_new out_old out_new) × (b.cut ≡ None) × (b.after ≡ []) × StopsFor drops needs_memory fault b.answered s' b.rest
 
--- A session that buffers answers failed with `fault`, which isn't a failed write. `Stops` holds, except that after a
--- failed read perhaps only a beginning of the answers was written.
+-- A session that buffers answers failed with `fault`, which isn't a failed write. If it isn't a failed read either, the
+-- answers to all answered lines were written whole. After a failed read perhaps only a beginning of them was written.
+-- No fault of a line was answered. The session failed at the line after the last answered one, as `StopsFor` says.
 abbrev pub StopsAtDoor : {S : Type 0} → (S → List ℕ → List ℕ → S → Type 0) → (HandlerError → S → List ℕ → S → Type 0) → (List ℕ → Type 0)
     → SessionFault → S → S → Option (List ℕ) → Option (List ℕ) → Option (List ℕ) → Option (List ℕ) → Type 0
 StopsAtDoor answers_with drops needs_memory fault s s' in_old in_new out_old out_new =
     (b : Breaks answers_with drops s s' in_old in_new out_old out_new) × (b.cut ≡ None) × (fault ≢ session.Read → b.after ≡ [])
     × StopsFor drops needs_memory fault b.answered s' b.rest
+
+-- `relation` holds for four values: the bytes that a connection's input still had before, those that it still has now,
+-- all bytes that had been written to the connection's output before, and all that have been written by now.
+abbrev pub RelatesConnection : {I O : Type 0} → (I → Option (List ℕ)) → (O → Option (List ℕ)) → Connection I O → Connection I O
+    → (Option (List ℕ) → Option (List ℕ) → Option (List ℕ) → Option (List ℕ) → Type 0) → Type 0
+RelatesConnection remaining written old new relation = relation (remaining old.input) (remaining new.input) (written old.output) (written new.output)
 
 -- whether the result is that a read failed
 abbrev pub is_read : {T : Type 0} → Result T SessionFault → Bool
@@ -237,9 +247,9 @@ is_write_fault (Err error.Journal) = false
 abbrev pub session_reads : ℕ
 session_reads = 67108864
 
--- The session made k reads, and asked for k bytes in all. k is at most `most`. If the session failed because it needed
--- more reads (`ReadsSpent`), k is `most`. The last four arguments are the number of reads before and after, and the
--- number of bytes asked for before and after.
-abbrev pub SpendsReads : {T : Type 0} → ℕ → Result T SessionFault → ℕ → ℕ → ℕ → ℕ → Type 0
-SpendsReads most result reads_old reads_new asked_old asked_new =
-    (k : ℕ) × (k ≤ most) × RoseBy k reads_old reads_new × (result ≡ Err session.ReadsSpent → k ≡ most) × RoseBy k asked_old asked_new
+-- The session made k reads of its input, and asked for k bytes in all. k is at most `most`. If the session failed
+-- because it needed more reads (`ReadsSpent`), k is `most`. `reads` counts the input's reads, and `asked` the bytes
+-- that they asked for.
+abbrev pub SpendsReads : {T I : Type 0} → ℕ → Result T SessionFault → (I → ℕ) → (I → ℕ) → I → I → Type 0
+SpendsReads most result reads asked old new =
+    (k : ℕ) × (k ≤ most) × RoseBy k (reads old) (reads new) × (result ≡ Err session.ReadsSpent → k ≡ most) × RoseBy k (asked old) (asked new)

@@ -15,8 +15,8 @@ pub record Sends (bytes rest : List ℕ) (out_old out_new : Option (List ℕ)) :
   pub out : Appends out_old out_new sent
   pub in_order : sent ++ rest ≡ bytes
 
--- `promise` holds for an output that is empty at first, and at the end has the bytes that were written between
--- `out_old` and `out_new`, followed by the buffered bytes `pending`.
+-- `promise` relates what an output had before and what it has now. It holds as if the output had been empty before, and
+-- now had the bytes that were written between `out_old` and `out_new`, followed by the buffered bytes `pending`.
 pub record HoldsWithBuffered (promise : Option (List ℕ) → Option (List ℕ) → Type 0) (out_old out_new : Option (List ℕ)) (pending : List ℕ) : Type 0 where
   pub sent : List ℕ
   pub as_if_out : promise (Some []) (Some (sent ++ pending))

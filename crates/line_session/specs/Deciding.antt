@@ -11,7 +11,8 @@ use Rattle.till_request.specs.Gives.{Fails}
 use Rattle.till_request.specs.Grammar.{line_read}
 use Rattle.line_session.specs.Session.{desk_needs_memory}
 
--- the line is an act, and the desk answered it
+-- the line can be read as an act of the role, and the answer is one that the desk can give to this act, at a moment
+-- that the clock can give
 abbrev pub DecidesAct : {C D : Type 0} → (D → Act → ℕ → Answer → D → Type 0) → (C → ℕ → C → Type 0) → Role → List ℕ → C → D → Answer → C → D → Type 0
 DecidesAct step tick role line c d answer c' d' =
     (act : Act) × (moment : ℕ) × (line_read role line ≡ Ok act) × tick c moment c' × step d act moment answer d'

@@ -201,8 +201,7 @@ pub fn answer_lines<I: LineIn, O: LineOut, C, D, S: LineHandler<C, D>>(
         (I.remaining input.old) (I.remaining input.new) (O.written output.old) (O.written output.new)) }
     ensures read_fault { RoseBy (one_if (is_read result)) (I.failures input.old) (I.failures input.new) }
     ensures write_fault { RoseBy (one_if (is_write result)) (O.failures output.old) (O.failures output.new) }
-    ensures reads { SpendsReads session_reads result (I.reads input.old) (I.reads input.new) (I.asked input.old)
-        (I.asked input.new) }
+    ensures reads { SpendsReads session_reads result I.reads I.asked input.old input.new }
     ensures stopped { IfErr result (λ fault. fault ≢ SessionFault.Write
         → Stops (S.answers_with handler.now) (S.drops handler.now) (S.needs_memory handler.now) fault (
           clock.old,

@@ -35,8 +35,7 @@ pub fn session<I: LineIn, O: LineOut, C: Clock, D: Desk>(
         (O.written output.new)) }
     ensures read_fault { RoseBy (one_if (is_read result)) (I.failures input.old) (I.failures input.new) }
     ensures write_fault { RoseBy (one_if (is_write result)) (O.failures output.old) (O.failures output.new) }
-    ensures reads { SpendsReads session_reads result (I.reads input.old) (I.reads input.new) (I.asked input.old)
-        (I.asked input.new) }
+    ensures reads { SpendsReads session_reads result I.reads I.asked input.old input.new }
     ensures stopped { IfErr result (λ fault. fault ≢ SessionFault.Write
         → Stops (desk_answers D.step C.tick role) (desk_drops D.step C.tick role) (desk_needs_memory role) fault
         (clock.old, desk.old) (clock.new, desk.new) (I.remaining input.old) (I.remaining input.new)

@@ -6,7 +6,7 @@ ghost use Rattle.till_request.specs.Count.{RoseBy, one_if};
 ghost use Rattle.till_request.specs.declared.act.LineFault.{LineFault};
 ghost use Rattle.line_session.specs.Buffering.{BuffersAnswer, Sends, FailsToBuffer, HoldsWithBuffered, IsUnbuffered};
 ghost use Rattle.line_session.specs.Session.{desk_answers, desk_drops, desk_needs_memory, ends_unwritten};
-ghost use Rattle.line_session.specs.Answering.{Ends, Breaks, SpendsReads, Stops, StopsAtDoor};
+ghost use Rattle.line_session.specs.Answering.{Ends, Breaks, RelatesConnection, SpendsReads, Stops, StopsAtDoor};
 ghost use Rattle.line_session.specs.Answering.{cut_line, is_read, is_write, session_reads};
 ghost use Rattle.line_session.specs.Found.{IsEnd};
 
@@ -171,9 +171,9 @@ impl Progress {
             (S.Out.written connection.old.output) (S.Out.written connection.new.output)
             self.new.pending.held.bytes.items) }
         ensures broken { IfErr result (λ fault. fault ≡ SessionFault.Write
-            → Breaks (desk_answers D.step C.tick role) (desk_drops D.step C.tick role) (clock.old, desk.old)
-            (clock.new, desk.new) (S.In.remaining connection.old.input) (S.In.remaining connection.new.input)
-            (S.Out.written connection.old.output) (S.Out.written connection.new.output)) }
+            → RelatesConnection S.In.remaining S.Out.written connection.old connection.new
+            (Breaks (desk_answers D.step C.tick role) (desk_drops D.step C.tick role) (clock.old, desk.old)
+            (clock.new, desk.new))) }
         ensures stopped { IfErr result (λ fault. fault ≢ SessionFault.Write → HoldsWithBuffered
             (Stops (desk_answers D.step C.tick role) (desk_drops D.step C.tick role) (desk_needs_memory role) fault
             (clock.old, desk.old) (clock.new, desk.new) (S.In.remaining connection.old.input)
@@ -228,25 +228,24 @@ pub fn pipelined_session<S: Doors, C: Clock, D: Desk>(
     clock: &mut C,
     desk: &mut D,
 ) -> Result<Ended, SessionFault>
-    ensures all_answered { IfOk result (λ ended. Ends (desk_answers D.step C.tick role) (clock.old, desk.old)
-        (clock.new, desk.new)
-        (S.In.remaining connection.old.input) (S.In.remaining connection.new.input)
-        (S.Out.written connection.old.output) (S.Out.written connection.new.output) ended.lines ended.cut) }
+    ensures all_answered { IfOk result (λ ended. RelatesConnection S.In.remaining S.Out.written connection.old
+        connection.new
+        (λ in_old in_new out_old out_new. Ends (desk_answers D.step C.tick role) (clock.old, desk.old)
+        (clock.new, desk.new) in_old in_new out_old out_new ended.lines ended.cut)) }
     ensures broken { OnErr result
+        (RelatesConnection S.In.remaining S.Out.written connection.old connection.new
         (Breaks (desk_answers D.step C.tick role) (desk_drops D.step C.tick role) (clock.old, desk.old)
-        (clock.new, desk.new) (S.In.remaining connection.old.input) (S.In.remaining connection.new.input)
-        (S.Out.written connection.old.output) (S.Out.written connection.new.output)) }
+        (clock.new, desk.new))) }
     ensures read_fault { RoseBy (one_if (is_read result)) (S.In.failures connection.old.input)
         (S.In.failures connection.new.input) }
     ensures write_fault { RoseBy (one_if (is_write result)) (S.Out.failures connection.old.output)
         (S.Out.failures connection.new.output) }
-    ensures reads { SpendsReads session_reads result (S.In.reads connection.old.input)
-        (S.In.reads connection.new.input) (S.In.asked connection.old.input) (S.In.asked connection.new.input) }
+    ensures reads { SpendsReads session_reads result S.In.reads S.In.asked connection.old.input
+        connection.new.input }
     ensures stopped { IfErr result (λ fault. fault ≢ SessionFault.Write
-        → StopsAtDoor (desk_answers D.step C.tick role) (desk_drops D.step C.tick role) (desk_needs_memory role) fault
-        (clock.old, desk.old) (clock.new, desk.new) (S.In.remaining connection.old.input)
-        (S.In.remaining connection.new.input) (S.Out.written connection.old.output)
-        (S.Out.written connection.new.output)) }
+        → RelatesConnection S.In.remaining S.Out.written connection.old connection.new
+        (StopsAtDoor (desk_answers D.step C.tick role) (desk_drops D.step C.tick role) (desk_needs_memory role) fault
+        (clock.old, desk.old) (clock.new, desk.new))) }
 {
     let mut progress = Progress::new(alloc);
     match progress.answer_lines(role, doors, connection, clock, desk) {

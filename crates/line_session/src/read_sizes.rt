@@ -19,9 +19,11 @@ pub fn law_of_read_sizes<C, D, S: LineHandler<C, D>>()
         → IsIndependentOfReadSizes (S.answers_with handler) }
 {}
 
-/// Does nothing. Its contract is the law of `law_of_read_sizes` for the sessions of a role, under two conditions. In
-/// each state the clock can give only one moment, and only one state of the clock follows. In each state the desk has
-/// only one answer to an act at a moment, and only one state of the desk follows, unless memory runs out.
+/// Does nothing. Its contract is a law: the sizes of an input's reads change no answer in the sessions of a role
+/// (`law_of_read_sizes` says more). The law needs two conditions:
+/// - In each state the clock can give only one moment, and only one state of the clock follows.
+/// - In each state the desk has only one answer to an act at a moment, and only one state of the desk follows, unless
+///   memory runs out.
 pub fn law_of_read_sizes_at_desks<C: Clock, D: Desk>()
     ensures { (role : Role) → IsClockDetermined C.tick → IsDeskDetermined D.step
         → IsIndependentOfReadSizes (desk_answers D.step C.tick role) }

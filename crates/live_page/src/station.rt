@@ -63,8 +63,8 @@ pub struct RoleCounts {
     pub total: u64,
 }
 
-/// The health of a station: `Healthy` if all is well, or else the first of these problems that it has. `Display` writes
-/// it in a few words.
+/// The health of a station: `Healthy` if all is well, or else the first problem that it has, in the order of the
+/// variants. `Display` writes it in a few words.
 #[derive(Clone, Copy)]
 pub enum Health {
     Healthy,

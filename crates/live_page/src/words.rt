@@ -4,37 +4,39 @@ use day_page::names::state_name;
 use day_page::{STATES, Text, TextBuilder};
 use decision_journal::Entry;
 use fuelling_point::{DispenserEvent, Order};
-use till_request::{Act, Reply, Request, Role};
+use till_request::form::text_of;
+use till_request::{Act, AmountVerb, Form, Reply, Request, RequestByForm, Role};
 
-/// A template with at most two marks `{}`, and the texts that replace the first and the second mark. If the template
-/// lacks a mark, the text for it is `NONE`, the empty text.
+/// A template with at most three marks `{}`, and the texts that replace the first, the second and the third mark. If
+/// the template lacks a mark, the text for it is `NONE`, the empty text.
 #[derive(Clone, Copy)]
-struct Phrase(&'static str, Text, Text);
+struct Phrase(&'static str, Text, Text, Text);
+
+/// Returns the phrase in which `first` and `second` replace the two `{}` of `form`, in this order. The text for a `{}`
+/// that `form` lacks is `NONE`.
+fn of_texts(form: &'static str, first: Text, second: Text) -> Phrase {
+    Phrase(form, first, second, NONE)
+}
 
 /// Returns the phrase in which `number` replaces the only `{}` of `form`.
 fn of_number(form: &'static str, number: u32) -> Phrase {
-    Phrase(form, digits(number), NONE)
-}
-
-/// Returns the phrase in which `first` and `second` replace the two `{}` of `form`, in this order.
-fn of_numbers(form: &'static str, first: u32, second: u32) -> Phrase {
-    Phrase(form, digits(first), digits(second))
+    of_texts(form, digits(number), NONE)
 }
 
 /// Returns the phrase in which `number` replaces the first `{}` of `form`, and `amount`, in cents, the second.
 fn of_amount(form: &'static str, number: u32, amount: u64) -> Phrase {
-    Phrase(form, digits(number), hundredths(amount))
+    of_texts(form, digits(number), hundredths(amount))
 }
 
 /// Returns the phrase with the words `form`, which have no `{}`.
 fn plain(form: &'static str) -> Phrase {
-    Phrase(form, NONE, NONE)
+    of_texts(form, NONE, NONE)
 }
 
 /// Adds the words of a phrase, with its texts in place of the marks `{}`.
 fn add_phrase(html: &mut TextBuilder, phrase: Phrase) {
-    let Phrase(form, first, second) = phrase;
-    html.fill(form, &[first, second]);
+    let Phrase(form, first, second, third) = phrase;
+    html.fill(form, &[first, second, third]);
 }
 
 /// Returns the name of a peer with this role: `till`, `dispenser` or `owner`.
@@ -46,37 +48,40 @@ pub(crate) fn role_name(role: Role) -> &'static str {
     }
 }
 
+/// Returns the verb of a form, such as `release`, as a text.
+fn verb_text(form: Form) -> Text {
+    Text::Words(text_of(form))
+}
+
+/// Returns the words for what a till asks for by a request with an amount in cents, or with a price in thousandths of
+/// the currency per litre. `subject` is the request's point or, for a price, its product.
+fn amount_words(verb: AmountVerb, subject: u32, amount: u64) -> Phrase {
+    match verb {
+        AmountVerb::Release => of_amount("release point {} up to {}", subject, amount),
+        AmountVerb::Preset => of_amount("preset point {} to {}", subject, amount),
+        AmountVerb::Price => of_texts(
+            "price of product {} to {}",
+            digits(subject),
+            Text::Thousandths(amount),
+        ),
+    }
+}
+
 /// Returns the words for what a till's request asks for.
 fn request_words(request: &Request) -> Phrase {
-    match *request {
-        Request::Release(point, amount) => of_amount("release point {} up to {}", point, amount),
-        Request::Preset(point, amount) => of_amount("preset point {} to {}", point, amount),
-        Request::Price(product, price) => Phrase(
-            "price of product {} to {}",
-            digits(product),
-            Text::Thousandths(price),
+    match request.by_form() {
+        RequestByForm::Amount(verb, subject, amount) => amount_words(verb, subject, amount),
+        RequestByForm::Point(verb, point) => of_texts(
+            "{} point {}",
+            verb_text(Form::Point(verb)),
+            digits(point),
         ),
-        Request::OpenPoint(point) => of_number("open point {}", point),
-        Request::ClosePoint(point) => of_number("close point {}", point),
-        Request::Suspend(point) => of_number("suspend point {}", point),
-        Request::Resume(point) => of_number("resume point {}", point),
-        Request::Stop(point) => of_number("stop point {}", point),
-        Request::Lock(point, number) => of_numbers(
-            "lock transaction {} at point {}",
-            number,
-            point,
+        RequestByForm::Transaction(verb, point, number) => Phrase(
+            "{} transaction {} at point {}",
+            verb_text(Form::Transaction(verb)),
+            digits(number),
+            digits(point),
         ),
-        Request::Unlock(point, number) => of_numbers(
-            "unlock transaction {} at point {}",
-            number,
-            point,
-        ),
-        Request::Clear(point, number) => of_numbers(
-            "clear transaction {} at point {}",
-            number,
-            point,
-        ),
-        Request::Show(point) => of_number("show point {}", point),
     }
 }
 
@@ -86,7 +91,7 @@ fn event_words(event: &DispenserEvent) -> Phrase {
         DispenserEvent::Up(nozzle) => of_number("nozzle {} is up", nozzle),
         DispenserEvent::Down => plain("the nozzle is down"),
         DispenserEvent::Started => plain("the delivery began"),
-        DispenserEvent::Flowed(amount, volume) => Phrase(
+        DispenserEvent::Flowed(amount, volume) => of_texts(
             "{} so far, {} litres",
             hundredths(amount),
             hundredths(volume),
@@ -113,7 +118,7 @@ fn act_words(act: &Act) -> (Phrase, Phrase) {
 /// Returns the words for the order that a dispenser got.
 fn order_words(order: Order) -> Phrase {
     match order {
-        Order::Authorise(amount) => Phrase("order: deliver up to {}", hundredths(amount), NONE),
+        Order::Authorise(amount) => of_texts("order: deliver up to {}", hundredths(amount), NONE),
         Order::Suspend => plain("order: suspend"),
         Order::Resume => plain("order: resume"),
         Order::Stop => plain("order: stop"),
@@ -159,7 +164,7 @@ fn grant_words(is_price: bool, value: u64, version: u32) -> Phrase {
     } else {
         hundredths(value)
     };
-    Phrase("granted {} by version {}", granted, digits(version))
+    of_texts("granted {} by version {}", granted, digits(version))
 }
 
 /// Returns the words for a refusal with the number `number`. `value` is what the refusal names: the number of a state
@@ -168,13 +173,13 @@ fn grant_words(is_price: bool, value: u64, version: u32) -> Phrase {
 fn refusal_words(number: u32, value: Option<u32>) -> Phrase {
     let refusal = Text::Refusal(number);
     let Some(value) = value else {
-        return Phrase("{}", refusal, NONE);
+        return of_texts("{}", refusal, NONE);
     };
     match number {
-        22 => Phrase("{}: {}", refusal, Text::Words(state_numbered(value))),
-        23 => Phrase("{}: slot {}", refusal, digits(value)),
-        24 => Phrase("{}: version {}", refusal, digits(value)),
-        _ => Phrase("{}: {}", refusal, digits(value)),
+        22 => of_texts("{}: {}", refusal, Text::Words(state_numbered(value))),
+        23 => of_texts("{}: slot {}", refusal, digits(value)),
+        24 => of_texts("{}: version {}", refusal, digits(value)),
+        _ => of_texts("{}: {}", refusal, digits(value)),
     }
 }
 
@@ -185,7 +190,7 @@ fn reply_words(entry: &Entry) -> Phrase {
         Reply::Granted(value, version) => grant_words(asks_price(&entry.act), value, version),
         Reply::Version(version) => of_number("version {}", version),
         Reply::Order(order) => order_words(order),
-        Reply::Point { state, unpaid, .. } => Phrase(
+        Reply::Point { state, unpaid, .. } => of_texts(
             "{}, {} unpaid",
             Text::Words(state_numbered(state)),
             digits(unpaid),

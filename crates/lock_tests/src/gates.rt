@@ -37,7 +37,7 @@ fn load<L: SiteLedger, R: Wait>(
     Some(())
 }
 
-/// Opens points 1 and 2 as till 1.
+/// Opens fuelling points 1 and 2 by requests of till 1.
 fn open<L: SiteLedger, R: Wait>(
     rt: &R,
     forecourt: &Forecourt<L>,
@@ -159,8 +159,9 @@ fn beside<L: SiteLedger + Send + Sync, R: Threads + Wait + Sync>(
     one && two
 }
 
-/// Calls `load`, which loads a program into slot 0, and `open`, which opens points 1 and 2. Then returns what `beside`
-/// returns for the first two passes. Returns `None` if there are fewer than two passes, or if `load` or `open` fails.
+/// Loads a program into slot 0, and opens fuelling points 1 and 2. Then runs `held_call` with the first pass and
+/// `other_calls` with the second one, on two threads. Returns whether both returned true, or `None` if there are fewer
+/// than two passes, or if loading the program or opening a point ended with an error.
 fn are_granted<L: SiteLedger + Send + Sync, R: Threads + Wait + Sync>(
     rt: &R,
     alloc: Global,
@@ -213,8 +214,9 @@ fn closed_in_the_end<L: SiteLedger, R: Wait>(
     }
 }
 
-/// Starts a forecourt with two passes, and runs `are_granted` and `closed_in_the_end` with it. Returns the results of
-/// these two functions, or `None` if a step failed.
+/// Starts a forecourt with two passes, lets two threads call it (`are_granted`), and closes it at the second attempt
+/// (`closed_in_the_end`). Returns what `are_granted` returned, why the first close was refused, and how many entries
+/// the closed site has. Returns `None` if a step failed.
 fn both<L: SiteLedger + Send + Sync, R: Threads + Wait + Sync>(
     rt: &R,
     alloc: Global,

@@ -74,7 +74,7 @@ ReportsHealth health page_answer =
 -- The answer fits this endpoint:
 -- - `Page`: the status is 200, and the text is of the kind `Html`
 -- - `Metrics`: the status is 200, and the text is of the kind `Metrics`
--- - `Health`: the answer reports some health of the station, and it is left open which
+-- - `Health`: the answer reports a health of the station; nothing is claimed of which health it is
 -- - `Journal`: the status is 200, and the text is of the kind `Plain`
 abbrev pub FitsEndpoint : Endpoint → PageAnswer → Type 0
 FitsEndpoint endpoints.Page page_answer = IsOkOfKind kinds.Html page_answer

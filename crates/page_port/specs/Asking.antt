@@ -40,7 +40,8 @@ abbrev pub host_of : Parts → Option (List ℕ)
 host_of head = host_or_field (option_map authority_host (uri_authority head.uri))
     (option_map (λ v. v.bytes) (get head.headers (codes "host")))
 
--- whether a request's host is allowed: it is this machine, or None (the request names no host)
+-- whether a request for this host is allowed: the host must be this machine (localhost, 127.0.0.1 or [::1]), or None
+-- (the request names no host)
 abbrev pub is_allowed_host : Option (List ℕ) → Bool
 is_allowed_host None = true
 is_allowed_host (Some host) = is_loopback_host host

@@ -109,7 +109,8 @@ impl Client {
         self.stream.read(&mut bytes)
     }
 
-    /// Does what `turn` does, but returns a failure as an error. After an error the connection must be closed.
+    /// Has `service` answer the request once it has come, and writes or reads what it can at once, as `turn` does, but
+    /// returns a failure as an error. After an error the connection must be closed.
     fn try_turn<S: Service, R: Clock>(
         &mut self,
         rt: &R,

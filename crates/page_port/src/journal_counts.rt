@@ -1,4 +1,4 @@
-//! Counts of the file in which a served site's journal is kept.
+//! Counts of the bytes and the syncs of the file in which a served site's journal is kept.
 use crate::timings::Timings;
 use live_page::JournalFileStats;
 use std::sync::atomic::{AtomicBool, AtomicU64, Ordering};

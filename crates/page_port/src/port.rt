@@ -66,9 +66,10 @@ fn listen<H: Net<Listener = TcpListener, Stream = TcpStream>>(
     }
 }
 
-/// Calls `turn` of one client after another. A client that returns `Over` is removed, which closes its connection. If
-/// it wasn't the last one in `clients`, the last client takes its position, and has no turn in this call. All other
-/// clients have a turn. Returns whether at least one client returned `Moved` or `Over`.
+/// Calls `turn` of one client (a connection) after another: `service` answers the client's request once it has come,
+/// and the client reads or writes what it can at once. A client that returns `Over` is removed, which closes its
+/// connection. If it wasn't the last one in `clients`, the last client takes its position, and has no turn in this
+/// call. All other clients have a turn. Returns whether at least one client returned `Moved` or `Over`.
 fn take_turns<S: Service, R: Clock>(rt: &R, clients: &mut Vec<Client>, service: &mut S) -> bool {
     let mut has_progressed = false;
     for place in 0..clients.len() {
@@ -179,7 +180,8 @@ impl<'a> PagePort<'a> {
     /// Accepts the next connection if there are fewer than 32 clients. Returns whether a connection was accepted.
     ///
     /// - If there is no client, waits for a connection. Otherwise doesn't wait.
-    /// - After an error other than `WouldBlock`, calls `pause`, unless `leave` was called.
+    /// - After an error other than `WouldBlock`, unless `leave` was called, calls `pause`. This prints the error,
+    ///   unless `has_failed` is true, and waits for 100 milliseconds.
     ///
     /// `has_failed` says whether accepting failed since the last connection was accepted, and is updated.
     fn accept_next<R: Clock>(

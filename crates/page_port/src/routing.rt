@@ -107,7 +107,8 @@ fn lines_after(digits: &[u8]) -> Result<Endpoint, Refusal>
 /// Returns the endpoint that a query of `/journal` asks for:
 ///
 /// - `None`: the journal's lines from the first entry on
-/// - `after=` and a number that `lines_after` accepts: the lines after the entry with this number
+/// - `after=` and a number below 2^32, in decimal digits without leading zeros: the lines after the entry with this
+///   number
 /// - any other query: the error `BadQuery`
 fn journal_at(query: Option<&[u8]>) -> Result<Endpoint, Refusal>
     ensures { result ≡ journal_at (option_copied query.entry) }

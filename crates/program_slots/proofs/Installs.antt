@@ -1,4 +1,5 @@
--- Installing a program as a new version changes only its slot, and adds the program to the versions.
+-- If a program is installed in a slot as a new version, then no other slot changes, and the program is added to those
+-- of the versions before.
 use Rattle.std.proofs.Common.{◌≡◌, ℕ, ◌+◌, ◌-◌, ◌<◌, List, [], ◌∷◌, ◌++◌, length, Option, option_map, Some, None, slice_set, refl, arith, get_or, suc, zero, ◌∙◌}
 use Rattle.std.specs.List.{slice_get}
 use Rattle.std.specs.Prelude.{All}

@@ -3,8 +3,8 @@ use std::alloc::Global;
 
 /// How many bytes `take_all_but` allocates again after it has freed a block. To leave `size` bytes free, it allocates a
 /// block of `size + HELD` bytes, and then all other memory. Then it frees the block, and allocates `HELD` bytes of it
-/// again. `HELD` is above 1,032, so the freed block is too: a freed block of up to 1,032 bytes would be reused only for
-/// blocks of its own size.
+/// again. A freed block of up to 1,032 bytes would be reused only for blocks of its own size. `HELD` is above 1,032, so
+/// the freed block is larger than that.
 const HELD: usize = 1080;
 
 /// How many times a script is played at most. All plays have little memory during the same line of the script, but each

@@ -103,7 +103,7 @@ struct ExpectedTexts {
 enum LineOutcome {
     Answered,
     Refused,
-    /// The play ended with `OutOfMemory`, after the answers to the lines before this one.
+    /// The play ended with `OutOfMemory`, after the answers to the lines before the one with little memory.
     Ended,
 }
 
@@ -194,9 +194,10 @@ fn refused_at(alloc: Global, site: &str, script: &str, line: usize) -> Option<(u
     count_refusals(alloc, site, script, line, &wanted)
 }
 
-/// Plays a script with little memory for one line, for each of its first `lines` lines in turn. Returns for how many
-/// lines the answer was `S31` (memory ran out) at least once, and for how many the play ended with `OutOfMemory` at
-/// least once. `refused_at` plays the script for one of these lines. If it returns `None`, so does this function.
+/// For each of the first `lines` lines of a script, plays the script with little memory during that line. Returns for
+/// how many lines the answer was `S31` (memory ran out) at least once, and for how many the play ended with
+/// `OutOfMemory` at least once. `refused_at` plays the script for one of these lines. If it returns `None`, so does
+/// this function.
 fn refused_in(alloc: Global, site: &str, script: &str, lines: usize) -> Option<(u32, u32)> {
     let (mut wanted, mut ended) = (0u32, 0u32);
     for line in 0..lines {
@@ -212,6 +213,7 @@ fn refused_in(alloc: Global, site: &str, script: &str, lines: usize) -> Option<(
 }
 
 // Tests three scripts: a release that is sent twice, presets that are decided by a rule with a counter, and a delivery.
+// Each script is played with little memory during one of its lines, for each line in turn.
 #[test]
 fn each_growth_refused(rt: HostRuntime) -> Result<(), Fail> {
     for (site, script, lines) in [

@@ -1,5 +1,5 @@
--- If `verify` refuses a program, the refusal is the one that `refusal_of` defines, or that memory ran out. What the
--- refusal says is then true of the program (`IsRefused`).
+-- If `verify` refuses a program, the refusal is the program's first fault, as `refusal_of` defines it, or it is that
+-- memory ran out. What the refusal says is then true of the program (`IsRefused`).
 use Rattle.std.proofs.Common.{◌≡◌, ◌≢◌, ℕ, zero, suc, ◌⊎◌, List, Option, Some, None, Bool, true, false, refl, sym, ap, ◌∙◌, inl, inr, length}
 use Rattle.std.specs.Prelude.{Result, Ok, Err, ◌/◌, ◌&&◌, cond, is_none, slice_get}
 use Rattle.bpf_model.specs.declared.instruction.Inst.{Inst}
@@ -203,7 +203,8 @@ begin_right bytes (BadRegister pc) h e = absurd (cc)
 begin_right bytes (HalfWide pc) h e = absurd (cc)
 begin_right bytes NoMemoryToDecode h e = h
 
--- bytes of which `HasValidFirstUnit` holds can't have a wrong length: from the two together any P follows
+-- If the bytes are 1 to 512 whole units and the first has no fault (`HasValidFirstUnit`), then their length isn't
+-- wrong: from a wrong length any P would follow.
 pub never_wrong : (P : Type 0) (bytes : List ℕ) → HasValidFirstUnit bytes → has_valid_length bytes ≡ false → P
 never_wrong P bytes right wrong = let never : true ≡ false = sym right.right_length ∙ wrong in absurd (cc)
 

@@ -181,8 +181,8 @@ module _ (declared : ℕ) (types : List RegType) (view : View) (va vb : Value) (
   plainly given e reply there changes same marks =
       record { reply = reply; there = there; changes = changes; at = 0; bytes = []; marks = marks; stack_is = same; inside = omega arith }
 
-  -- If counter c is declared, then only declared counters change: n is added to c if the sum is within the bound of c,
-  -- and else all counters stay as they are.
+  -- Adding n to counter c, if c is declared, changes only declared counters. n is added if the sum is within the bound
+  -- of c; else all counters stay as they are.
   added_if : (t : Bool) (n c : ℕ) → nat_le ((counter counters c).0 + n) (counter counters c).1 ≡ t → declared / 2 ^ c % 2 ≡ 1
       → Changes declared counters (cond {A = HelperResult} t (record {
         value = 1;

@@ -86,8 +86,8 @@ cleared_has zero (suc len) set (suc p) = apart_none (cleared zero len (drop 1 se
 cleared_has (suc at) len set zero = (λ has. (has, λ w. omega (arith, w.0)), λ e. e.0)
 cleared_has (suc at) len set (suc p) = apart_one (slice_index_or set 0 false) (cleared at len (drop 1 set)) set at len p (cleared_has at len (drop 1 set) p)
 
--- `HasAfter` says which places are in the set after `len` places from `at` on were added to it (b is true) or removed
--- from it (b is false)
+-- `HasAfter` is true of a place p exactly if p is in the set to which the `len` places from `at` on were added (if b is
+-- true) or from which they were removed (if b is false)
 after_if : (b : Bool) (at len : ℕ) (set : List Bool) (p : ℕ) → Has (cond b (marked at len set) (cleared at len set)) p ↔ HasAfter b set at len p
 after_if true at len set p = marked_has at len set p
 after_if false at len set p = cleared_has at len set p

@@ -1,5 +1,6 @@
--- Lemmas on pointers that are stored in the stack, and on spills. If the stack holds a pointer for each spill before a
--- store, then it does so after the store too, for the spills as the store leaves them.
+-- Lemmas on pointers that are stored in the stack, and on spills. A spill is the type of such a pointer as a number. If
+-- before a store the stack holds a pointer for each spill, then after the store it holds a pointer for each spill that
+-- the store leaves or adds.
 use Rattle.std.proofs.Common.{◌≡◌, ◌≢◌, ℕ, zero, suc, ◌+◌, ◌-◌, ◌*◌, ◌<◌, ◌≤◌, ◌⊎◌, ◌↔◌, List, [], ◌∷◌, Option, Some, None, Bool, true, false, refl, sym, ap}
 use Rattle.std.proofs.Common.{◌∙◌, subst, inl, inr, arith, length}
 use Rattle.std.specs.Prelude.{pos, negsuc, ◌+ℤ◌, ◌/◌, ◌%◌, ◌==◌, ◌&&◌, cond, nat_le, nat_lt, slice_set, slice_index, ⊤}
@@ -124,7 +125,7 @@ pointer_set (Const c) e = absurd (cc)
 pub aligned : (size at : ℕ) → is_aligned size at ≡ true → (size ≡ 8) × (at % 8 ≡ 0)
 aligned size at e = let h = and_parts (size == 8) (at % 8 == 0) e in (eqb-true size 8 h.0, eqb-true (at % 8) 0 h.1)
 
--- ---- a spill stands for a pointer that the stack holds; this stays true after a store of bytes or of a pointer
+-- ---- if the stack holds a pointer for each spill, it still does so after a store of bytes or of a pointer
 
 le_from : (m n : ℕ) → nat_le m n ≡ true → m ≤ n
 le_from m n e = grind (arith, nat_tests)
@@ -244,9 +245,9 @@ touched at k z e =
 abbrev AllSpillsFit : List ℕ → List Cell → Type 0
 AllSpillsFit spills stack = (k : ℕ) → FitsSpill (spilled_type (slice_index spills k)) stack (8 * k)
 
--- Let the stack hold a pointer for each spill of `spills`. After a store of plain bytes it holds a pointer for each
--- spill of `after`, in which the places that the store touches have the spill 0, and all others the spill that they had
--- before.
+-- If the stack holds a pointer for each spill of `spills`, then after a store of plain bytes it holds a pointer for
+-- each spill of `after`. In `after` the aligned places that the store touches have the spill 0 (no pointer), and all
+-- others have the spill that they had before.
 pub kept_after_bytes : (spills after : List ℕ) (stack : List Cell) (at : ℕ) (bytes : List ℕ) → after ≡ respilled 0 at (length bytes) 0 spills → AllSpillsFit spills stack
     → AllSpillsFit after (written stack at bytes)
 kept_after_bytes spills after stack at bytes e all k =
@@ -263,9 +264,9 @@ kept_after_bytes spills after stack at bytes e all k =
       ]
     ])
 
--- Let the stack hold a pointer for each spill of `spills`. Let the pointer v, which fits type t, be written to the
--- eight bytes of the stack from `at` on; `at` is a multiple of 8. After this the stack holds a pointer for each spill
--- of `after`, in which these eight bytes have the spill of t and all other places have the spill that they had before.
+-- If the stack holds a pointer for each spill of `spills`, and the pointer v, which fits type t, is written to the
+-- eight bytes of the stack from `at` on (a multiple of 8), then the stack holds a pointer for each spill of `after`. In
+-- `after` these eight bytes have the spill of t, and all other aligned places have the spill that they had before.
 pub kept_after_pointer : (spills after : List ℕ) (stack : List Cell) (at : ℕ) (t : RegType) (v : Value) → after ≡ respilled (spill_of t) at 8 0 spills → at % 8 ≡ 0
     → at + 8 ≤ length stack → IsPointer v → FitsType t v → AllSpillsFit spills stack → AllSpillsFit after (pieces_written stack at v 0 8)
 kept_after_pointer spills after stack at t v e z inside p f all k =
@@ -309,9 +310,9 @@ length-joined_spills [] (y ∷ b) e = absurd (omega (arith, e))
 length-joined_spills (x ∷ a) [] e = absurd (omega (arith, e))
 length-joined_spills (x ∷ a) (y ∷ b) e = ap suc (length-joined_spills a b (omega (arith, e)))
 
--- One step of the loop that joins the spills of `b` into those of `a`. After r steps the first r spills of `ts` are
--- joined, and spill r is still that of `a`. If spill r is set to its join with spill r of `b`, the first r + 1 spills
--- are joined.
+-- One step of the loop that joins the spills of `b` into those of `a`. If the first r spills of `ts` are joined, and
+-- spill r of `ts` is still that of `a`, then the first r + 1 spills are joined after spill r was set to its join with
+-- spill r of `b`.
 pub spill_step : (ts a b : List ℕ) (r v : ℕ) → r < length ts → v ≡ both_spill (slice_index ts r) (slice_index b r) → slice_index ts r ≡ slice_index a r
     → ((k : ℕ) → k < r → slice_index ts k ≡ both_spill (slice_index a k) (slice_index b k)) → (k : ℕ) → k < r + 1
     → slice_index (slice_set ts r v) k ≡ both_spill (slice_index a k) (slice_index b k)

@@ -19,7 +19,7 @@ abbrev bytes : List ℕ → List ℕ
 bytes [] = []
 bytes (u ∷ us) = big_bytes 8 u ++ bytes us
 
--- a program of these units that declares no counters, for the first layout
+-- the program that has these units and declares no counters, for contexts of the first layout
 abbrev on_one : List ℕ → ProgramText
 on_one us = as_loaded (bytes us) 0 layout.One
 

@@ -1,5 +1,5 @@
--- If the typing rules find a flaw in an instruction, then `MayHave`, which defines the flaws that each instruction can
--- have, says that the instruction can have this flaw.
+-- If the typing rules find a flaw in an instruction, then the flaw is one that `MayHave` allows for the instruction's
+-- form, fields and unit.
 use Rattle.std.proofs.Common.{◌≡◌, ℕ, ◌+◌, ◌-◌, ◌≤◌, List, Option, Some, None, Bool, true, false, refl, ap, subst, inl, inr, arith}
 use Rattle.std.specs.Prelude.{Result, Ok, Err, ℤ, pos, negsuc, neg_ℤ, ◌+ℤ◌, int_le, nat_le, ◌==◌, ◌&&◌, ◌||◌, cond}
 use Rattle.std.proofs.lemmas.Bool.{eqb-true}
@@ -209,8 +209,8 @@ module _ (count pc : ℕ) (i : Inst) (types : List RegType) (flaw : Flaw) where
       two_shown (MayHave count pc i form) flaw i.dst i.src (is_unset a) (is_unset (operand_type s w i types))
       (is_pointer a || is_pointer (operand_type s w i types)) p (λ u. q (second_by s w i types u)) r e
 
-  -- if `sum_type` finds a flaw in a 64-bit ADD or SUB with an immediate, then `MayHave` says that the instruction can
-  -- have this flaw
+  -- if `sum_type` finds a flaw in a 64-bit ADD or SUB with an immediate, then the flaw is one that `MayHave` allows for
+  -- this instruction
   moved_shows : (layout : Layout) (op : Operator) → MayHave count pc i (Arithmetic op Bits64 Immediate) OutOfRange
       → MayHave count pc i (Arithmetic op Bits64 Immediate) (NotANumber i.dst) → (z : ℤ) (a : RegType)
       → sum_type layout Bits64 Immediate i z a (operand_type Immediate Bits64 i types) ≡ bad flaw → MayHave count pc i (Arithmetic op Bits64 Immediate) flaw
@@ -333,7 +333,8 @@ judged_shown : (P : Flaw → Type 0) (b : Bool) (r : Effects) (flaw : Flaw) → 
 judged_shown P true r flaw p q e = is_wrong P FallsOff flaw e (p refl)
 judged_shown P false r flaw p q e = q e
 
--- if the typing rules find a flaw in an instruction, then `MayHave` says that the instruction can have this flaw
+-- if the typing rules find a flaw in an instruction, then the flaw is one that `MayHave` allows for the instruction's
+-- form, fields and unit
 pub checked_effect_shows : (count pc : ℕ) (options : LoadOptions) (fact : Fact) (i : Inst) (upper : ℤ) (form : Form) (flaw : Flaw)
     → checked_effect count pc options fact i upper form ≡ wrong flaw → MayHave count pc i form flaw
 checked_effect_shows count pc options fact i upper form flaw e =

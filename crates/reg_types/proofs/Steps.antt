@@ -449,8 +449,8 @@ module _ (options : LoadOptions) (fact after : Fact) (s : State) (fits : Fits fa
   stored_pointer i size Unset p = absurd p
   stored_pointer i size (Number n) p = absurd p
 
-  -- a well typed store of a pointer to an aligned place of eight bytes leads to the next unit, in a state that fits the
-  -- fact after the store
+  -- a well typed store of a pointer into an aligned place of eight bytes leads to the next unit, in a state that fits
+  -- the fact after the store
   keeps_follow : (i : Inst) (size : ℕ) (x e : Effect) (t : RegType) (v : Value) → IsAfter fact e after → size ≤ 8
       → store_type fact.types (type_at fact.types i.dst) i size ≡ ok_of x → is_aligned x.len x.at ≡ true → record x { spilled = t } ≡ e → is_pointer t ≡ true
       → FitsType t v → Follows options.mask after ((s.pc + 1) ∷ []) s (stores_value s i size v)

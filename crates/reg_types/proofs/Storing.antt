@@ -96,7 +96,8 @@ stored_pushed (s ∷ rest) at f none q =
 pub stored_here : (facts : List StoredFact) (at k : ℕ) (f : Fact) → IsPlace facts at k → stored (slice_set facts k (stored_fact at f)) at ≡ Some f
 stored_here facts at k f p = stored_set facts at k f p at ∙ cond-true (at == at) (Some f) (stored facts at) (eq-eqb at at refl)
 
--- the stored fact of unit `at`, with index k in the list, is replaced by its join with another fact
+-- The lemmas of this module are on the list of stored facts after the fact of unit `at`, which has index k in the list,
+-- was replaced by f, its join with `fact`.
 module _ (facts : List StoredFact) (at k : ℕ) (d : StoredFact) (f fact : Fact) (p : IsPlace facts at k)
     (same : IsSame f (join_fact (slice_index_or facts k d).fact fact)) where
   set_here : (q : ℕ) → q ≡ at → stored (slice_set facts k (stored_fact at f)) q ≡ Some f

@@ -87,7 +87,8 @@ spills_right a b j stack k e h =
       | inr none ↦ no_spill_fits (slice_index (join_spills a b) k) stack (8 * k) none
     ])
 
--- each state that fits the first of two facts fits their join j, which is given register by register and place by place
+-- each state that fits fact `a` also fits fact j, if the register types and the spills of j are the joins of those of
+-- `a` and b, and no stack byte is set in j that isn't set in `a`
 pub below_left : (a b j : Fact) → ((r : ℕ) → type_at j.types r ≡ join_type (type_at a.types r) (type_at b.types r)) → ((p : ℕ) → Has j.stack p → Has a.stack p)
     → j.spills ≡ join_spills a.spills b.spills → IsBelow a j
 below_left a b j e h n =
@@ -120,9 +121,9 @@ below_right a b j e h n =
           };
     }
 
--- One step of the loop that joins the types of `a` and `b`. After r steps the types of the registers below r in `ts`
--- are joined. If the type of register r is set to the join of its types in `a` and `b`, the types of the registers
--- below r + 1 are joined.
+-- One step of the loop that joins the types of `a` and `b`. If in `ts` the types of the registers below r are joined,
+-- then those of the registers below r + 1 are joined after the type of register r was set to the join of its types in
+-- `a` and `b`.
 pub join_step : (ts a b : List RegType) (r : ℕ) (v : RegType) → r < length ts → v ≡ join_type (type_at a r) (type_at b r)
     → ((k : ℕ) → k < r → type_at ts k ≡ join_type (type_at a k) (type_at b k)) → (k : ℕ) → k < r + 1
     → type_at (slice_set ts r v) k ≡ join_type (type_at a k) (type_at b k)

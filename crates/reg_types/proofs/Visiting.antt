@@ -123,9 +123,9 @@ module _ (us : List ProgramUnit) (options : LoadOptions) (pc : ℕ) (i : Inst) (
       ∙ ap (λ r. passed_by q fact r (successor_units pc i form) old) (sym j)
       ∙ ap (λ o. passed_by q fact (Ok e) o old) (sym to)
 
-  -- Let the fact after an accepted instruction at unit pc be joined into what is known of each unit that it leads to.
-  -- Then what is known of unit q afterwards, `new`, is what `passed` gives: what is known of q after the verifier's
-  -- pass over the units has visited unit pc.
+  -- If the fact after an accepted instruction at unit pc is joined into what is known of each unit that the instruction
+  -- leads to, then the result for unit q, `new`, is what `passed` gives: what is known of q after the verifier's pass
+  -- over the units has visited unit pc.
   passed_to : (e : Effect) (after : Fact) (next : Successors) → ok_of e ≡ checked_effect (length us) pc options fact i (upper_of us pc) form
       → IsAfter fact e after → some_of (list_of next) ≡ successor_units pc i form → (q : ℕ) (old new : Option Fact) → AreSame new (arrived_all q after (list_of next) old)
       → AreSame new (passed us options pc (Some fact) q old)
@@ -166,7 +166,7 @@ module _ (us : List ProgramUnit) (options : LoadOptions) (pc : ℕ) (i : Inst) (
   target_is =
       ap (λ o. and_then (and_then o distance_of) (λ z. shifted (pc + 1) z 512)) at ∙ ap (λ o. and_then (distance_by o i) (λ z. shifted (pc + 1) z 512)) is
 
-  -- the target of the jump is at most 512
+  -- if the target of the jump is a later unit of the program, it is at most 512
   small_jump : (next : Successors) → AllByRecursion (IsAhead us pc) (jumps_of next) → IfSome (jump_of next) (λ to. to ≤ 512)
   small_jump End h = tt
   small_jump (Next to) h = tt
@@ -177,8 +177,9 @@ module _ (us : List ProgramUnit) (options : LoadOptions) (pc : ℕ) (i : Inst) (
       → IfSome (jump_of next) (λ to. to ≤ 512)
   jump_small e next j to = small_jump next (jumps_ahead next (next_ahead e next j to))
 
-  -- `IsVisited` holds if an instruction is accepted, and the fact after it is joined into its jump's target (if it has
-  -- a jump) and carried to the next instruction (if a run can continue there)
+  -- If the instruction at unit pc is accepted, and the fact after it is joined into its jump's target (if it has a
+  -- jump) and carried to the next instruction (if a run can continue there), then the verifier's pass has done at unit
+  -- pc what `IsVisited` asks of it.
   pub visited : (e : Effect) (after : Fact) (next : Successors) (carried : Option StoredFact) (old new : Facts)
       → ok_of e ≡ checked_effect (length us) pc options fact i (upper_of us pc) form → IsAfter fact e after → some_of (list_of next) ≡ successor_units pc i form → IsNext pc form next
       → jump_of next ≡ target_by pc form i → carried ≡ carried_of after next → ((q : ℕ) → AreSame (new q) (arrived_all q after (jumps_of next) (old q)))
@@ -224,7 +225,8 @@ AreStored-refl (Some a) = AreSame-refl (Some a)
 no_two : (i : Inst) (v : ℤ) (o : Option ProgramUnit) → o ≡ Some (First i) → o ≡ Some (Second v) → ⊥
 no_two i v o a b = cc
 
--- if an instruction begins at unit pc, then a fact that is carried on is for unit pc, not for the one after it
+-- if an instruction begins at unit pc, then a fact that the verifier carries on from the instruction before is for unit
+-- pc, not for the one after it
 pub at_first : (us : List ProgramUnit) (pc : ℕ) (i : Inst) (c : Option StoredFact) → slice_get us pc ≡ Some (First i) → IsCarriedTo us pc c → IsCarriedAt pc c
 at_first us pc i None first c = tt
 at_first us pc i (Some s) first c = elim c.1 [ inl e ↦ e | inr w ↦ absurd (no_two i w.1.0 (slice_get us pc) first w.1.1) ]

@@ -35,9 +35,9 @@ abbrev led : ℕ → Fact → Option (List ℕ) → Option Fact → Option Fact
 led q fact None o = o
 led q fact (Some tos) o = arrived_all q fact tos o
 
--- Let `fact` be passed on to `to`, the target of a jump, and to the units `tos`, or to no unit at all if `to` is None.
--- If unit q isn't `to`, and `fact` changes nothing that is known of q when it is passed on to `tos`, then what is known
--- of q stays the same.
+-- If a fact is passed on to `to`, the target of a jump, and to the units `tos`, then what is known of unit q stays the
+-- same, provided that q isn't `to`, and that passing the fact on to `tos` changes nothing for q. If `to` is None, the
+-- fact is passed on to no unit at all.
 jump_elsewhere : (q : ℕ) (fact : Fact) (to : Option ℕ) (tos : List ℕ) (o : Option Fact) → to ≢ Some q → ((p : Option Fact) → arrived_all q fact tos p ≡ p)
     → led q fact (option_cons to tos) o ≡ o
 jump_elsewhere q fact None tos o n rest = refl

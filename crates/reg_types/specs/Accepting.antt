@@ -29,11 +29,12 @@ abbrev pub PlainAt : List ProgramUnit → ℕ → LoadOptions → Inst → Fact 
 PlainAt us pc options i fact =
     (upper : ℤ) (form : Form) → form_of i.opcode ≡ Some form → (e : Effect) × (checked_effect (length us) pc options fact i upper form ≡ Ok e) × ArePlain e.types
 
--- the types that a plain program can have at unit pc: those on entry, if pc is 0, or types by which R1 points to the
--- context and R0 holds a number
+-- the register types that a plain program (one that works on R0 and the context only) can have at unit pc: those with
+-- which a run begins, if pc is 0, or types by which R1 points to the context and R0 holds a number
 abbrev pub PlainTypesAt : ℕ → List RegType → Type 0
 PlainTypesAt pc types = ((pc ≡ 0) × (types ≡ entry_types)) ⊎ ArePlain types
 
--- each instruction is accepted with any types that a plain program can have at the instruction's unit
+-- the typing rules accept each instruction if the register types before it are ones that a plain program (one that
+-- works on R0 and the context only) can have at the instruction's unit
 pub record AcceptsAll (us : List ProgramUnit) (options : LoadOptions) : Type 0 where
   pub each : (pc : ℕ) (i : Inst) (fact : Fact) → slice_get us pc ≡ Some (First i) → PlainTypesAt pc fact.types → PlainAt us pc options i fact

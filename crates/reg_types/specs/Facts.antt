@@ -197,8 +197,8 @@ pub record IsEntry (fact : Fact) : Type 0 where
   pub places : (p : ℕ) → Has fact.stack p → ⊥
   pub spills : fact.spills ≡ no_spills
 
--- The facts cover the units. Each state that fits the fact on entry fits the fact of unit 0, and the instruction of
--- each unit with a fact is well typed.
+-- The facts cover the units: each state that fits the fact with which a run begins also fits the fact of unit 0, and
+-- the instruction of each unit with a fact is well typed.
 pub record Covers (us : List ProgramUnit) (options : LoadOptions) (facts : Facts) : Type 0 where
   pub unit : Inst
   pub begins : slice_get us 0 ≡ Some (First unit)
@@ -215,7 +215,8 @@ pub record IsAt (us : List ProgramUnit) (facts : Facts) (s : State) : Type 0 whe
   pub is : facts s.pc ≡ Some fact
   pub fits : Fits fact s
 
--- the bytes are decoded as the units `us`, and some facts cover these units
+-- The bytes are decoded as the units `us`, and some facts cover these units (`Covers`): the fact of unit 0 is true when
+-- a run begins, and each instruction whose unit has a fact is well typed.
 pub record IsCovered (bytes : List ℕ) (options : LoadOptions) (us : List ProgramUnit) : Type 0 where
   pub reads : units bytes ≡ Some us
   pub facts : Facts

@@ -23,7 +23,8 @@ use Rattle.reg_types.specs.Rules.{join_type, is_unset, spill_of, checked_effect}
 
 -- ---- sets of stack bytes: a list of truth values, the lowest byte's first; bytes beyond its end aren't in the set
 
--- the bytes that are in both sets
+-- the set of the stack bytes that are in both of two sets; a set is a list of truth values, the lowest byte's first,
+-- and bytes beyond its end aren't in it
 abbrev pub common : List Bool → List Bool → List Bool
 common [] bs = []
 common (a ∷ rest) [] = []
@@ -43,7 +44,8 @@ cleared (suc at) len set = slice_index_or set 0 false ∷ cleared at len (drop 1
 
 -- ---- spills of the 64 aligned places, from the lowest on
 
--- the join of spills: a spill that is the same in both stays, and all others become 0 (no pointer)
+-- the join of two lists of spills, one spill for each aligned place: where both lists have the same spill, it stays;
+-- elsewhere the result has 0 (no pointer)
 abbrev pub join_spills : List ℕ → List ℕ → List ℕ
 join_spills [] bs = []
 join_spills (a ∷ rest) [] = []
@@ -127,7 +129,7 @@ instruction_of (Some (First i)) = form_with i (form_of i.opcode)
 abbrev pub instruction_at : List ProgramUnit → ℕ → Option (Inst × Form)
 instruction_at us pc = instruction_of (slice_get us pc)
 
--- the effect of the instruction at unit pc by the typing rules, if `fact` is known before it; or its flaw
+-- the effect or the flaw that the typing rules give the instruction at unit pc if `fact` is known before it
 abbrev pub ruled : List ProgramUnit → LoadOptions → ℕ → Fact → Inst × Form → Result Effect Flaw
 ruled us options pc fact x = checked_effect (length us) pc options fact x.0 (upper_of us pc) x.1
 
@@ -146,13 +148,14 @@ flaw_under us options pc (Some fact) = flaw_of us options pc fact (instruction_a
 
 -- ---- facts that an instruction passes on to the units that it leads to
 
--- what is known of a unit after `fact` was joined into it: the join of the old fact and `fact`, or `fact` itself if the
--- unit had no fact before (None)
+-- the fact of a unit after `fact` was joined into it: the join of the unit's old fact and `fact`, or `fact` itself if
+-- the unit had no fact before (None)
 abbrev pub taken_in : Option Fact → Fact → Fact
 taken_in None fact = fact
 taken_in (Some old) fact = join_fact old fact
 
--- what is known of unit q after `fact` was joined into what is known of unit `to`; `old` is what was known of q before
+-- The fact of unit q after `fact` was joined into the fact of unit `to`. `old` is the fact that q had before, or None
+-- if it had none. If q isn't `to`, the fact of q is still `old`.
 abbrev pub arrived : ℕ → Fact → ℕ → Option Fact → Option Fact
 arrived q fact to old = if q == to then Some (taken_in old fact) else old
 
@@ -160,9 +163,9 @@ abbrev pub arrived_all : ℕ → Fact → List ℕ → Option Fact → Option Fa
 arrived_all q fact [] old = old
 arrived_all q fact (to ∷ tos) old = arrived_all q fact tos (arrived q fact to old)
 
--- What is known of unit q after an instruction was checked. `fact` is the fact before the instruction, and `old` is
--- what was known of q before the check. The fact after the instruction is joined into what is known of each unit that
--- the instruction leads to. A refused instruction changes nothing, and neither does a jump outside the units 0 to 512.
+-- The fact of unit q after an instruction was checked. `fact` is the fact before the instruction, and `old` is the fact
+-- of q before the check, or None if q had none. If the instruction has an effect, the fact after it is joined into the
+-- fact of each unit that it leads to. If it has a flaw, or if it jumps outside the units 0 to 512, nothing changes.
 abbrev pub passed_by : ℕ → Fact → Result Effect Flaw → Option (List ℕ) → Option Fact → Option Fact
 passed_by q fact (Err flaw) tos old = old
 passed_by q fact (Ok effect) None old = old
@@ -172,16 +175,16 @@ abbrev pub passed_from : List ProgramUnit → LoadOptions → ℕ → Fact → O
 passed_from us options pc fact None q old = old
 passed_from us options pc fact (Some x) q old = passed_by q fact (ruled us options pc fact x) (successor_units pc x.0 x.1) old
 
--- what is known of unit q after the verifier's pass over the units has visited unit pc; `old` is what was known of q
--- before that
+-- The fact of unit q after the verifier's pass over the units has visited unit pc; `old` is the fact of q before that.
+-- The fourth argument is the fact of unit pc. If it is None, pc isn't reached, and nothing changes.
 abbrev pub passed : List ProgramUnit → LoadOptions → ℕ → Option Fact → ℕ → Option Fact → Option Fact
 passed us options pc None q old = old
 passed us options pc (Some fact) q old = passed_from us options pc fact (instruction_at us pc) q old
 
 -- ---- what is known before each unit of a program, and the program's first flaw
 
--- What is known of unit q from the start of a run (at unit 0) and from those instructions at the units below n that are
--- reached and not refused. None if q isn't unit 0 and none of these instructions leads to q.
+-- What is known of unit q from the units below n: the join of the fact on entry, if q is unit 0, and of the facts after
+-- those instructions at these units that are reached, aren't refused and lead to q. None if there is no such fact.
 unfoldable pub known : List ProgramUnit → LoadOptions → ℕ → ℕ → Option Fact
 known us options zero q = if q == 0 then Some entry_fact else None
 known us options (suc n) q = passed us options n (known us options n n) q (known us options n q)

@@ -37,17 +37,16 @@ AreSame (Some a) (Some b) = IsSame a b
 AreSame None (Some b) = ⊥
 AreSame (Some a) None = ⊥
 
--- The first argument is the fact that is stored for a unit, and `fact` is a fact with the same types, stack bytes and
--- spills. Always true if no fact is stored (None).
+-- If a fact is stored for a unit (the first argument), then `fact` is a fact with the same types, stack bytes and
+-- spills. If none is stored (None), nothing is claimed.
 abbrev pub AreStored : Option Fact → Option Fact → Type 0
 AreStored None fact = ⊤
 AreStored (Some a) fact = AreSame (Some a) fact
 
 -- ---- the stored facts, and the carried fact: the fact after an instruction, for the unit of the next instruction
 
--- A carried fact is the fact after an instruction, with the unit of the next instruction. `brought` is what is known of
--- unit q after the carried fact, if there is one, was joined into what is known of the next instruction's unit. `old`
--- is what was known of q before.
+-- The fact of unit q after a carried fact, if there is one, was joined into the fact of its unit; `old` is the fact
+-- that q had before. A carried fact is the fact after an instruction, with the unit of the next instruction.
 abbrev pub brought : ℕ → Option StoredFact → Option Fact → Option Fact
 brought q None old = old
 brought q (Some s) old = arrived q s.fact s.at old
@@ -87,9 +86,9 @@ pub record IsMerged (pc : ℕ) (carried : Option StoredFact) (fact : Option Fact
   pub here : AreStored (new pc) fact
   pub occupied : (q : ℕ) → is_some (new q) ≡ is_some (old q)
 
--- The instruction at unit pc has no flaw if `fact` is known before it. If it is a jump, the pass has joined the fact
--- after it into what is known of the jump's target. If a run can continue at the next instruction, the pass carries the
--- same fact to that instruction (`next`).
+-- If `fact` is known before the instruction at unit pc, then the instruction has no flaw, and the verifier's pass has
+-- done two things with the fact after it. If the instruction is a jump, this fact was joined into what is known of the
+-- jump's target. If a run can continue at the next instruction, this fact is carried to it (`next`).
 pub record IsVisited (us : List ProgramUnit) (options : LoadOptions) (pc : ℕ) (fact : Fact) (next : Option StoredFact) (old new : Facts) : Type 0 where
   pub flawless : flaw_under us options pc (Some fact) ≡ None
   pub ahead : (q : ℕ) → pc < q → AreSame (seen next new q) (passed us options pc (Some fact) q (old q))
@@ -97,8 +96,8 @@ pub record IsVisited (us : List ProgramUnit) (options : LoadOptions) (pc : ℕ) 
   pub goes_on : IsCarriedTo us (pc + 1) next
   pub occupied : (q : ℕ) → is_some (new q) ≡ (is_some (old q) || goes (target us pc) q)
 
--- If an instruction begins at unit pc and is reached, it has no flaw, and the pass has joined the fact after it into
--- what is known of each unit that it leads to.
+-- If an instruction begins at unit pc and is reached, it has no flaw, and the verifier's pass has joined the fact after
+-- it into what is known of each unit that it leads to.
 pub record IsPassed (us : List ProgramUnit) (options : LoadOptions) (pc : ℕ) (carried next : Option StoredFact) (old new : Facts) : Type 0 where
   pub flawless : flaw_under us options pc (seen carried old pc) ≡ None
   pub ahead : (q : ℕ) → pc < q → AreSame (seen next new q) (passed us options pc (seen carried old pc) q (seen carried old q))
@@ -150,7 +149,8 @@ pub record IsVerified (bytes : List ℕ) (options : LoadOptions) (facts : List S
   pub accepted : IsAccepted bytes options us facts
   pub decoded : AreOperations us ops
 
--- some facts cover the program's units, and `ops` are the operations that these units are decoded to
+-- Some facts cover the program's units: the fact of unit 0 is true when a run begins, and each instruction whose unit
+-- has a fact is well typed. `ops` are the operations that the units are decoded to.
 pub record IsDecoded (p : ProgramText) (ops : List Operation) : Type 0 where
   pub us : List ProgramUnit
   pub covered : IsCovered p.bytes (options_of p) us
@@ -171,16 +171,16 @@ abbrev pub decode_fault_refusal : DecodeFault → Refusal
 decode_fault_refusal NoMemoryToDecode = OutOfMemory
 decode_fault_refusal fault = Decode fault
 
--- The pass can return this refusal at unit pc if `fact` is known before it: the flaw of the unit, or that memory ran
--- out. Memory is taken only if the unit has no flaw and its instruction is a jump: then the fact after the jump is
--- stored for the jump's target.
+-- The verifier's pass over the units can return this refusal at unit pc if `fact` is known before pc. The refusal is
+-- the flaw of the unit, or that memory ran out. Memory is taken only if the unit has no flaw and its instruction is a
+-- jump: then the fact after the jump is stored for the jump's target.
 abbrev pub IsUnitRefused : List ProgramUnit → LoadOptions → ℕ → Option Fact → Refusal → Type 0
 IsUnitRefused us options pc fact (Decode fault) = ⊥
 IsUnitRefused us options pc fact (Flow fault) = ⊥
 IsUnitRefused us options pc fact (TypeRefusal fault) = flaw_under us options pc fact ≡ Some fault
 IsUnitRefused us options pc fact OutOfMemory = (flaw_under us options pc fact ≡ None) × (target us pc ≢ None)
 
--- the pass over the units can return this refusal: the program's first flaw, or that memory ran out
+-- the verifier's pass over the units can return this refusal: the program's first flaw, or that memory ran out
 abbrev pub IsPassRefused : List ProgramUnit → LoadOptions → Refusal → Type 0
 IsPassRefused us options (Decode fault) = ⊥
 IsPassRefused us options (Flow fault) = ⊥

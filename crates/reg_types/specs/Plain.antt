@@ -44,7 +44,8 @@ SetsFirst (LoadSigned size) = ⊤
 SetsFirst (Arithmetic Mov w Immediate) = ⊤
 SetsFirst form = ⊥
 
--- the last unit is EXIT, each instruction is of a plain form, and the first sets R0
+-- the last unit is EXIT, each instruction is of a plain form (it uses R0 and the context only), and the first
+-- instruction gives R0 a new value, whatever R0 held before
 pub record ArePlainUnits (layout : Layout) (us : List ProgramUnit) : Type 0 where
   pub last : Inst
   pub last_is : slice_get us (length us - 1) ≡ Some (First last)
@@ -52,7 +53,8 @@ pub record ArePlainUnits (layout : Layout) (us : List ProgramUnit) : Type 0 wher
   pub each : (pc : ℕ) (i : Inst) (form : Form) → slice_get us pc ≡ Some (First i) → form_of i.opcode ≡ Some form → IsPlainForm layout i form
   pub sets : (i : Inst) (form : Form) → slice_get us 0 ≡ Some (First i) → form_of i.opcode ≡ Some form → SetsFirst form
 
--- the bytes can be decoded as units, no jump has a fault, and the units are plain
+-- the bytes can be decoded as units, no jump has a fault, and the units are plain: they work on R0 and the context
+-- only, give R0 a value first, and end with EXIT
 pub record IsPlain (p : ProgramText) : Type 0 where
   pub code : List ProgramUnit
   pub reads : units p.bytes ≡ Some code

@@ -162,8 +162,8 @@ load_type layout set (Const c) i size = Err NotAPointer
 load_type layout set (Ctx k) i size = number_at (shifted k i.offset (context_len layout - size))
 load_type layout set (Stk k) i size = number_set set size (shifted (lowest k) i.offset (512 - size))
 
--- A spill is the type of a pointer that is stored in the stack, as a number. 0 stands for none, 1 to 81 for Ctx 0 to
--- 80, and 82 to 594 for Stk -512 to 0. These are all the types that pointers have.
+-- A spill is the type of a pointer that is stored in the stack, as a number: 0 for no pointer, 1 to 81 for Ctx 0 to 80,
+-- and 82 to 594 for Stk -512 to 0. These are all the types that pointers have.
 abbrev pub spill_of : RegType → ℕ
 spill_of (Ctx k) = if nat_le k 80 then k + 1 else 0
 spill_of (Stk k) = if nat_le (lowest k) 512 then 82 + lowest k else 0
@@ -210,8 +210,9 @@ abbrev pub stores_pointer : RegType → Effect → Result Effect Flaw
 stores_pointer value e = if is_aligned e.len e.at then Ok (record e { spilled = value }) else Err StorePointer
 
 -- The effect or the flaw of a store of a value of type `value`, which must not be `Unset`. The second argument is the
--- effect or the flaw that the store of a number to the same place would have. If the value is a number, this is the
--- result. If the value is a pointer, the result is the same flaw, or else what `stores_pointer` gives.
+-- effect or the flaw that the store of a number to the same place would have. It is also the result if it is a flaw, or
+-- if the value is a number. If it is an effect and the value is a pointer, the result is what `stores_pointer` gives
+-- for this effect.
 abbrev pub stores_if_pointer : RegType → Result Effect Flaw → Result Effect Flaw
 stores_if_pointer value (Err e) = Err e
 stores_if_pointer value (Ok e) = if is_pointer value then stores_pointer value e else Ok e
@@ -231,8 +232,8 @@ exited types a = if is_numeric a then Ok (unmarked types) else Err (NotANumber 0
 
 -- ---- calls
 
--- the place where a helper writes a record of 16 bytes, for an argument of this type; None unless the argument is a
--- stack pointer that is at least 16 bytes below the stack's end
+-- The place, counted from the stack's lowest byte, where a helper writes a record of 16 bytes if its argument has this
+-- type. It is None unless this is the type of a stack pointer at least 16 bytes below the stack's end.
 abbrev pub place_by : RegType → Option ℕ
 place_by (Stk k) = shifted (lowest k) (pos 0) 496
 place_by Unset = None

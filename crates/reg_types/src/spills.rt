@@ -9,8 +9,12 @@ ghost use Rattle.bpf_model.specs.declared.limits.TheConstants.{STACK_BYTES};
 use crate::rules::lowest_by;
 use crate::types::RegType;
 
-/// Returns the number that `Fact::spills` has for a pointer of this type; 0 for a type that isn't a pointer's, for
-/// `Ctx` over 80 and for `Stk` over 0. `Stk` below -512 gives the number of `Stk(-512)`.
+/// Returns the number that stands for a pointer of this type in `Fact::spills`, which says which pointers are stored in
+/// the stack:
+///
+/// - 1 to 81 for `Ctx(0)` to `Ctx(80)`
+/// - 82 to 594 for `Stk(-512)` to `Stk(0)`, and 82 also for `Stk(k)` if k is below -512
+/// - 0 for any other type: one that isn't a pointer's, `Ctx(k)` if k is above 80, and `Stk(k)` if k is above 0
 pub fn spill_of(value: RegType) -> u16
     ensures { result ≡ spill_by value }
 {
@@ -24,7 +28,8 @@ pub fn spill_of(value: RegType) -> u16
     }
 }
 
-/// Returns the type of the pointer for which `Fact::spills` has the number `spill`; `Unset` for 0 (no pointer).
+/// Returns the type of the pointer for which the number `spill` stands in `Fact::spills`, which says which pointers are
+/// stored in the stack. Returns `Unset` for 0 (no pointer).
 pub fn spilled_type(spill: u16) -> RegType
     ensures { result ≡ spilled_by spill }
 {
@@ -44,8 +49,8 @@ fn common_spill(a: u16, b: u16) -> u16
     if a == b { a } else { 0 }
 }
 
-/// Joins `others` into `spills`: a place that has the same number in both keeps it, and all other places get 0 (no
-/// pointer).
+/// Joins `others` into `spills`. Both have, for each aligned place of the stack, the number of the pointer that is
+/// spilled there, or 0 if none is. A place that has the same number in both keeps it, and all other places get 0.
 pub fn join_spills(spills: &mut [u16; 64], others: &[u16; 64])
     ensures { spills.new ≡ joined spills.old others.now }
 {

@@ -124,8 +124,8 @@ impl Table {
         Ok(())
     }
 
-    /// Returns the stored facts, at most one for each unit. Only the code, not the contract, gives them the order in
-    /// which the units first got a fact.
+    /// Returns the stored facts, at most one for each unit. They are in the order in which the units first got a fact,
+    /// but the contract doesn't promise this order.
     pub fn into_facts(self) -> Vec<StoredFact>
         ensures same { result.items ≡ self }
         ensures distinct { AreDistinct result.items }

@@ -1,4 +1,5 @@
-// The verifier's types: registers, facts, and what an instruction does to a fact.
+// The types of the verifier's code: what is known of a register (`RegType`), facts, and what an instruction does to a
+// fact.
 
 ghost use Rattle.std.specs.Prelude.{◌≡◌, ℕ, ◌↔◌, ◌≤◌, ◌+◌};
 ghost use Rattle.stack_map.specs.Places.{Has};
@@ -178,8 +179,8 @@ impl Fact {
     }
 
     /// Joins two facts: sets both to the same fact, which says only what both facts said. Each register gets the join
-    /// of its two types. A byte of the stack is then set exactly if it was set in both. A place keeps its spill if the
-    /// spill was the same in both, and else gets 0 (no pointer).
+    /// of its two types. A byte of the stack is then set exactly if it was set in both. An aligned place of eight bytes
+    /// keeps its spilled pointer if both facts had the same one there, and else has none (0).
     pub fn join(&mut self, other: &mut Fact)
         ensures joined { IsSame self.new (join_fact self.old other.old) }
         ensures both { other.new ≡ self.new }
@@ -206,9 +207,10 @@ impl Fact {
         }
     }
 
-    // Applies a write to the stack. The written bytes must be inside the stack. The bytes of a number become set, and
-    // are no longer part of a spill. The bytes of a pointer become a spill, and are no longer set. A write of 0 bytes
-    // sets and clears no byte, but it can change the spill of the aligned place that has byte `mark.at`.
+    // Applies a write to the stack. The written bytes must be inside the stack. If a number is written, its bytes
+    // become set, and no pointer is spilled any more in the aligned places of eight bytes that they touch. If a pointer
+    // is written, its bytes are no longer set, and the pointer is spilled in these places. A write of 0 bytes sets and
+    // clears no byte, but it can change what is spilled in the aligned place that has byte `mark.at`.
     fn write(&mut self, mark: StackWrite)
         requires { mark.at + mark.len ≤ STACK_BYTES }
         ensures types { self.new.types ≡ self.old.types }

@@ -1,5 +1,5 @@
--- Setting bit i of a number makes this bit 1, and leaves the other bits as they are. The points that a door takes are
--- the bits of a number.
+-- Lemmas on setting bit i of a number: this bit becomes 1, and the other bits stay as they are. If a door is for some
+-- points only, these points are kept as the bits of a number.
 use Rattle.std.proofs.Common.{◌≡◌, ◌≢◌, ℕ, zero, suc, ◌+◌, ◌-◌, ◌*◌, ◌/◌, ◌%◌, ◌^◌, ◌<◌, ◌≤◌, ◌==◌, ◌||◌, nat_lt, Bool, true, false, cond, refl, sym, subst, ap, ◌∙◌, arith}
 use Rattle.std.specs.Prelude.{bit_or}
 use Rattle.std.proofs.lemmas.Nat.{or_shr, or_mod, pow_below, pow-add, shl-shr, shr_below, mul-mod_first, mod_below}

@@ -1,6 +1,6 @@
 -- A list is read item by item. If reading an item fails with a flaw other than `OutOfMemory`, then reading the whole
--- list fails with this flaw. If the item is read, then reading the whole list has the same result as keeping this item
--- and going on with the later ones.
+-- list fails with this flaw. If an item is read without a flaw, then reading the whole list has the same result as
+-- keeping what this item was read as, and going on with the later items.
 use Rattle.std.proofs.Common.{◌≡◌, ◌≢◌, ℕ, ◌+◌, ℤ, List, [], ◌∷◌, ◌++◌, Result, Ok, Err, refl, sym, ap, append_assoc, ◌∙◌}
 use Rattle.site_config.specs.declared.flaw.Place.{Place}
 use Rattle.site_config.specs.declared.flaw.ConfigFlaw.{ConfigFlaw}
@@ -26,8 +26,8 @@ pushed front y (Ok ys) = ap Ok (append_assoc front (y ∷ []) ys)
 pushed front y (Err e) = refl
 
 -- `zs` are the items of a list that aren't read yet, and `front` is what the earlier items were read as. If the first
--- item of `zs` is read as `y`, then reading `rest` and appending it to `front` and `y` has the same result as reading
--- the whole list.
+-- item of `zs` is read as `y`, then reading `rest`, the items after it, and appending what they were read as to `front`
+-- and `y` has the same result as reading the whole list.
 pub read_front : {A B : Type 0} (one : ℕ → A → Result B ConfigFlaw) (place : ℕ) (front : List B) (zs : List A) (z : A) (rest : List A) (y : B)
     (whole : Result (List B) ConfigFlaw) → with_front front (each_of one place zs) ≡ whole → zs ≡ z ∷ rest → one place z ≡ Ok y
     → with_front (front ++ y ∷ []) (each_of one (place + 1) rest) ≡ whole
@@ -37,8 +37,8 @@ read_front {B = B} one place front zs z rest y whole read split e =
     ∙ ap (λ xs. with_front front (each_of one place xs)) (sym split)
     ∙ read
 
--- `bits` are the points that were added so far, and `z` is the next point. If adding `z` fails with a flaw other than
--- `OutOfMemory`, then adding all points fails with this flaw.
+-- The points of a list are added to a set one by one. `bits` is the set so far, and `z` is the next point. If adding
+-- `z` fails with a flaw other than `OutOfMemory`, then adding all points of the list fails with this flaw.
 pub fails_points : (list : Place) (place points bits : ℕ) (flaw : ConfigFlaw) (zs : List ℤ) (z : ℤ) (rest : List ℤ) (whole : Result ℕ ConfigFlaw)
     → with_points list place points bits zs ≡ whole → zs ≡ z ∷ rest → (flaw ≢ OutOfMemory → with_point list place points bits z ≡ Err flaw)
     → flaw ≢ OutOfMemory → whole ≡ Err flaw

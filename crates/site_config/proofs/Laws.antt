@@ -54,8 +54,8 @@ or_false false = refl
 same_place : (p q : ℕ) → 1 ≤ p → 1 ≤ q → ((p - 1) == (q - 1)) ≡ int_eq (pos p) (pos q)
 same_place p q some other = grind (arith, nat_tests)
 
--- If `with_points` finds no flaw, then a point is among the new bits exactly if it was among the bits before or is in
--- the list.
+-- If the points of the list `zs` are added to the set `bits` without a flaw (`with_points`), then a point is in the
+-- resulting set `new` exactly if it is in `bits` or in `zs`.
 in_bits : (list : Place) (place points bits : ℕ) (zs : List ℤ) (new q : ℕ) → 1 ≤ q → with_points list place points bits zs ≡ Ok new
     → (new / 2 ^ (q - 1) % 2 == 1) ≡ ((bits / 2 ^ (q - 1) % 2 == 1) || list_any (λ z. int_eq z (pos q)) zs)
 unfolding with_point

@@ -3,6 +3,7 @@
 use Rattle.std.proofs.Common.{◌≡◌, ℕ, suc, ◌<◌, ◌==◌, ℤ, List, [], ◌∷◌, length, Bool, true, false, Result, Ok, Err, IsOk, IsOkAnd, is_ok, refl, ap, arith}
 use Rattle.std.proofs.lemmas.Bool.{eqb-true}
 use Rattle.site_config.specs.declared.flaw.ConfigFlaw.{ConfigFlaw}
+use Rattle.site_config.specs.declared.doors.DoorCounts.{DoorCounts}
 use Rattle.site_config.specs.declared.raw.RawDoor.{RawDoor}
 use Rattle.site_config.specs.Document.{◌>>=◌, demand, each_of}
 use Rattle.site_config.specs.Doors.{DoorValue, ServeValue, address_of, role_of, workers_of, door_fits, doors_fit, door_of, each_door}
@@ -16,11 +17,11 @@ both (Ok x) (Ok y) f e = refl
 both (Ok x) (Err g) f e = absurd (cc)
 both (Err g) r f e = absurd (cc)
 
-fits_made : (tills points t w : ℕ) (d : RawDoor) → door_fits tills points d ≡ Ok tt → IsOk (door_of tills points t w d)
+fits_made : (counts : DoorCounts) (d : RawDoor) → door_fits counts.tills counts.points d ≡ Ok tt → IsOk (door_of counts d)
 unfolding door_fits door_of
-fits_made tills points t w d e =
-    both (address_of d.place d.address) (role_of tills points d.place d.role)
-    (λ a r. record { place = d.place; address = a; role = r; workers = workers_of t w d.role }) e
+fits_made counts d e =
+    both (address_of d.place d.address) (role_of counts.tills counts.points d.place d.role)
+    (λ a r. record { place = d.place; address = a; role = r; workers = workers_of counts.till_workers counts.dispenser_workers d.role }) e
 
 one_more : {B : Type 0} (r : Result B ConfigFlaw) (rs : Result (List B) ConfigFlaw) (n : ℕ) → IsOk r → IsOkAnd rs (λ xs. length xs ≡ n)
     → IsOkAnd (r >>= (λ x. rs >>= (λ xs. Ok (x ∷ xs)))) (λ xs. length xs ≡ suc n)
@@ -28,14 +29,13 @@ one_more (Ok x) (Ok xs) n o l = ap suc l
 one_more (Ok x) (Err g) n o l = absurd l
 one_more (Err g) rs n o l = absurd (cc)
 
--- If all doors fit, then a door is made from each of them.
-pub all_made : (tills points t w : ℕ) (ds : List RawDoor) → doors_fit tills points ds ≡ Ok tt
-    → IsOkAnd (each_door (door_of tills points t w) ds) (λ made. length made ≡ length ds)
-all_made tills points t w [] e = refl
-all_made tills points t w (d ∷ ds) e =
-    let s = went_on (door_fits tills points d) (λ _. doors_fit tills points ds) tt e in
-    one_more (door_of tills points t w d) (each_door (door_of tills points t w) ds) (length ds) (fits_made tills points t w d s.1)
-    (all_made tills points t w ds s.2)
+-- If the check of all doors finds no flaw (`doors_fit`), then a door of the site is made from each of them.
+pub all_made : (counts : DoorCounts) (ds : List RawDoor) → doors_fit counts.tills counts.points ds ≡ Ok tt
+    → IsOkAnd (each_door (door_of counts) ds) (λ made. length made ≡ length ds)
+all_made counts [] e = refl
+all_made counts (d ∷ ds) e =
+    let s = went_on (door_fits counts.tills counts.points d) (λ _. doors_fit counts.tills counts.points ds) tt e in
+    one_more (door_of counts d) (each_door (door_of counts) ds) (length ds) (fits_made counts d s.1) (all_made counts ds s.2)
 
 pub with_doors : (r : Result (List DoorValue) ConfigFlaw) (n : ℕ) (f : List DoorValue → ServeValue) → ((ds : List DoorValue) → (f ds).doors ≡ ds) → 0 < n
     → IsOkAnd r (λ ds. length ds ≡ n) → IsOkAnd (r >>= (λ ds. Ok (f ds))) HasDoors
@@ -50,7 +50,8 @@ first_made : (zs : List ℤ) (ps : List ℕ) → length zs ≡ 8 → each_of pri
 first_made [] ps eight e = absurd (omega (arith, eight))
 first_made (z ∷ zs) ps eight e = let s = went_on (price_of 0 z) _ ps e in ap is_ok s.1
 
--- If the prices can be made, then there are 8, and the first one is in its range.
+-- If the prices of a site can be made from the numbers `zs`, then there are 8 of these numbers, and the first one is in
+-- the range of a price.
 pub prices_made : (zs : List ℤ) (ps : List ℕ) → prices_of zs ≡ Ok ps → TakesPrices zs
 unfolding prices_of TakesPrices
 prices_made zs ps e =

@@ -1,5 +1,5 @@
--- The position behind a text can be found byte by byte: with one more byte, it is the earlier position moved past this
--- byte (`past`).
+-- The position (line and column) of a text's end can be found byte by byte: each further byte moves the position past
+-- this byte (`past`).
 use Rattle.std.proofs.Common.{◌≡◌, ℕ, ◌+◌, ◌<◌, ◌≤◌, ◌==◌, ◌&&◌, nat_le, Bool, true, false, cond, List, [], ◌∷◌, ◌++◌, length, take, get_or}
 use Rattle.std.proofs.Common.{refl, sym, ◌∙◌, ap, subst, arith}
 use Rattle.std.proofs.lemmas.List.{take_more, take_all}

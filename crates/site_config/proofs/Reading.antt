@@ -1,5 +1,5 @@
--- The bytes that `read_head` has read are no whole head (a configuration and its line `---`) yet, if there are at most
--- 65,540 of them, and neither they nor a beginning of them ends with a line `---`.
+-- If `read_head` has read at most 65,540 bytes, and neither they nor a beginning of them ends with a line `---`, then
+-- they are no whole head (a configuration and its line `---`) yet.
 use Rattle.std.proofs.Common.{◌≡◌, ℕ, ◌<◌, ◌≤◌, nat_lt, Bool, true, false, List, length, take, refl}
 use Rattle.std.proofs.lemmas.Bool.{ltb-true, ltb-false}
 use Rattle.std.proofs.lemmas.List.{take_all}

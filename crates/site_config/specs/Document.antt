@@ -54,7 +54,7 @@ abbrev pub Gives : {X Y : Type 0} → (X → Y) → Result X ConfigFault → Res
 Gives view (Ok x) read = read ≡ Ok (view x)
 Gives view (Err e) read = Fails e read
 
--- The document in these bytes, or None if they aren't one (K1).
+-- The TOML document in these bytes, or None if they aren't UTF-8 or aren't TOML (K1).
 unfoldable pub document_of : List ℕ → Option Members
 document_of bytes = if is_utf8 bytes then parse_document bytes else None
 

@@ -16,6 +16,7 @@ use Rattle.site_config.specs.declared.flaw.Place.{Place}
 use Rattle.site_config.specs.declared.flaw.Place.TheVariants.{At, Item}
 use Rattle.site_config.specs.declared.flaw.Side.{Side}
 use Rattle.site_config.specs.declared.flaw.Side.TheVariants as sides
+use Rattle.site_config.specs.declared.doors.DoorCounts.{DoorCounts}
 use Rattle.site_config.specs.declared.raw.RawDoor.{RawDoor}
 use Rattle.site_config.specs.declared.raw.RawAddress.{RawAddress}
 use Rattle.site_config.specs.declared.raw.RawAddress.TheVariants.{Port, Socket}
@@ -156,12 +157,14 @@ abbrev pub clash_among : List RawDoor → Option ConfigFlaw
 clash_among [] = None
 clash_among (d ∷ ds) = first_of (clash_with d ds) (clash_among ds)
 
--- The flaw of the first door whose port is the page's port `z`. None if no door has it.
+-- The flaw of the first door whose port is `z`, the port of the page on which the site is shown. None if no door has
+-- this port.
 abbrev pub page_clash : ℤ → List RawDoor → Option ConfigFlaw
 page_clash z [] = None
 page_clash z (d ∷ ds) = first_of (address_clash d.place (At OfServe key.PagePort) d.address (Port z)) (page_clash z ds)
 
--- The page's port, or None if there is no page. It must be 1 to 65,535, which is checked first, and no door's port.
+-- The port of the page on which the site is shown, or None if there is no page. It must be from 1 to 65,535, which is
+-- checked first, and must not be a door's port.
 unfoldable pub page_of : List RawDoor → Option ℤ → Result (Option ℕ) ConfigFlaw
 page_of ds None = Ok None
 page_of ds (Some z) = do
@@ -169,14 +172,14 @@ page_of ds (Some z) = do
   apart ← without (page_clash z ds)
   Ok (Some n)
 
--- How many workers a shared door has: the value of `key`, which must be from 1 to `most`, or 0 if there is no such
--- door.
+-- How many workers a shared door (of all tills, or of all dispensers) has: the value of `key`, which must be from 1 to
+-- `most`, or 0 if there is no such door.
 abbrev pub shared_workers : Key → ℕ → Option ℤ → Result ℕ ConfigFlaw
 shared_workers key most None = Ok 0
 shared_workers key most (Some z) = ranged (At OfServe key) 1 most z
 
--- How many workers a door of this role has. The owner's door, a door of one till and a door of some points have one
--- each.
+-- How many workers a door of this role has: `till_workers` at the door of all tills, `dispenser_workers` at the door of
+-- all dispensers, and 1 at any other door.
 abbrev pub workers_of : ℕ → ℕ → RawRole → ℕ
 workers_of till_workers dispenser_workers Tills = till_workers
 workers_of till_workers dispenser_workers Dispensers = dispenser_workers
@@ -207,27 +210,27 @@ takes side n role = false
 abbrev pub is_taken : Side → List RawDoor → ℕ → Bool
 is_taken side ds n = list_any (λ d. takes side n d.role) ds
 
--- The flaw `WithoutDoor` for the lowest number from 1 to the last argument such that no door takes the lines of the
--- till with this number (for tills), or the dispensers' lines that name the point with this number (for dispensers).
--- None if there is no such number.
+-- The flaw `WithoutDoor` for the lowest number, from 1 to the last argument, of a till (for tills) or a point (for
+-- dispensers) without a door. None if each has a door. A till has a door if some door takes the till's lines. A point
+-- has a door if some door takes the dispensers' lines that name the point.
 abbrev pub first_without_door : Side → List RawDoor → ℕ → Option ConfigFlaw
 first_without_door side ds zero = None
 first_without_door side ds (suc n) = first_of (first_without_door side ds n) (if is_taken side ds (suc n) then None else Some (WithoutDoor side (suc n)))
 
 -- Checks the doors of tills, or those of dispensers. They must have at most `most` workers in all: `shared` at the
--- shared door (0 if there is no such door), and one at each door for one till or for some points. For each number from
--- 1 to `n`, some door must take the lines of the till with this number, or the dispensers' lines that name the point
--- with this number.
+-- shared door of all tills or of all dispensers (0 if there is no such door), and one at each door for one till or for
+-- some points. For each number from 1 to `n`, some door must take the lines of the till with this number, or the
+-- dispensers' lines that name the point with this number.
 unfoldable pub side_fits : Side → ℕ → ℕ → ℕ → List RawDoor → Result (Unit {0}) ConfigFlaw
 side_fits side shared most n ds = do
   few ← demand (TooManyWorkers side (shared + count_single side ds) most) (nat_le (shared + count_single side ds) most)
   without (first_without_door side ds n)
 
-unfoldable pub door_of : ℕ → ℕ → ℕ → ℕ → RawDoor → Result DoorValue ConfigFlaw
-door_of tills points till_workers dispenser_workers d = do
+unfoldable pub door_of : DoorCounts → RawDoor → Result DoorValue ConfigFlaw
+door_of counts d = do
   a ← address_of d.place d.address
-  r ← role_of tills points d.place d.role
-  Ok (record { place = d.place; address = a; role = r; workers = workers_of till_workers dispenser_workers d.role })
+  r ← role_of counts.tills counts.points d.place d.role
+  Ok (record { place = d.place; address = a; role = r; workers = workers_of counts.till_workers counts.dispenser_workers d.role })
 
 abbrev pub each_door : (RawDoor → Result DoorValue ConfigFlaw) → List RawDoor → Result (List DoorValue) ConfigFlaw
 each_door one [] = Ok []
@@ -236,9 +239,13 @@ each_door one (d ∷ ds) = do
   xs ← each_door one ds
   Ok (x ∷ xs)
 
--- Where and how to serve a site of this many tills and points, or the first flaw. The checks come in this order: the
--- doors' addresses and roles, clashes among the doors, the numbers of `[serve]`, the page's port, and then, for tills
--- and after that for dispensers, the number of their workers and a door for each till or point.
+-- Where and how to serve a site of this many tills and points, or the first flaw. The checks come in this order:
+-- - each door's address and role
+-- - clashes among the doors
+-- - the numbers of `[serve]`
+-- - the page's port
+-- - the doors of tills: how many workers they have in all, and whether each till has a door
+-- - the doors of dispensers: how many workers they have in all, and whether each point has a door
 unfoldable pub serve_of : ℕ → ℕ → TypedServe → Result ServeValue ConfigFlaw
 serve_of tills points s = do
   fit ← doors_fit tills points s.doors
@@ -250,7 +257,7 @@ serve_of tills points s = do
   p ← page_of s.doors s.page_port
   of_tills ← side_fits sides.Tills t 64 tills s.doors
   of_dispensers ← side_fits sides.Dispensers w 31 points s.doors
-  doors ← each_door (door_of tills points t w) s.doors
+  doors ← each_door (door_of (record { tills = tills; points = points; till_workers = t; dispenser_workers = w })) s.doors
   Ok (record { doors = doors; connections = n; idle_seconds = i; page_port = p })
 
 -- The code's `Address` as an `AddressValue`. Below: the code's `Door` as a `DoorValue`, and the code's `Serve` as a

@@ -1,5 +1,5 @@
--- Definitions: the fault number of each flaw of a configuration, and the position in the text that a flaw reports (this
--- profile).
+-- Definitions: the fault number of each flaw of a configuration, and the position in the text that a flaw reports
+-- (source: this project).
 use Rattle.std.specs.Prelude.{◌≡◌, ℕ, ◌≤◌, List, length, true, false, Option, Some, None, Result, Ok, Err, string_bytes}
 use Rattle.site_config.specs.declared.fault.ConfigFault.{ConfigFault}
 use Rattle.site_config.specs.declared.fault.ConfigFault.TheVariants as fault
@@ -58,6 +58,6 @@ abbrev pub numbered : {A : Type 0} → Result A ConfigFlaw → Result A ConfigFa
 numbered (Ok x) = Ok x
 numbered (Err flaw) = Err (fault_of flaw)
 
--- The flaw has the fault number K1: the text isn't a document.
+-- The flaw has the fault number K1: the text isn't UTF-8 or isn't TOML.
 abbrev pub IsOfText : ConfigFlaw → Type 0
 IsOfText flaw = fault_of flaw ≡ fault.K1

@@ -12,7 +12,8 @@ ends_head bytes =
 abbrev pub before_end : List ℕ → List ℕ
 before_end bytes = if ends_head bytes then take (length bytes - 4) bytes else bytes
 
--- The configuration in the bytes. None if it has over 65,536 bytes.
+-- The configuration in the bytes: what comes before the line `---` that they end with, or all bytes if they don't end
+-- with such a line. None if it has over 65,536 bytes.
 abbrev pub head_part : List ℕ → Option (List ℕ)
 head_part bytes = if nat_le (length (before_end bytes)) 65536 then Some (before_end bytes) else None
 
@@ -29,12 +30,12 @@ pub record IsHead (old new : Option (List ℕ)) (bytes : List ℕ) : Type 0 wher
 abbrev pub IsOpen : List ℕ → Type 0
 IsOpen bytes = ((k : ℕ) → k ≤ length bytes → ends_head (take k bytes) ≡ false) × (length bytes ≤ 65540)
 
--- The bytes that were taken from the input are no whole head yet (`IsOpen`).
+-- The bytes that were taken from the input are no whole head (a configuration and its line `---`) yet (`IsOpen`).
 abbrev pub TakesOpen : Option (List ℕ) → Option (List ℕ) → Type 0
 TakesOpen old new = (bytes : List ℕ) × Consumes old new bytes × IsOpen bytes
 
 -- One or more bytes were taken from the input, each by a read of its own. Without the last one they are no whole head
--- yet (`IsOpen`). `before` reads were allowed, and `after` of them are left.
+-- (a configuration and its line `---`) yet (`IsOpen`). `before` reads were allowed, and `after` of them are left.
 abbrev pub TakesByReads : Option (List ℕ) → Option (List ℕ) → ℕ → ℕ → Type 0
 TakesByReads old new before after =
     (bytes : List ℕ) × (byte : ℕ) × Consumes old new (bytes ++ byte ∷ []) × IsOpen bytes × (length bytes + 1 + after ≡ before)

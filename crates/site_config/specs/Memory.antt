@@ -110,7 +110,7 @@ TakesDoors ms =
 unfoldable pub TakesServed : Data → Type 0
 TakesServed d = IsOkAnd (table_of (At Top key.Serve) d) (λ ms. Then (CopiesKey Serve ms) (known_in Serve ms) (TakesDoors ms))
 
--- Reading the values of all keys of a document takes memory.
+-- With this document, reading the values of all keys takes memory.
 unfoldable pub TakesTyped : Members → Type 0
 TakesTyped ms =
     Then (CopiesKey Top ms) (known_in Top ms)
@@ -124,24 +124,24 @@ abbrev pub HasPath : RawAddress → Type 0
 HasPath (Port z) = ⊥
 HasPath (Socket path) = 0 < length path
 
--- Keeping the first item of a list takes memory: there is such an item, and `one` finds no flaw in it.
+-- With this list, keeping its first item takes memory: there is such an item, and `one` finds no flaw in it.
 abbrev pub MakesFirst : {A B : Type 0} → (A → Result B ConfigFlaw) → List A → Type 0
 MakesFirst one [] = ⊥
 MakesFirst one (x ∷ xs) = IsOk (one x)
 
--- Making the prices takes memory: there are 8 of them, and the first one is in its range.
+-- With these prices, making their list takes memory: there are 8 of them, and the first one is in its range.
 unfoldable pub TakesPrices : List ℤ → Type 0
 TakesPrices zs = (length zs ≡ 8) × MakesFirst (price_of 0) zs
 
--- Making the doors takes memory: there is at least one door.
+-- With these values of `[serve]`, making the doors takes memory: there is at least one door.
 abbrev pub HasDoors : ServeValue → Type 0
 HasDoors s = 0 < length s.doors
 
--- Making the settings takes memory: the number of tills and the price slot are in range, and making the prices takes
--- memory.
+-- With these values, making the settings takes memory: the number of tills and the price slot are in range, and making
+-- the prices takes memory.
 unfoldable pub TakesSettings : Typed → Type 0
 TakesSettings d = IsOk (ranged (At Top key.Tills) 1 64 d.tills) × IsOk (ranged (At Top key.PriceSlot) 0 15 d.price_slot) × TakesPrices d.prices
 
--- Reading the settings from a document takes memory.
+-- With this document, reading the settings takes memory.
 unfoldable pub TakesDocument : Members → Type 0
 TakesDocument ms = TakesTyped ms ⊎ IsOkAnd (typed_of ms) TakesSettings

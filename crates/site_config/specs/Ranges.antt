@@ -18,8 +18,8 @@ use Rattle.site_config.specs.Typed.{Typed, TypedServe, typed_of}
 use Rattle.site_config.specs.Demands.{ranged}
 use Rattle.site_config.specs.Doors.{ServeValue, serve_of, serve_seen}
 
--- The slots of a point's releases and of its presets. Each must be from 0 to 15. `place` is the point's index in the
--- list of points, counted from 0.
+-- The slot whose program decides a fuelling point's releases, and the slot whose program decides its presets. Each must
+-- be from 0 to 15. `place` is the point's index in the list of points, counted from 0.
 unfoldable pub point_of : ℕ → ℤ × ℤ → Result (ℕ × ℕ) ConfigFlaw
 point_of place p = do
   r ← ranged (At (Point place) key.Release) 0 15 p.0

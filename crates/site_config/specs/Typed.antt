@@ -26,9 +26,9 @@ use Rattle.site_config.specs.declared.raw.RawRole.TheVariants.{Tills, OneTill, D
 use Rattle.site_config.specs.Document.{or_flaw, demand, ◌>>=◌, with_front}
 use Rattle.site_config.specs.Keys.{name_of}
 
--- The top table of a document is allowed to have a key of this name. Below: the same for each other kind of table. For
--- `[serve]` this is `is_serve_key`. The three definitions before it list the ports, the sockets and the numbers among
--- the keys of `[serve]`.
+-- Whether the top table of a document is allowed to have a key of this name. Below is the same for each other kind of
+-- table. `is_serve_key` is for `[serve]`, and the three definitions before it list the ports, the sockets and the
+-- numbers among the keys of `[serve]`.
 unfoldable pub is_top_key : List ℕ → Bool
 is_top_key k =
     bytes_eq k (codes "tills")
@@ -175,14 +175,15 @@ unfoldable pub door_at : Section → Key × Key → RawRole → Members → Resu
 door_at section keys role ms =
     door_by (At section keys.0) (At section keys.1) role (get_member (name_of keys.0) ms) (get_member (name_of keys.1) ms)
 
--- The key of a shared door's port or the key of its socket is given.
+-- The key of the port, or the key of the socket, of a shared door (of all tills, or of all dispensers) is given.
 abbrev pub has_shared : Key × Key → Members → Bool
 has_shared keys ms = has_key keys.0 ms || has_key keys.1 ms
 
--- The shared door as a list. The first argument says whether the key of this door's port or of its socket is given.
+-- The shared door (of all tills, or of all dispensers) as a list. The first argument says whether the key of this
+-- door's port or of its socket is given.
 -- - If so, the list has this door alone, or the result is the flaw of reading this door.
 -- - If not, the list is empty, or the result is the flaw `Missing` if `tables` isn't given. `tables` is the key of the
---   doors that aren't shared. Its value isn't checked here.
+--   doors that aren't shared (of single tills, or of some points). Its value isn't checked here.
 abbrev pub shared_if : Bool → Key × Key → Key → RawRole → Members → Result (List RawDoor) ConfigFlaw
 shared_if true keys tables role ms = do
   door ← door_at Serve keys role ms
@@ -194,8 +195,8 @@ shared_if false keys tables role ms = do
 unfoldable pub shared_at : Key × Key → Key → RawRole → Members → Result (List RawDoor) ConfigFlaw
 shared_at keys tables role ms = shared_if (has_shared keys ms) keys tables role ms
 
--- How many workers a shared door has, or None if there is no such door. The first argument says whether there is such a
--- door. If so, `key` must be given. If not, `key` must not be given.
+-- How many workers a shared door (of all tills, or of all dispensers) has, or None if there is no such door. The first
+-- argument says whether there is such a door. If so, `key` must be given. If not, `key` must not be given.
 abbrev pub workers_if : Bool → Key × Key → Key → Members → Result (Option ℤ) ConfigFlaw
 workers_if true keys key ms = do
   z ← integer_at Serve key ms
@@ -268,8 +269,9 @@ page_from (Some d) = do
   z ← integer_of (At Serve key.PagePort) d
   Ok (Some z)
 
--- The values of the keys of `[serve]`. A number of workers is None if its shared door isn't given. `page_port` is None
--- if there is no page.
+-- The values of the keys of `[serve]`. `till_workers` is None if there is no shared door of all tills, and
+-- `dispenser_workers` is None if there is no shared door of all dispensers. `page_port` is None if there is no page on
+-- which the site is shown.
 pub record TypedServe : Type 0 where
   pub doors : List RawDoor
   pub till_workers : Option ℤ

@@ -39,8 +39,8 @@ fn beside(place: Place, key: Key) -> Place
     }
 }
 
-/// Returns the place of an item of the list at `list`. `place` is the item's index, counted from 0. If `list` isn't the
-/// place of a key, returns `list` itself.
+/// Returns where an item of a list stands in the configuration. `list` says where the list stands, and `place` is the
+/// item's index in the list, counted from 0. If `list` isn't a `Place::At` (where a key stands), returns `list` itself.
 fn item_of(list: Place, place: usize) -> Place
     ensures { result ≡ item_of list place }
 {
@@ -385,7 +385,8 @@ fn first_without_door(side: Side, doors: &[RawDoor], most: u32) -> Option<Config
 }
 
 /// Checks the doors of tills if `side` is tills, or those of dispensers if `side` is dispensers. `shared` is how many
-/// workers the shared door has, or 0 if there is no such door. `shared` must be at most `most`.
+/// workers the shared door of all tills, or of all dispensers, has, or 0 if there is no such door. `shared` must be at
+/// most `most`.
 ///
 /// The error is `TooManyWorkers` if these doors have more than `most` workers in all. Otherwise it is `WithoutDoor` for
 /// the first number from 1 to `numbers` such that no door takes the lines of the till with this number, or the
@@ -428,7 +429,7 @@ fn workers_for(till_workers: u32, dispenser_workers: u32, role: &RawRole) -> u32
 /// The numbers of a site's tills and points, and the numbers of workers of its shared doors: the door for all tills,
 /// and the door for all dispensers. A shared door that doesn't exist has 0 workers.
 #[derive(Clone, Copy)]
-struct Counts {
+struct DoorCounts {
     tills: u32,
     points: u32,
     till_workers: u32,
@@ -436,10 +437,9 @@ struct Counts {
 }
 
 #[tactic(auto, unfolding(crate::specs::Doors::door_of))]
-fn make_door(alloc: Global, counts: Counts, door: &RawDoor) -> Result<Door, ConfigFlaw>
+fn make_door(alloc: Global, counts: DoorCounts, door: &RawDoor) -> Result<Door, ConfigFlaw>
     requires { counts.points ≤ POINTS }
-    ensures read { Finds door_seen result
-        (door_of counts.tills counts.points counts.till_workers counts.dispenser_workers door.now) }
+    ensures read { Finds door_seen result (door_of counts door.now) }
     ensures memory { result ≡ Err ConfigFlaw.OutOfMemory → HasPath door.now.address }
 {
     let address = value_of!(make_address(alloc, door.place, &door.address));
@@ -453,10 +453,9 @@ fn make_door(alloc: Global, counts: Counts, door: &RawDoor) -> Result<Door, Conf
     })
 }
 
-fn make_doors(alloc: Global, counts: Counts, doors: &[RawDoor]) -> Result<Vec<Door>, ConfigFlaw>
+fn make_doors(alloc: Global, counts: DoorCounts, doors: &[RawDoor]) -> Result<Vec<Door>, ConfigFlaw>
     requires { counts.points ≤ POINTS }
-    ensures read { Finds (λ v. map door_seen v.items) result
-        (each_door (door_of counts.tills counts.points counts.till_workers counts.dispenser_workers) doors.now) }
+    ensures read { Finds (λ v. map door_seen v.items) result (each_door (door_of counts) doors.now) }
     ensures memory { result ≡ Err ConfigFlaw.OutOfMemory → 0 < length doors.now }
 {
     let mut made = Vec::new(alloc);
@@ -501,7 +500,7 @@ pub(crate) fn make_serve(
     let page_port = value_of!(page_of(doors, served.page_port));
     value_of!(check_side(Side::Tills, till_workers, MOST_OF_TILLS, tills, doors));
     value_of!(check_side(Side::Dispensers, dispenser_workers, most, points, doors));
-    let counts = Counts {
+    let counts = DoorCounts {
         tills,
         points,
         till_workers,

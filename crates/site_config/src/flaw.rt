@@ -257,8 +257,9 @@ pub enum ConfigFlaw {
     WrongType(Place, Type),
     /// K2: two keys are given, and only one of them is allowed.
     BothThere(Place, Place),
-    /// K2: the number of a shared door's workers is given, but neither the port nor the socket of this door. The places
-    /// are those of three keys, in this order: the number of workers, the port, the socket.
+    /// K2: the number of workers of a shared door (of all tills, or of all dispensers) is given, but neither the port
+    /// nor the socket of this door. The places are those of three keys, in this order: the number of workers, the port,
+    /// the socket.
     Needless(Place, Place, Place),
     /// K3: a value isn't in its range. The numbers are the value, and the least and the greatest that are allowed.
     OutOfRange(Place, i64, u64, u64),

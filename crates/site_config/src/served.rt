@@ -78,7 +78,8 @@ fn read_door(
     }
 }
 
-/// Returns whether there is a shared door: whether the key of its port, or that of its socket, is given.
+/// Returns whether there is a shared door (of all tills, or of all dispensers): whether the key of its port, or that of
+/// its socket, is given.
 fn is_shared(table: &Table, keys: (Key, Key)) -> bool
     ensures { result ≡ has_shared keys (table_view table.now) }
 {
@@ -116,7 +117,8 @@ fn add_shared(
     Ok(doors)
 }
 
-/// Reads how many workers a shared door has. There is such a door if any of `keys` is given.
+/// Reads how many workers a shared door (of all tills, or of all dispensers) has. There is such a door if any of
+/// `keys`, the keys of its port and of its socket, is given.
 /// - If there is such a door, the error is `Missing` if `key` isn't given, or `WrongType` if its value isn't a number.
 /// - If there is no such door, the result is `None`, or the error `Needless` if `key` is given.
 #[tactic(auto, unfolding(crate::specs::Typed::workers_at))]
@@ -169,8 +171,9 @@ fn read_dispenser(alloc: Global, value: &Value, place: usize) -> Result<RawDoor,
     read_door(alloc, table, section, KEYS, role)
 }
 
-/// Reads the door of one till as `read_till` does, if the side is tills. Reads the door of some points as
-/// `read_dispenser` does, if the side is dispensers. The errors are the same.
+/// Reads a door from `value`: the door of one till (`read_till`) if the side is tills, or the door of some points
+/// (`read_dispenser`) if the side is dispensers. `value` is item `place`, counted from 0, of a list of such doors. The
+/// error is that memory ran out, or the first flaw (K2) in `value`.
 fn read_single(
     alloc: Global,
     side: Side,
@@ -186,8 +189,9 @@ fn read_single(
     }
 }
 
-/// Reads a door from each of `values`, as `read_single` does, and appends the doors to `doors` in this order. The error
-/// is the flaw of the first value that isn't the table of a door, or that memory ran out.
+/// Reads each of `values` as a door (of one till if `side` is tills, or of some points if `side` is dispensers), and
+/// appends the doors to `doors` in this order. The error is the flaw of the first value that isn't the table of a door,
+/// or that memory ran out.
 fn each_single(
     alloc: Global,
     side: Side,

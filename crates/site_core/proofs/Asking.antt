@@ -1,10 +1,11 @@
--- If a request asks a program a question in one state, and its question in another state (`routed`) has the same
--- context, then it asks a program this question in the other state too. In this other state the counts that the context
--- holds must fit into their bytes (`FitsContext`).
+-- Let a request ask a program a question in one state. Let `routed` give the request's question in another state,
+-- without checking whether that state refuses it. If both questions have the same context, each in its own state, then
+-- the request asks a program this question in the other state too. In the other state the counts that the context holds
+-- must fit into their bytes (`FitsContext`).
 use Rattle.std.proofs.Common.{◌≡◌, ℕ, ◌<◌, ◌≤◌, ◌&&◌, Bool, true, false, length, Option, Some, None, Ok, Err, refl, ap, ◌∙◌, sym, arith}
 use Rattle.std.specs.Prelude.{if◌then◌else◌, nat_lt}
 use Rattle.std.specs.Result.{result_ok}
-use Rattle.std.proofs.lemmas.Bool.{lt-ltb}
+use Rattle.std.proofs.lemmas.Bool.{ltb-true}
 use Rattle.std.proofs.lemmas.Bool.Decides.{nat_tests}
 use Rattle.fuelling_point.specs.Table.{PointState}
 use Rattle.fuelling_point.specs.States.{is_ready}
@@ -14,17 +15,21 @@ use Rattle.till_request.specs.declared.act.Request.TheVariants as request
 use Rattle.till_request.specs.declared.act.Reply.{Reply}
 use Rattle.bpf_model.specs.declared.context.Layout.{Layout}
 use Rattle.bpf_model.specs.Layouts.{bytes_of}
-use Rattle.site_core.specs.declared.question.Kind.TheVariants as kind
+use Rattle.site_core.specs.declared.question.Kind.{Kind}
+use Rattle.site_core.specs.declared.question.Kind.TheVariants.{Release, Price}
 use Rattle.site_core.specs.declared.question.Question.{Question}
+use Rattle.site_core.specs.declared.question.RequestAction.{RequestAction}
+use Rattle.site_core.specs.declared.question.RequestAction.TheVariants as action
 use Rattle.site_core.specs.Limits.{ConfigValue}
 use Rattle.site_core.specs.State.{SiteState, at_number, first_busy}
 use Rattle.site_core.specs.Context.{context}
-use Rattle.site_core.specs.Decide.{is_till, is_within, refuse_unless, bad_amount, wrong_state, no_such_point, slots_of, release_question, preset_question}
-use Rattle.site_core.specs.Decide.{price_question, price_question_of, price_at, HasPointOrValidPrice}
-use Rattle.site_core.specs.Draft.{routed, routed_request, at_point}
-use Rattle.site_core.specs.Asked.{asked_question, question_of, FitsContext}
-use Rattle.site_core.proofs.Points.{release-some, preset-none, preset-some}
-use Rattle.site_core.proofs.Lawful.{Asks, Asked, asks, ok-same, err-ok}
+use Rattle.site_core.specs.Decide.{is_till, is_within, refuse_unless, bad_amount, wrong_state, release_of, preset_of, price_question_of, has_room, admitted}
+use Rattle.site_core.specs.Decide.{asked_at_point, price_at, release_question, preset_question, price_question, request_action, question_in, question_of}
+use Rattle.site_core.specs.Decide.{asked_question, HasPointOrValidPrice}
+use Rattle.site_core.specs.Draft.{routed, routed_request, routed_to, at_point}
+use Rattle.site_core.specs.Asked.{FitsContext}
+use Rattle.site_core.proofs.Points.{asked-some}
+use Rattle.site_core.proofs.Lawful.{AsksAt, Asked, asks-at, ok-same, err-ok}
 use Rattle.site_core.proofs.Contexts.{same-ready, same-unpaid, same-busy}
 
 pub ok-is : (x : Asked) (q : Question) → result_ok x ≡ Some q → x ≡ Ok q
@@ -37,34 +42,13 @@ none-some q h = cc
 some-same : (p q : Question) → ◌≡◌ {A = Option Question} (Some p) (Some q) → p ≡ q
 some-same p q h = cc
 
--- ---- if a preset asks a program, its amount is in range and its point ready; for a price change no point is busy
+-- ---- if a price change isn't refused, its product and its price are in their ranges, and no point is busy
 
--- The question `q` is a preset of `amount` at point `n`. The point is ready, and the amount is in its range.
-record AsksPreset (config : ConfigValue) (s : SiteState) (n amount : ℕ) (q : Question) : Type 0 where
-  point : PointState
-  is_point : at_number s.points n ≡ Some point
-  question : q ≡ record { kind = kind.Preset; point = n; product = 0; asked = amount; slot = (slots_of config n).1 }
-  within : is_within 1 amount 999999999 ≡ true
-  ready : is_ready point.state ≡ true
-
-two-ok : (a b : Bool) (x y : Reply) (p q : Question) → refuse_unless a x (refuse_unless b y (Ok p)) ≡ Ok q → (a ≡ true) × (b ≡ true) × (q ≡ p)
-two-ok true true x y p q h = (refl, refl, ok-same p q h)
-two-ok true false x y p q h = absurd (err-ok y q h)
-two-ok false b x y p q h = absurd (err-ok x q h)
-
-asks-preset : (config : ConfigValue) (s : SiteState) (n amount : ℕ) (q : Question) (o : Option PointState) → at_number s.points n ≡ o
-    → preset_question config s n amount ≡ Ok q → AsksPreset config s n amount q
-asks-preset config s n amount q None at h = absurd (err-ok no_such_point q (sym (preset-none config s n amount at) ∙ h))
-asks-preset config s n amount q (Some p) at h =
-    let asked : Question = record { kind = kind.Preset; point = n; product = 0; asked = amount; slot = (slots_of config n).1 } in
-    let all = two-ok (is_within 1 amount 999999999) (is_ready p.state) bad_amount (wrong_state p.state) asked q (sym (preset-some config s n amount p at) ∙ h)
-    in
-    record { point = p; is_point = at; question = all.2; within = all.0; ready = all.1 }
-
--- The question `q` is a price change. The product and the price are in their ranges, and no point is busy.
-record AsksPrice (config : ConfigValue) (s : SiteState) (product price : ℕ) (q : Question) : Type 0 where
-  question : q ≡ record { kind = kind.Price; point = 0; product = product; asked = price; slot = config.price_slot }
-  within : (is_within 1 product 8 && is_within 1 price 9999999) ≡ true
+-- The question `q` is `p`. The product and the price are in their ranges, and no point is busy (has a delivery
+-- authorised or under way).
+record AsksPrice (s : SiteState) (p q : Question) : Type 0 where
+  question : q ≡ p
+  within : (is_within 1 p.product 8 && is_within 1 p.asked 9999999) ≡ true
   free : first_busy s ≡ None
 
 price-ok : (b : Bool) (x : Reply) (busy : Option State) (p q : Question)
@@ -73,11 +57,9 @@ price-ok true x None p q h = (refl, refl, ok-same p q h)
 price-ok true x (Some state) p q h = absurd (err-ok (wrong_state state) q h)
 price-ok false x busy p q h = absurd (err-ok x q h)
 
-asks-price : (config : ConfigValue) (s : SiteState) (product price : ℕ) (q : Question) → price_question config s product price ≡ Ok q
-    → AsksPrice config s product price q
-asks-price config s product price q h =
-    let asked : Question = record { kind = kind.Price; point = 0; product = product; asked = price; slot = config.price_slot } in
-    let all = price-ok (is_within 1 product 8 && is_within 1 price 9999999) bad_amount (first_busy s) asked q h in
+asks-price : (s : SiteState) (p q : Question) → price_at (first_busy s) p ≡ Ok q → AsksPrice s p q
+asks-price s p q h =
+    let all = price-ok (is_within 1 p.product 8 && is_within 1 p.asked 9999999) bad_amount (first_busy s) p q h in
     record { question = all.2; within = all.0; free = all.1 }
 
 -- ---- if a request asks a program a question in a state, then `routed` gives the same question for the request
@@ -100,24 +82,21 @@ routes : (s : SiteState) (n : ℕ) (asked q : Question) (o : Option PointState) 
 routes s n asked q None at h = absurd (none-some q (sym (at-none s n asked at) ∙ h))
 routes s n asked q (Some p) at h = record { point = p; is_point = at; question = sym (some-same asked q (sym (at-some s n asked p at) ∙ h)) }
 
--- If the request `r` asks a program the question `q` in this state, then `routed_request` gives `q` for `r` too.
-asked-routed-request : (config : ConfigValue) (s : SiteState) (r : Request) (q : Question) → question_of config s r ≡ Some q
-    → routed_request config s r ≡ Some q
-asked-routed-request config s (request.Release n amount) q h =
-    let a : Asks config s n amount q = asks config s n amount q (at_number s.points n) refl (ok-is (release_question config s n amount) q h) in
-    at-some s n (record { kind = kind.Release; point = n; product = 0; asked = amount; slot = (slots_of config n).0 }) a.point a.is_point ∙ ap
-    (λ x. Some x) (sym a.question)
-asked-routed-request config s (request.Preset n amount) q h =
-    let a : AsksPreset config s n amount q = asks-preset config s n amount q (at_number s.points n) refl (ok-is (preset_question config s n amount) q h) in
-    at-some s n (record { kind = kind.Preset; point = n; product = 0; asked = amount; slot = (slots_of config n).1 }) a.point a.is_point ∙ ap
-    (λ x. Some x) (sym a.question)
-asked-routed-request config s (request.Price product price) q h =
-    ap (λ x. Some x) (sym (asks-price config s product price q (ok-is (price_question config s product price) q h)).question)
-asked-routed-request config s _ q h = absurd (none-some q h)
+kind-routed : (s : SiteState) (p q : Question) (k : Kind) → elim k as (λ _. Asked) [ Price ↦ price_at (first_busy s) p | _ ↦ asked_at_point s p ] ≡ Ok q
+    → elim k as (λ _. Option Question) [ Price ↦ Some p | _ ↦ at_point s p.point p ] ≡ Some q
+kind-routed s p q Price h = ap (λ x. Some x) (sym (asks-price s p q h).question)
+kind-routed s p q _ h =
+    let a : AsksAt s p q = asks-at s p q (at_number s.points p.point) refl h in
+    at-some s p.point p a.point a.is_point ∙ ap (λ x. Some x) (sym a.question)
+
+-- If a request that leads to `a` asks a program the question `q` in this state, then `routed_to` gives `q` for `a` too.
+asked-routed-action : (s : SiteState) (a : RequestAction) (q : Question) → question_in s a ≡ Some q → routed_to s a ≡ Some q
+asked-routed-action s (action.Decision p) q h = kind-routed s p q p.kind (ok-is (admitted s p) q h)
+asked-routed-action s _ q h = absurd (none-some q h)
 
 asked-routed-till : (config : ConfigValue) (s : SiteState) (r : Request) (q : Question) (b : Bool) → (if b then question_of config s r else None) ≡ Some q
     → (if b then routed_request config s r else None) ≡ Some q
-asked-routed-till config s r q true h = asked-routed-request config s r q h
+asked-routed-till config s r q true h = asked-routed-action s (request_action config r) q h
 asked-routed-till config s r q false h = absurd (none-some q h)
 
 pub asked-routed : (config : ConfigValue) (s : SiteState) (till : ℕ) (r : Request) (q : Question) → asked_question config s till r ≡ Some q
@@ -126,58 +105,54 @@ asked-routed config s till r q h = asked-routed-till config s r q (is_till confi
 
 -- ---- a request that asks a program in one state also does so in one with the same context, if `FitsContext` holds
 
-release-again : (config : ConfigValue) (s : SiteState) (n amount : ℕ) (p : PointState) → at_number s.points n ≡ Some p → is_within 1 amount 999999999 ≡ true
-    → is_ready p.state ≡ true → nat_lt (length p.unpaid) 2 ≡ true → release_question config s n amount ≡ Ok (record {
-      kind = kind.Release;
-      point = n;
-      product = 0;
-      asked = amount;
-      slot = (slots_of config n).0;
-    })
-release-again config s n amount p at within ready room = release-some config s n amount p at ∙ rw (within, ready, room) refl
+at-again : (s : SiteState) (p : Question) (x : PointState) → at_number s.points p.point ≡ Some x → is_within 1 p.asked 999999999 ≡ true
+    → is_ready x.state ≡ true → has_room p.kind x ≡ true → asked_at_point s p ≡ Ok p
+at-again s p x at within ready room = asked-some s p x at ∙ rw (within, ready, room) refl
 
-preset-again : (config : ConfigValue) (s : SiteState) (n amount : ℕ) (p : PointState) → at_number s.points n ≡ Some p → is_within 1 amount 999999999 ≡ true
-    → is_ready p.state ≡ true → preset_question config s n amount ≡ Ok (record {
-      kind = kind.Preset;
-      point = n;
-      product = 0;
-      asked = amount;
-      slot = (slots_of config n).1;
-    })
-preset-again config s n amount p at within ready = preset-some config s n amount p at ∙ rw (within, ready) refl
+price-again : (p : Question) (busy : Option State) → (is_within 1 p.product 8 && is_within 1 p.asked 9999999) ≡ true → busy ≡ None → price_at busy p ≡ Ok p
+price-again p busy within free = rw (within, free) refl
 
-price-again : (config : ConfigValue) (product price : ℕ) (b : Bool) (busy : Option State) → (is_within 1 product 8 && is_within 1 price 9999999) ≡ true
-    → busy ≡ None → price_at busy (price_question_of config product price) ≡ Ok (price_question_of config product price)
-price-again config product price b busy within free = rw (within, free) refl
+-- If a point has room for the unpaid transaction that a release leads to, so has a point with as many unpaid
+-- transactions. Questions of other kinds need no room (`has_room`).
+room-again : (k : Kind) (x y : PointState) → has_room k x ≡ true → (length x.unpaid < 2 → length y.unpaid ≡ length x.unpaid) → has_room k y ≡ true
+room-again Release x y room same =
+    let less : length x.unpaid < 2 = ltb-true (length x.unpaid) 2 room in
+    ap (λ n. nat_lt n 2) (same less) ∙ room
+room-again _ x y room same = refl
+
+-- Let the questions `p` and `r` have the same kind and amount; their points and slots can differ. If the state `t`
+-- doesn't refuse `r`, if `p` has the same context in the state `s` as `r` has in `t`, and if the point of `p` exists in
+-- `s`, then `s` doesn't refuse `p`. The counts in the context must fit into their bytes (`FitsContext`).
+by-point : (layout : Layout) (s t : SiteState) (till moment : ℕ) (p r q was : Question) → p.kind ≡ r.kind → p.asked ≡ r.asked
+    → asked_at_point t r ≡ Ok was → at_point s p.point p ≡ Some q → FitsContext s q
+    → bytes_of (context layout s till moment q) ≡ bytes_of (context layout t till moment was) → asked_at_point s p ≡ Ok q
+by-point layout s t till moment p r q was kind_is asked_is h routed fits same =
+    let a : AsksAt t r was = asks-at t r was (at_number t.points r.point) refl h in
+    let to : Routes s p.point p q = routes s p.point p q (at_number s.points p.point) refl routed in
+    let here : q.point ≡ p.point = ap (λ (x : Question). x.point) to.question in
+    let there : was.point ≡ r.point = ap (λ (x : Question). x.point) a.question in
+    let ready : is_ready to.point.state ≡ true =
+    same-ready layout s t till moment p.point r.point q was to.point a.point here to.is_point there a.is_point same ∙ a.ready in
+    let room : has_room r.kind to.point ≡ true = room-again r.kind a.point to.point a.room
+    (λ less. same-unpaid layout s t till moment p.point r.point q was to.point a.point here to.is_point there a.is_point fits.unpaid less same) in
+    at-again s p to.point to.is_point (ap (λ n. is_within 1 n 999999999) asked_is ∙ a.within) ready (ap (λ k. has_room k to.point) kind_is ∙ room)
+    ∙ ap (λ x. Ok x) (sym to.question)
 
 by-request : (layout : Layout) (config other : ConfigValue) (s t : SiteState) (till moment : ℕ) (r : Request) (q was : Question)
     → question_of other t r ≡ Some was → routed_request config s r ≡ Some q → FitsContext s q
     → bytes_of (context layout s till moment q) ≡ bytes_of (context layout t till moment was) → question_of config s r ≡ Some q
 by-request layout config other s t till moment (request.Release n amount) q was h routed fits same =
-    let asked : Question = record { kind = kind.Release; point = n; product = 0; asked = amount; slot = (slots_of config n).0 } in
-    let a : Asks other t n amount was = asks other t n amount was (at_number t.points n) refl (ok-is (release_question other t n amount) was h) in
-    let to : Routes s n asked q = routes s n asked q (at_number s.points n) refl routed in
-    let here : q.point ≡ n = ap (λ (x : Question). x.point) to.question in
-    let there : was.point ≡ n = ap (λ (x : Question). x.point) a.question in
-    let ready : is_ready to.point.state ≡ true =
-    same-ready layout s t till moment n n q was to.point a.point here to.is_point there a.is_point same ∙ a.ready in
-    let few : length to.point.unpaid ≡ length a.point.unpaid =
-    same-unpaid layout s t till moment n n q was to.point a.point here to.is_point there a.is_point fits.unpaid a.room same in
-    let room : nat_lt (length to.point.unpaid) 2 ≡ true = lt-ltb (length to.point.unpaid) 2 (omega (arith, few, a.room)) in
-    ap result_ok (release-again config s n amount to.point to.is_point a.within ready room) ∙ ap (λ x. Some x) (sym to.question)
+    ap result_ok (by-point layout s t till moment (release_of config n amount) (release_of other n amount) q was refl refl
+    (ok-is (release_question other t n amount) was h) routed fits same)
 by-request layout config other s t till moment (request.Preset n amount) q was h routed fits same =
-    let asked : Question = record { kind = kind.Preset; point = n; product = 0; asked = amount; slot = (slots_of config n).1 } in
-    let a : AsksPreset other t n amount was = asks-preset other t n amount was (at_number t.points n) refl (ok-is (preset_question other t n amount) was h) in
-    let to : Routes s n asked q = routes s n asked q (at_number s.points n) refl routed in
-    let here : q.point ≡ n = ap (λ (x : Question). x.point) to.question in
-    let there : was.point ≡ n = ap (λ (x : Question). x.point) a.question in
-    let ready : is_ready to.point.state ≡ true =
-    same-ready layout s t till moment n n q was to.point a.point here to.is_point there a.is_point same ∙ a.ready in
-    ap result_ok (preset-again config s n amount to.point to.is_point a.within ready) ∙ ap (λ x. Some x) (sym to.question)
+    ap result_ok (by-point layout s t till moment (preset_of config n amount) (preset_of other n amount) q was refl refl
+    (ok-is (preset_question other t n amount) was h) routed fits same)
 by-request layout config other s t till moment (request.Price product price) q was h routed fits same =
-    let a : AsksPrice other t product price was = asks-price other t product price was (ok-is (price_question other t product price) was h) in
+    let p : Question = price_question_of config product price in
+    let a : AsksPrice t (price_question_of other product price) was =
+    asks-price t (price_question_of other product price) was (ok-is (price_question other t product price) was h) in
     let free : first_busy s ≡ None = same-busy layout s t till moment q was fits.busy a.free same in
-    ap result_ok (price-again config product price true (first_busy s) a.within free) ∙ routed
+    ap result_ok (price-again p (first_busy s) a.within free) ∙ routed
 by-request layout config other s t till moment _ q was h routed fits same = absurd (none-some was h)
 
 by-till : (layout : Layout) (config other : ConfigValue) (s t : SiteState) (till moment : ℕ) (r : Request) (q was : Question) (b c : Bool)
@@ -193,7 +168,7 @@ pub asked-again : (layout : Layout) (config other : ConfigValue) (s t : SiteStat
 asked-again layout config other s t till moment r q was h routed fits same =
     by-till layout config other s t till moment r q was (is_till config till) (is_till other till) h routed fits same
 
--- ---- a question that is asked has a point or a valid price
+-- ---- if a request asks a program a question, then the question's point exists, or its product and price are valid
 
 some-none : (p : PointState) → ◌≡◌ {A = Option PointState} (Some p) None → ⊥
 some-none p h = cc
@@ -201,21 +176,22 @@ some-none p h = cc
 in-range : (product price : ℕ) → (is_within 1 product 8 && is_within 1 price 9999999) ≡ true → (1 ≤ product) × (product ≤ 8) × (price ≤ 9999999)
 in-range product price h = (grind (arith, nat_tests, h), grind (arith, nat_tests, h), grind (arith, nat_tests, h))
 
-pub well-request : (config : ConfigValue) (s : SiteState) (r : Request) (q : Question) → question_of config s r ≡ Some q → HasPointOrValidPrice s q
-well-request config s (request.Release n amount) q h = λ none.
-    let a : Asks config s n amount q = asks config s n amount q (at_number s.points n) refl (ok-is (release_question config s n amount) q h) in
+kind-well : (s : SiteState) (p q : Question) (k : Kind) → elim k as (λ _. Asked) [ Price ↦ price_at (first_busy s) p | _ ↦ asked_at_point s p ] ≡ Ok q
+    → HasPointOrValidPrice s q
+kind-well s p q Price h = λ none.
+    let a : AsksPrice s p q = asks-price s p q h in
+    rw a.question (in-range p.product p.asked a.within)
+kind-well s p q _ h = λ none.
+    let a : AsksAt s p q = asks-at s p q (at_number s.points p.point) refl h in
     absurd (some-none a.point (sym a.is_point ∙ ap (λ (x : Question). at_number s.points x.point) (sym a.question) ∙ none))
-well-request config s (request.Preset n amount) q h = λ none.
-    let a : AsksPreset config s n amount q = asks-preset config s n amount q (at_number s.points n) refl (ok-is (preset_question config s n amount) q h) in
-    absurd (some-none a.point (sym a.is_point ∙ ap (λ (x : Question). at_number s.points x.point) (sym a.question) ∙ none))
-well-request config s (request.Price product price) q h = λ none.
-    let a : AsksPrice config s product price q = asks-price config s product price q (ok-is (price_question config s product price) q h) in
-    rw a.question (in-range product price a.within)
-well-request config s _ q h = absurd (none-some q h)
+
+pub well-action : (s : SiteState) (a : RequestAction) (q : Question) → question_in s a ≡ Some q → HasPointOrValidPrice s q
+well-action s (action.Decision p) q h = kind-well s p q p.kind (ok-is (admitted s p) q h)
+well-action s _ q h = absurd (none-some q h)
 
 well-till : (config : ConfigValue) (s : SiteState) (r : Request) (q : Question) (b : Bool) → (if b then question_of config s r else None) ≡ Some q
     → HasPointOrValidPrice s q
-well-till config s r q true h = well-request config s r q h
+well-till config s r q true h = well-action s (request_action config r) q h
 well-till config s r q false h = absurd (none-some q h)
 
 pub well-asked : (config : ConfigValue) (s : SiteState) (till : ℕ) (r : Request) (q : Question) → asked_question config s till r ≡ Some q → HasPointOrValidPrice s q

@@ -1,8 +1,9 @@
 -- What two states have in common if they give the same context:
--- - The question's point is ready in both, or in neither.
+-- - The question's point is ready (`Idle` or `Calling`) in both, or in neither.
 -- - The point has equally many unpaid transactions in both, if they are fewer than 2^32 in one and fewer than 2 in the
 --   other.
--- - No point is busy in either, if none is busy in one and fewer than 2^32 are busy in the other.
+-- - No point is busy (has a delivery authorised or under way) in either, if none is busy in one and fewer than 2^32 are
+--   busy in the other.
 use Rattle.std.proofs.Common.{◌≡◌, ℕ, ◌+◌, ◌%◌, ◌<◌, Bool, true, false, List, [], ◌∷◌, ◌++◌, length, take, map, replicate, Option, Some, None, refl, ap, ◌∙◌}
 use Rattle.std.proofs.Common.{sym, arith, get_or, zero, suc, cond}
 use Rattle.std.specs.Prelude.{◌==◌, ◌||◌, ◌-◌, count_by, find, option_map}
@@ -39,8 +40,8 @@ four-same x y fits small h =
     let theirs : little_number 4 (little_bytes 4 y ++ []) ≡ y = little_number-reads_back 4 y [] (omega (arith, small)) in
     sym mine ∙ ap (λ bytes. little_number 4 (bytes ++ [])) h ∙ theirs
 
--- In a context the state of the question's point is at byte 12, the number of busy points at byte 44, and the number of
--- the point's unpaid transactions at byte 48.
+-- This lemma and the next two say where a context has three numbers: the state of the question's point at byte 12, the
+-- number of busy points at byte 44, and the number of the point's unpaid transactions at byte 48.
 laid-state : (a b c x : ℕ) (rest : List Field) → get_or (laid (Four a ∷ Four b ∷ Four c ∷ Four x ∷ rest)) 12 0 ≡ x % 256
 unfolding laid
 laid-state a b c x rest = refl

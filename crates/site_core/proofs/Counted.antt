@@ -1,5 +1,5 @@
--- Two lists of 32 counters agree (`Agrees`) if each of the declared counters 0 to 31 is the same in both. A run's entry
--- has values of declared counters only, and these don't depend on the other counters.
+-- Two lists of 32 counters agree (`Agrees`) if each declared counter is the same in both. The entry of a run has the
+-- values of the declared counters only, and these values don't depend on the other counters.
 use Rattle.std.proofs.Common.{◌≡◌, ℕ, Bool, true, false, map, ◌/◌, ◌%◌, ◌^◌, ◌*◌, ◌<◌, ◌≤◌, ◌⊎◌, length, ◌∙◌, sym, ap, inl, inr, arith, eq-eqb, refl, replicate, Option, Some, None}
 use Rattle.std.specs.Prelude.{IsTrue}
 use Rattle.std.proofs.lemmas.List.{get_or_past}
@@ -21,7 +21,7 @@ pub all-agree : (declared : ℕ) (a b : Counters) → length a ≡ 32 → length
     → ((k : ℕ) → k < 32 → IsTrue (is_declared declared k) → counter a k ≡ counter b k) → Agrees declared b a
 all-agree declared a b la lb same = λ k bit. at-place a b k la lb (λ lt. same k lt (eq-eqb (declared / 2 ^ k % 2) 1 bit)) (cases_lt k 32)
 
--- If no counter from c on is declared, and k is at least c, then an entry has no values of counter k.
+-- If no counter from number c on is declared, and k is at least c, then the entry of a run has no values of counter k.
 pub none_above : (mask : ℕ) (before after : Counters) (c k : ℕ) → mask / 2 ^ c ≡ 0 → c ≤ k → count_of mask before after k ≡ None
 none_above mask before after c k e l =
     let some : 1 ≤ 2 ^ c = one-le-pow c 2 (omega arith) in
@@ -29,7 +29,7 @@ none_above mask before after c k e l =
     let none : mask / 2 ^ k ≡ 0 = div-eq_of_lt (omega (arith, below, pow_mono {i = c} {j = k} l)) in
     ap (λ q. if q % 2 == 1 then Some ((counter before k).0, (counter after k).0) else None) none
 
--- If no counter is declared, an entry has no values of counters.
+-- If a program declares no counter, then the entry of its run has no values of counters.
 pub none-counted : (before after : Counters) → counts 0 before after ≡ replicate 32 None
 unfolding counts
 none-counted before after = refl
@@ -39,8 +39,8 @@ kept-if : (d : Bool) (before after left new : ℕ × ℕ) → new ≡ (if d then
 kept-if true before after left new is = ap (λ (x : ℕ × ℕ). Some (before.0, x.0)) (sym is)
 kept-if false before after left new is = refl
 
--- An entry has the same values of counters, whether the counters after the run are `after` or `new`. `own` are the
--- counters before the run. `new` must have the declared counters of `after`, and all other counters of `own`.
+-- The entry of a run has the same values of counters, whether the counters after the run are `after` or `new`, if `new`
+-- has the declared counters of `after` and all other counters of `own`. `own` are the counters before the run.
 pub counts-adopted : (mask : ℕ) (own after new : Counters) → ((c : ℕ) → counter new c ≡ adopted mask after own c) → counts mask own after ≡ counts mask own new
 unfolding counts
 counts-adopted mask own after new is =

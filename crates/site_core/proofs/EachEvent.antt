@@ -1,15 +1,14 @@
--- A condition that each part of an event leaves true is true after each legal history, if it was true at the start.
+-- If a condition is true of the state that a site begins with, and each part of an event keeps it true (`Stays`), then
+-- it is true of the state after each legal history.
 use Rattle.std.proofs.Common.{◌≡◌, ℕ, ◌-◌, ◌≤◌, List, [], ◌∷◌, Bool, true, false, Option, Some, None, Result, Ok, Err, refl, sym, subst, arith}
 use Rattle.std.specs.Prelude.{◌==◌, ◌+◌, if◌then◌else◌, slice_set, unwrap_or}
 use Rattle.std.specs.Result.{result_ok}
 use Rattle.fuelling_point.specs.Table.{PointState, StepResult, command_step, event_step}
 use Rattle.fuelling_point.specs.declared.kinds.Command.{Command}
-use Rattle.fuelling_point.specs.declared.kinds.Command.TheVariants as command
 use Rattle.fuelling_point.specs.declared.kinds.DispenserEvent.{DispenserEvent}
 use Rattle.fuelling_point.specs.declared.kinds.Order.{Order}
 use Rattle.decision_journal.specs.declared.entries.Entry.{Entry}
 use Rattle.till_request.specs.declared.act.Request.{Request}
-use Rattle.till_request.specs.declared.act.Request.TheVariants as request
 use Rattle.till_request.specs.declared.act.Act.{Act}
 use Rattle.till_request.specs.declared.act.Act.TheVariants as act
 use Rattle.till_request.specs.declared.act.Reply.{Reply}
@@ -19,6 +18,8 @@ use Rattle.bpf_model.specs.Program.{ProgramText, outcome}
 use Rattle.bpf_model.specs.Layouts.{bytes_of}
 use Rattle.program_slots.specs.Value.{Version}
 use Rattle.site_core.specs.declared.question.Question.{Question}
+use Rattle.site_core.specs.declared.question.RequestAction.{RequestAction}
+use Rattle.site_core.specs.declared.question.RequestAction.TheVariants as action
 use Rattle.site_core.specs.Limits.{ConfigValue}
 use Rattle.site_core.specs.State.{SiteState, at_number, opening_state, view_of, with_point}
 use Rattle.site_core.specs.Context.{context}
@@ -28,17 +29,18 @@ use Rattle.site_core.proofs.Holders.{LeavesHeld, command_held, event_held, grant
 use Rattle.std.proofs.lemmas.Bool.Decides.{nat_tests}
 use Rattle.site_core.specs.Decide.{after_command, command_of, granted_amount, is_within}
 use Rattle.site_core.specs.Decide.{Effect, HasPointOrValidPrice, replied, no_such_till, is_till, decided, verdict, run_result, grant}
-use Rattle.site_core.specs.Decide.{release_question, preset_question, price_question}
-use Rattle.site_core.specs.Step.{effect, asked, clears_by, till_command_effect, command_effect, dispenser_effect, event_effect}
+use Rattle.site_core.specs.Decide.{request_action, admitted}
+use Rattle.site_core.specs.Step.{effect, effect_of, asked, clears_by, till_command_effect, command_effect, dispenser_effect, event_effect}
 use Rattle.site_core.specs.Legal.{Legal}
-use Rattle.site_core.proofs.Asking.{well-request}
+use Rattle.site_core.proofs.Asking.{well-action}
 use Rattle.site_core.proofs.Decisions.{decided-refused, decided-none, decided-some}
 use Rattle.site_core.proofs.Grants.{grant-none, grant-some, verdict-deny, verdict-grant}
 use Rattle.site_core.proofs.Points.{till_command_effect-none, till_command_effect-some, dispenser_effect-none, dispenser_effect-some}
 
 -- P stays true after each part of an event: after one point is replaced, after the totals of what was cleared change,
--- after a price of at most 9,999,999 is set, and after a run. `IsHeldWithin` must hold for the new point if it holds
--- for the replaced one.
+-- after a price of at most 9,999,999 is set, and after a run. The new point must have this property if the replaced one
+-- has it: each of its unpaid transactions is held by nobody, or by a till whose number is at most `tills`
+-- (`IsHeldWithin`).
 pub record Stays (tills : ℕ) (P : SiteState → Type 0) : Type 0 where
   pub at_point : (s : SiteState) (n : ℕ) (p new : PointState) → at_number s.points n ≡ Some p → (IsHeldWithin tills p → IsHeldWithin tills new) → P s
       → P (with_point s n new)
@@ -106,27 +108,15 @@ module _ (tills : ℕ) (P : SiteState → Type 0) (stays : Stays tills P) where
   by_event s n event (Some p) at h =
       subst Leaves (sym (dispenser_effect-some s n event p at)) (by_report s n p (event_step p event) at (event_held tills p event) h)
 
-  by_request : (config : ConfigValue) (past : List Entry) (s : SiteState) (till moment : ℕ) (r : Request) → till ≤ tills → P s
-      → Leaves (asked config past s till moment r)
-  by_request config past s till moment (request.Release n a) le h =
-      by_question config past s till moment (release_question config s n a) (well-request config s (request.Release n a)) h
-  by_request config past s till moment (request.Preset n a) le h =
-      by_question config past s till moment (preset_question config s n a) (well-request config s (request.Preset n a)) h
-  by_request config past s till moment (request.Price n a) le h =
-      by_question config past s till moment (price_question config s n a) (well-request config s (request.Price n a)) h
-  by_request config past s till moment (request.OpenPoint n) le h = by_command s till n command.OpenPoint (at_number s.points n) refl le h
-  by_request config past s till moment (request.ClosePoint n) le h = by_command s till n command.ClosePoint (at_number s.points n) refl le h
-  by_request config past s till moment (request.Suspend n) le h = by_command s till n command.Suspend (at_number s.points n) refl le h
-  by_request config past s till moment (request.Resume n) le h = by_command s till n command.Resume (at_number s.points n) refl le h
-  by_request config past s till moment (request.Stop n) le h = by_command s till n command.Stop (at_number s.points n) refl le h
-  by_request config past s till moment (request.Lock n x) le h = by_command s till n (command.Lock x) (at_number s.points n) refl le h
-  by_request config past s till moment (request.Unlock n x) le h = by_command s till n (command.Unlock x) (at_number s.points n) refl le h
-  by_request config past s till moment (request.Clear n x) le h = by_command s till n (command.Clear x) (at_number s.points n) refl le h
-  by_request config past s till moment (request.Show n) le h = h
+  by_action : (config : ConfigValue) (past : List Entry) (s : SiteState) (till moment : ℕ) (a : RequestAction) → till ≤ tills → P s
+      → Leaves (effect_of config past s till moment a)
+  by_action config past s till moment (action.Decision q) le h = by_question config past s till moment (admitted s q) (well-action s (action.Decision q)) h
+  by_action config past s till moment (action.Command n command) le h = by_command s till n command (at_number s.points n) refl le h
+  by_action config past s till moment (action.Show n) le h = h
 
   by_till : (config : ConfigValue) (past : List Entry) (s : SiteState) (till moment : ℕ) (r : Request) (b : Bool) → (b ≡ true → till ≤ tills) → P s
       → Leaves (if b then asked config past s till moment r else replied no_such_till s)
-  by_till config past s till moment r true le h = by_request config past s till moment r (le refl) h
+  by_till config past s till moment r true le h = by_action config past s till moment (request_action config r) (le refl) h
   by_till config past s till moment r false le h = h
 
   by_act : (config : ConfigValue) (past : List Entry) (s : SiteState) (moment : ℕ) (a : Act) → config.tills ≡ tills → P s → Leaves (effect config past s moment a)

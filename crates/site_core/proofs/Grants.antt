@@ -1,9 +1,9 @@
 -- What a grant does after a program answered a till's question about a release, a preset or a price. If the question's
 -- point exists, the grant is a command of the till to this point, with the amount `granted_amount`. If not, the grant
 -- sets the price of the question's product.
--- `verdict` gives the same reply and the same new state as `applied_answer` does in the state with the counters that
--- the program left. One more transaction of a point, or a program's run, keeps the state's numbers within their bounds
--- (`Bounded`).
+-- The reply to a decision and the state after it (`verdict`) are those that the program's answer leads to
+-- (`applied_answer`) in the state with the counters that the program left. One more transaction of a point, or a
+-- program's run, keeps the state's numbers within their bounds (`Bounded`).
 use Rattle.std.proofs.Common.{◌≡◌, ℕ, ◌+◌, ◌-◌, ◌*◌, ◌≤◌, true, false, length, Option, Some, None, Result, Ok, Err, slice_set, arith, ap, ◌∙◌, sym, subst}
 use Rattle.std.proofs.Common.{get_or, refl, Bool}
 use Rattle.decision_journal.specs.declared.entries.Run.{Run}
@@ -24,8 +24,8 @@ use Rattle.site_core.specs.Context.{context}
 use Rattle.site_core.specs.Decide.{Effect, denied, grant, granted_amount, command_of, after_command, verdict, counts}
 use Rattle.site_core.proofs.Points.{at_number-read}
 
--- If a call did what the table says (`FollowsTable`), then the new point is the one that the table gives, or the old
--- point if the table refuses the command.
+-- If a call did what the table of a fuelling point's steps says (`FollowsTable`), then the new point is the one that
+-- the table gives, or the old point if the table refuses the command.
 after-is : (a : StepResult (Option ℕ)) (p new : PointState) (outcome : Result (Option ℕ) PointFault) → FollowsTable a p outcome new
     → (elim a as (λ _. PointState) [ Ok o ↦ o.0 | Err f ↦ p ]) ≡ new
 after-is (Ok (q, given)) p new outcome h = sym h.1
@@ -120,11 +120,12 @@ module _ (s : SiteState) (till moment r : ℕ) (q : Question) (v : Version) (c :
       verdict-grant s till moment r g.0 q v c g.1 some refl
       ∙ ap effect-of (sym (applied_answer-grant (with_counters s c) till v.number r q some) ∙ is)
 
-  -- `verdict` gives the reply and the state that `applied_answer` gives for the same answer, in the state `s` with the
-  -- counters `c` that the program left. The effect's run is `made-run`.
+  -- The reply to a decision and the state after it (`verdict`) are those that the program's answer leads to
+  -- (`applied_answer`) in the state `s` with the counters `c` that the program left. The decision's run is `made-run`.
   pub verdict-is : verdict s till moment q v r c ≡ record { reply = given; run = Some made-run; after = new }
   verdict-is = verdict-by (r == 0) refl
 
--- A run changes only counters, so `Bounded` still holds after it.
+-- A run changes only counters. So if the state's numbers are within their bounds after k entries (`Bounded`), they
+-- still are after a run.
 pub bounded-counted : (k : ℕ) (s : SiteState) (c : Counters) → Bounded k s → Bounded k (with_counters s c)
 bounded-counted k s c b = record { last = b.last; cleared = b.cleared; clears = b.clears }

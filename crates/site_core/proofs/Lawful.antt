@@ -1,9 +1,10 @@
 -- Each granted release of a legal history is lawful (`LawfulRelease`). The reply names the version in force, and the
--- run of this version ends with an answer that isn't 0. The point is ready and has room. The granted amount is the
--- least of the amount asked, the answer, and the point's preset if it has one.
-use Rattle.std.proofs.Common.{◌≡◌, ℕ, ◌<◌, Bool, true, false, List, [], ◌∷◌, length, Option, Some, None, Result, Ok, Err, refl, ap, ◌∙◌, sym}
+-- run of this version ends with an answer that isn't 0. The point is ready (`Idle` or `Calling`) and has fewer than two
+-- unpaid transactions. The granted amount is the least of the amount asked, the answer, and the point's preset if it
+-- has one.
+use Rattle.std.proofs.Common.{◌≡◌, ℕ, Bool, true, false, List, [], ◌∷◌, length, Option, Some, None, Result, Ok, Err, refl, ap, ◌∙◌, sym}
 use Rattle.std.proofs.lemmas.Bool.{ltb-true, eqb-false}
-use Rattle.std.specs.Prelude.{IsTrue, if◌then◌else◌, ◌==◌, nat_lt}
+use Rattle.std.specs.Prelude.{IsTrue, if◌then◌else◌, ◌==◌}
 use Rattle.fuelling_point.specs.Table.{PointState}
 use Rattle.fuelling_point.specs.States.{is_ready}
 use Rattle.decision_journal.specs.declared.entries.Entry.{Entry}
@@ -24,11 +25,12 @@ use Rattle.site_core.specs.State.{SiteState, at_number, view_of}
 use Rattle.site_core.specs.Context.{context}
 use Rattle.site_core.specs.History.{in_force}
 use Rattle.site_core.specs.Decide.{Effect, replied, no_such_point, no_such_till, denied, is_till, bad_amount, transactions_full, wrong_state, no_program}
-use Rattle.site_core.specs.Decide.{is_within, refuse_unless, slots_of, release_question, decided, verdict, run_result, grant, granted_amount, is_decided}
+use Rattle.site_core.specs.Decide.{is_within, refuse_unless, slots_of, has_room, release_of, asked_at_point, release_question, decided, verdict}
+use Rattle.site_core.specs.Decide.{run_result, grant, granted_amount, is_decided}
 use Rattle.site_core.specs.Step.{effect}
 use Rattle.site_core.specs.Legal.{Legal, LawfulRelease, LawfulEntry, LawfulReleases}
-use Rattle.site_core.proofs.Points.{release-none, release-some}
-use Rattle.site_core.proofs.Undecided.{refuses, release-no}
+use Rattle.site_core.proofs.Undecided.{refuses, admitted-no}
+use Rattle.site_core.proofs.Points.{asked-none, asked-some}
 use Rattle.site_core.proofs.Decisions.{decided-refused, decided-none, decided-some}
 
 -- A legal history leads to only one state.
@@ -37,15 +39,15 @@ legal-unique config [] s t l m = l ∙ sym m
 legal-unique config (e ∷ past) s t l m =
     l.3.leaves ∙ ap (λ b. (effect config past b e.moment e.act).after) (legal-unique config past l.0 m.0 l.1 m.1) ∙ sym m.3.leaves
 
--- The question `q` is a release of `amount` at point `n`. The point is ready and has room for a transaction, and the
--- amount is in its range.
-pub record Asks (config : ConfigValue) (s : SiteState) (n amount : ℕ) (q : Question) : Type 0 where
+-- The question `q` is `p`, and its point exists. The point is ready (`Idle` or `Calling`) and, if the question is about
+-- a release, has fewer than two unpaid transactions. The amount is in its range.
+pub record AsksAt (s : SiteState) (p q : Question) : Type 0 where
   pub point : PointState
-  pub is_point : at_number s.points n ≡ Some point
-  pub question : q ≡ record { kind = kind.Release; point = n; product = 0; asked = amount; slot = (slots_of config n).0 }
-  pub within : is_within 1 amount 999999999 ≡ true
+  pub is_point : at_number s.points p.point ≡ Some point
+  pub question : q ≡ p
+  pub within : is_within 1 p.asked 999999999 ≡ true
   pub ready : IsTrue (is_ready point.state)
-  pub room : length point.unpaid < 2
+  pub room : IsTrue (has_room p.kind point)
 
 abbrev pub Asked : Type 0
 Asked = Result Question Reply
@@ -62,14 +64,12 @@ three-ok true true false x y z p q h = absurd (err-ok z q h)
 three-ok true false c x y z p q h = absurd (err-ok y q h)
 three-ok false b c x y z p q h = absurd (err-ok x q h)
 
-pub asks : (config : ConfigValue) (s : SiteState) (n amount : ℕ) (q : Question) (o : Option PointState) → at_number s.points n ≡ o
-    → release_question config s n amount ≡ Ok q → Asks config s n amount q
-asks config s n amount q None at h = absurd (err-ok no_such_point q (sym (release-none config s n amount at) ∙ h))
-asks config s n amount q (Some p) at h =
-    let asked : Question = record { kind = kind.Release; point = n; product = 0; asked = amount; slot = (slots_of config n).0 } in
-    let all = three-ok (is_within 1 amount 999999999) (is_ready p.state) (nat_lt (length p.unpaid) 2) bad_amount (wrong_state p.state) transactions_full asked q
-    (sym (release-some config s n amount p at) ∙ h) in
-    record { point = p; is_point = at; question = all.3; within = all.0; ready = all.1; room = ltb-true (length p.unpaid) 2 all.2 }
+pub asks-at : (s : SiteState) (p q : Question) (o : Option PointState) → at_number s.points p.point ≡ o → asked_at_point s p ≡ Ok q → AsksAt s p q
+asks-at s p q None at h = absurd (err-ok no_such_point q (sym (asked-none s p at) ∙ h))
+asks-at s p q (Some x) at h =
+    let all = three-ok (is_within 1 p.asked 999999999) (is_ready x.state) (has_room p.kind x) bad_amount (wrong_state x.state) transactions_full p q
+    (sym (asked-some s p x at) ∙ h) in
+    record { point = x; is_point = at; question = all.3; within = all.0; ready = all.1; room = all.2 }
 
 -- If the program's answer is 0, the reply is a denial. So a grant means that the answer isn't 0.
 verdict-denied : (s : SiteState) (till moment : ℕ) (q : Question) (v : Version) (r : ℕ) (c : Counters) → (r == 0) ≡ true
@@ -90,7 +90,7 @@ unfolding grant
 grant-release s till n amount r slot p at = rw (at, grant)
 
 by-answer : (config : ConfigValue) (past : List Entry) (s : SiteState) (till moment n amount g v r : ℕ) (q : Question) (w : Version) (c : Counters)
-    (zero : Bool) → (r == 0) ≡ zero → Asks config s n amount q → in_force config q.slot past ≡ Some w
+    (zero : Bool) → (r == 0) ≡ zero → AsksAt s (release_of config n amount) q → in_force config q.slot past ≡ Some w
     → outcome w.program (bytes_of (context w.program.layout s till moment q)) (view_of s) s.counters ≡ Ended r c
     → reply.Granted g v ≡ (verdict s till moment q w r c).reply → LawfulRelease config past s till moment n amount g v
 by-answer config past s till moment n amount g v r q w c true zero a some exit h = absurd (let e = h ∙ verdict-denied s till moment q w r c zero in cc)
@@ -110,21 +110,23 @@ by-answer config past s till moment n amount g v r q w c false zero a some exit 
       exits = sym (ap (λ x. outcome w.program (bytes_of (context w.program.layout s till moment x)) (view_of s) s.counters) a.question) ∙ exit;
       allowed = eqb-false r 0 zero;
       ready = a.ready;
-      room = a.room;
+      room = ltb-true (length a.point.unpaid) 2 a.room;
       grant = given ∙ ap (λ x. (grant (record s { counters = c }) till x r).0) a.question ∙ grant-release
           (record s { counters = c }) till n amount r (slots_of config n).0 a.point a.is_point;
     }
 
 by-outcome : (config : ConfigValue) (past : List Entry) (s : SiteState) (till moment n amount g v : ℕ) (q : Question) (w : Version) (o : Outcome)
-    → Asks config s n amount q → in_force config q.slot past ≡ Some w → outcome w.program (bytes_of (context w.program.layout s till moment q)) (view_of s) s.counters
-    ≡ o → reply.Granted g v ≡ (verdict s till moment q w (run_result o s.counters).0 (run_result o s.counters).1).reply → LawfulRelease config past s till moment n amount g v
+    → AsksAt s (release_of config n amount) q → in_force config q.slot past ≡ Some w
+    → outcome w.program (bytes_of (context w.program.layout s till moment q)) (view_of s) s.counters ≡ o
+    → reply.Granted g v ≡ (verdict s till moment q w (run_result o s.counters).0 (run_result o s.counters).1).reply
+    → LawfulRelease config past s till moment n amount g v
 by-outcome config past s till moment n amount g v q w (Ended r c) a some is h =
     by-answer config past s till moment n amount g v r q w c (r == 0) refl a some is h
 by-outcome config past s till moment n amount g v q w GotStuck a some is h = absurd (let e = h ∙ verdict-denied s till moment q w 0 s.counters refl in cc)
 by-outcome config past s till moment n amount g v q w (Running t) a some is h = absurd (let e = h ∙ verdict-denied s till moment q w 0 s.counters refl in cc)
 
 by-version : (config : ConfigValue) (past : List Entry) (s : SiteState) (till moment n amount g v : ℕ) (q : Question) (o : Option Version)
-    → Asks config s n amount q → in_force config q.slot past ≡ o → reply.Granted g v ≡ (decided config past s till moment (Ok q)).reply
+    → AsksAt s (release_of config n amount) q → in_force config q.slot past ≡ o → reply.Granted g v ≡ (decided config past s till moment (Ok q)).reply
     → LawfulRelease config past s till moment n amount g v
 by-version config past s till moment n amount g v q None a none h =
     absurd (let e : reply.Granted g v ≡ no_program q.slot = h ∙ ap (λ (x : Effect). x.reply) (decided-none config past s till moment q none) in cc)
@@ -136,10 +138,11 @@ by-version config past s till moment n amount g v q (Some w) a some h =
 by-question : (config : ConfigValue) (past : List Entry) (s : SiteState) (till moment n amount g v : ℕ) (x : Result Question Reply)
     → release_question config s n amount ≡ x → reply.Granted g v ≡ (decided config past s till moment x).reply → LawfulRelease config past s till moment n amount g v
 by-question config past s till moment n amount g v (Ok q) is h =
-    by-version config past s till moment n amount g v q (in_force config q.slot past) (asks config s n amount q (at_number s.points n) refl is) refl h
+    by-version config past s till moment n amount g v q (in_force config q.slot past)
+    (asks-at s (release_of config n amount) q (at_number s.points n) refl is) refl h
 by-question config past s till moment n amount g v (Err r) is h =
     let same : reply.Granted g v ≡ r = h ∙ ap (λ (x : Effect). x.reply) (decided-refused config past s till moment r) in
-    let no : is_decided r ≡ false = sym (ap refuses is) ∙ release-no config s n amount (at_number s.points n) refl in
+    let no : is_decided r ≡ false = sym (ap refuses is) ∙ admitted-no s (release_of config n amount) in
     let yes : true ≡ is_decided r = ap is_decided same in
     absurd (let e : true ≡ false = yes ∙ no in cc)
 

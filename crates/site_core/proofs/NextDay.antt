@@ -25,8 +25,8 @@ length-followed site later =
       length-reverse site.history,
     )
 
--- The next entry after `later` on the next day has a number that, raised by the length of the site's history, is the
--- number of the next entry after both days (`followed`).
+-- The number of the next entry after `later` on the next day, raised by the length of the site's history, is the number
+-- of the next entry after the history of both days (`followed`).
 numbers : (site : SiteValue) (later : List Entry) → length later + 1 + length site.history ≡ length (followed site later) + 1
 numbers site later = let l = length-followed site later in omega arith
 

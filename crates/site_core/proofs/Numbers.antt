@@ -12,7 +12,7 @@ use Rattle.site_core.specs.Opening.{OpeningValue, IsOpening, IsNewNumber, HaveOw
 use Rattle.site_core.specs.Limits.{ConfigValue, IsConfig}
 use Rattle.site_core.specs.History.{in_force, loaded, opening_rule, versions, versions_before}
 
--- ---- if the numbers in the slots differ, they still do when a new number comes into a slot or into one more slot
+-- ---- if no two slots have versions with the same number, this stays true when a version with a new number comes in
 
 pub own_head : (v : Version) (rest : List (Option Version)) → HaveOwnNumbers (Some v ∷ rest) → IsNewNumber rest v.number
 unfolding IsDistinct
@@ -181,7 +181,8 @@ rule-up_to : (n : ℕ) (rule : Option Version) → IsRule n rule → IsUpTo n ru
 rule-up_to n None h = tt
 rule-up_to n (Some v) h = h.1
 
--- If `IsRule n` holds for each slot of a list, then `IsUpTo n` holds at each place, also past the list's end.
+-- Let each slot of a list be empty, or have a version that can be one of the first n (`IsRule n`). Then at each place,
+-- also past the list's end, there is no version, or one whose number is at most n (`IsUpTo n`).
 at_or_none : (n : ℕ) (rules : List (Option Version)) (slot : ℕ) → All (IsRule n) rules → IsUpTo n (get_or rules slot None)
 at_or_none n [] slot all = tt
 at_or_none n (x ∷ rest) zero all = rule-up_to n x (all 0 None (omega arith))

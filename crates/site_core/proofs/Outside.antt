@@ -7,11 +7,9 @@ use Rattle.std.proofs.Common.{inl, inr}
 use Rattle.std.specs.Result.{result_ok}
 use Rattle.fuelling_point.specs.Table.{PointState, StepResult, command_step}
 use Rattle.fuelling_point.specs.declared.kinds.Command.{Command}
-use Rattle.fuelling_point.specs.declared.kinds.Command.TheVariants as command
 use Rattle.decision_journal.specs.declared.entries.Entry.{Entry}
 use Rattle.decision_journal.specs.declared.entries.Run.{Run}
 use Rattle.till_request.specs.declared.act.Request.{Request}
-use Rattle.till_request.specs.declared.act.Request.TheVariants as request
 use Rattle.till_request.specs.declared.act.Act.{Act}
 use Rattle.till_request.specs.declared.act.Act.TheVariants as act
 use Rattle.bpf_model.specs.Machine.{Counters, counter}
@@ -21,18 +19,20 @@ use Rattle.program_slots.specs.Value.{SlotsValue}
 use Rattle.program_slots.specs.Value.{Version}
 use Rattle.bpf_model.specs.Layouts.{bytes_of}
 use Rattle.site_core.specs.declared.question.Question.{Question}
+use Rattle.site_core.specs.declared.question.RequestAction.{RequestAction}
+use Rattle.site_core.specs.declared.question.RequestAction.TheVariants as action
 use Rattle.site_core.specs.Limits.{ConfigValue}
 use Rattle.site_core.specs.State.{SiteState, at_number, view_of}
 use Rattle.site_core.specs.Context.{context}
 use Rattle.site_core.specs.History.{loaded, in_force, versions}
-use Rattle.site_core.specs.Decide.{Effect, replied, no_such_till, is_decided, is_till, decided, verdict, run_result, grant, release_question, preset_question}
-use Rattle.site_core.specs.Decide.{price_question}
-use Rattle.site_core.specs.Step.{effect, asked, till_command_effect, command_effect}
+use Rattle.site_core.specs.Decide.{Effect, replied, no_such_till, is_decided, is_till, decided, verdict, run_result, grant}
+use Rattle.site_core.specs.Decide.{request_action, admitted, question_in, question_of, asked_question}
+use Rattle.site_core.specs.Step.{effect, effect_of, asked, till_command_effect, command_effect}
 use Rattle.site_core.specs.SiteInvariant.{Agrees, Performs}
 use Rattle.site_core.specs.Legal.{GoodLoad}
 use Rattle.site_core.specs.Histories.{load_refusal}
 use Rattle.site_core.specs.Draft.{context_for, DraftValue, ReadyValue, basis_of, routed}
-use Rattle.site_core.specs.Asked.{asked_question, question_of, StillAsked, IsDraft, Drafts, WouldRun, basis_in}
+use Rattle.site_core.specs.Asked.{StillAsked, IsDraft, Drafts, WouldRun, basis_in}
 use Rattle.site_core.specs.declared.draft.Begin.{Begin}
 use Rattle.site_core.specs.declared.draft.Begin.TheVariants as begin
 use Rattle.site_core.specs.Outside.{run_now, reply_now, Begins, IsFreshDraft, IsRunOf, basis, drafted}
@@ -41,22 +41,20 @@ use Rattle.site_core.proofs.Points.{till_command_effect-none, till_command_effec
 use Rattle.site_core.proofs.Decisions.{decided-refused, decided-none, decided-some, decided-ended}
 use Rattle.site_core.proofs.Grants.{verdict-deny, verdict-grant}
 use Rattle.site_core.proofs.Lawful.{Asked}
-use Rattle.site_core.proofs.Undecided.{effect-tells}
+use Rattle.site_core.proofs.Undecided.{effect-iff-run}
 use Rattle.site_core.proofs.Asking.{ok-is, none-some, asked-routed}
 
 -- ---- if a request asks a program a question, then the step's effect is that of the question (`decided`)
 
-asked-request : (config : ConfigValue) (past : List Entry) (s : SiteState) (till moment : ℕ) (r : Request) (q : Question) → question_of config s r ≡ Some q
-    → asked config past s till moment r ≡ decided config past s till moment (Ok q)
-asked-request config past s till moment (request.Release n a) q h = ap (decided config past s till moment) (ok-is (release_question config s n a) q h)
-asked-request config past s till moment (request.Preset n a) q h = ap (decided config past s till moment) (ok-is (preset_question config s n a) q h)
-asked-request config past s till moment (request.Price n a) q h = ap (decided config past s till moment) (ok-is (price_question config s n a) q h)
-asked-request config past s till moment _ q h = absurd (none-some q h)
+action-decided : (config : ConfigValue) (past : List Entry) (s : SiteState) (till moment : ℕ) (a : RequestAction) (q : Question) → question_in s a ≡ Some q
+    → effect_of config past s till moment a ≡ decided config past s till moment (Ok q)
+action-decided config past s till moment (action.Decision p) q h = ap (decided config past s till moment) (ok-is (admitted s p) q h)
+action-decided config past s till moment _ q h = absurd (none-some q h)
 
 asked-till : (config : ConfigValue) (past : List Entry) (s : SiteState) (till moment : ℕ) (r : Request) (q : Question) (b : Bool)
     → (if b then question_of config s r else None) ≡ Some q → (if b then asked config past s till moment r else replied no_such_till s)
     ≡ decided config past s till moment (Ok q)
-asked-till config past s till moment r q true h = asked-request config past s till moment r q h
+asked-till config past s till moment r q true h = action-decided config past s till moment (request_action config r) q h
 asked-till config past s till moment r q false h = absurd (none-some q h)
 
 pub effect-decided : (config : ConfigValue) (past : List Entry) (s : SiteState) (till moment : ℕ) (r : Request) (q : Question)
@@ -78,7 +76,8 @@ agrees-till config slots past entry till r a is =
 -- all of these are true:
 -- - In the state `s` the draft isn't stale (`StillAsked`), and the slots agree with the history.
 -- - The draft's program, run on the draft's context and view and on the counters of `s`, ends with `r0` and `after`.
--- - For `r0` and `after`, `verdict` gives the reply and the run of `entry`, and the state `new`.
+-- - A decision with the answer `r0` and the counters `after` (`verdict`) has the reply and the run of `entry`, and
+--   leads to the state `new`.
 -- - `entry` has the draft's moment, till and request.
 pub performs-applied_answer : (config : ConfigValue) (past : List Entry) (s new : SiteState) (slots : SlotsValue) (draft : DraftValue) (q : Question) (r0 : ℕ)
     (after : Counters) (entry : Entry) → entry.moment ≡ draft.moment → entry.act ≡ act.Till draft.till draft.request → StillAsked config s slots draft q
@@ -108,35 +107,25 @@ answer-run : (s : SiteState) (n : ℕ) (a : StepResult (Option ℕ)) → (comman
 answer-run s n (Ok (p, cleared)) = refl
 answer-run s n (Err fault) = refl
 
-point-run : (s : SiteState) (till n : ℕ) (c : Command) (o : Option PointState) → at_number s.points n ≡ o → (till_command_effect s till n c).run ≡ None
-point-run s till n c None at = ap (λ (e : Effect). e.run) (till_command_effect-none s till n c at)
-point-run s till n c (Some p) at = ap (λ (e : Effect). e.run) (till_command_effect-some s till n c p at) ∙ answer-run s n (command_step p till c)
+till_command_effect-run : (s : SiteState) (till n : ℕ) (c : Command) (o : Option PointState) → at_number s.points n ≡ o
+    → (till_command_effect s till n c).run ≡ None
+till_command_effect-run s till n c None at = ap (λ (e : Effect). e.run) (till_command_effect-none s till n c at)
+till_command_effect-run s till n c (Some p) at = ap (λ (e : Effect). e.run) (till_command_effect-some s till n c p at) ∙ answer-run s n (command_step p till c)
 
-till_command_effect-run : (s : SiteState) (till n : ℕ) (c : Command) → (till_command_effect s till n c).run ≡ None
-till_command_effect-run s till n c = point-run s till n c (at_number s.points n) refl
-
-refused-run : (config : ConfigValue) (past : List Entry) (s : SiteState) (till moment : ℕ) (x : Asked) → result_ok x ≡ None → (decided config past s till moment x).run ≡ None
+refused-run : (config : ConfigValue) (past : List Entry) (s : SiteState) (till moment : ℕ) (x : Asked) → result_ok x ≡ None
+    → (decided config past s till moment x).run ≡ None
 refused-run config past s till moment (Ok q) h = absurd (none-some q (sym h))
 refused-run config past s till moment (Err r) h = ap (λ (e : Effect). e.run) (decided-refused config past s till moment r)
 
-request-run : (config : ConfigValue) (past : List Entry) (s : SiteState) (till moment : ℕ) (r : Request) → question_of config s r ≡ None
-    → (asked config past s till moment r).run ≡ None
-request-run config past s till moment (request.Release n a) h = refused-run config past s till moment (release_question config s n a) h
-request-run config past s till moment (request.Preset n a) h = refused-run config past s till moment (preset_question config s n a) h
-request-run config past s till moment (request.Price n a) h = refused-run config past s till moment (price_question config s n a) h
-request-run config past s till moment (request.OpenPoint n) h = till_command_effect-run s till n command.OpenPoint
-request-run config past s till moment (request.ClosePoint n) h = till_command_effect-run s till n command.ClosePoint
-request-run config past s till moment (request.Suspend n) h = till_command_effect-run s till n command.Suspend
-request-run config past s till moment (request.Resume n) h = till_command_effect-run s till n command.Resume
-request-run config past s till moment (request.Stop n) h = till_command_effect-run s till n command.Stop
-request-run config past s till moment (request.Lock n x) h = till_command_effect-run s till n (command.Lock x)
-request-run config past s till moment (request.Unlock n x) h = till_command_effect-run s till n (command.Unlock x)
-request-run config past s till moment (request.Clear n x) h = till_command_effect-run s till n (command.Clear x)
-request-run config past s till moment (request.Show n) h = refl
+action-run : (config : ConfigValue) (past : List Entry) (s : SiteState) (till moment : ℕ) (a : RequestAction) → question_in s a ≡ None
+    → (effect_of config past s till moment a).run ≡ None
+action-run config past s till moment (action.Decision q) h = refused-run config past s till moment (admitted s q) h
+action-run config past s till moment (action.Command n command) h = till_command_effect-run s till n command (at_number s.points n) refl
+action-run config past s till moment (action.Show n) h = refl
 
 till-run : (config : ConfigValue) (past : List Entry) (s : SiteState) (till moment : ℕ) (r : Request) (b : Bool)
     → (if b then question_of config s r else None) ≡ None → (if b then asked config past s till moment r else replied no_such_till s).run ≡ None
-till-run config past s till moment r true h = request-run config past s till moment r h
+till-run config past s till moment r true h = action-run config past s till moment (request_action config r) h
 till-run config past s till moment r false h = refl
 
 -- If a till's request asks no question, or the slot of its question has no program, then the site's step for this
@@ -170,7 +159,7 @@ runs-some config past s till moment r q v h some =
 -- grant nor S24 (a denial by a program).
 undecided : (site : SiteValue) (till moment : ℕ) (r : Request) → run_now site till moment r ≡ None → is_decided (reply_now site till moment r) ≡ false
 undecided site till moment r none =
-    effect-tells site.config (reverse site.history) site.state moment (act.Till till r) ∙ ap (λ (run : Option Run). is_some run) none
+    effect-iff-run site.config (reverse site.history) site.state moment (act.Till till r) ∙ ap (λ (run : Option Run). is_some run) none
 
 begins-undecided : (site : SiteValue) (till moment : ℕ) (r : Request) → run_now site till moment r ≡ None
     → (run_now site till moment r ≡ None) × (is_decided (reply_now site till moment r) ≡ false)
@@ -224,7 +213,9 @@ pub begins : (config : ConfigValue) (history : List Entry) (s : SiteState) (slot
 begins config history s slots till moment r begin.Direct agrees less d = inr (begins-none config history s slots till moment r agrees d)
 begins config history s slots till moment r (begin.Run draft) agrees less d = (less, begun config history s slots till moment r draft agrees d)
 
--- As `begins`, for the result of a call. Nothing is claimed if the call returned an error.
+-- If a call of `begin` returned without an error, then what it returned fits the site (`Begins`). It must have returned
+-- a draft made in this state, or Direct because no program would be run (`Drafts`). The history must have room, and the
+-- slots must agree with it. Nothing is claimed if the call returned an error.
 pub begins-ok : (config : ConfigValue) (history : List Entry) (s : SiteState) (slots : SlotsValue) (till moment : ℕ) (r : Request)
     (result : Result Begin AllocError) → Agrees config slots (reverse history) → length history < 1048576
     → IfOk result (λ b. Drafts config s slots till moment r (drafted b))
@@ -232,8 +223,9 @@ pub begins-ok : (config : ConfigValue) (history : List Entry) (s : SiteState) (s
 begins-ok config history s slots till moment r (Ok b) agrees less d = begins config history s slots till moment r b agrees less d
 begins-ok config history s slots till moment r (Err e) agrees less d = d
 
--- If the history isn't full, `result` is an error, and `WouldRun` holds for the request, then the step would run a
--- program for the request now. Nothing is claimed if `result` isn't an error.
+-- If a call of `begin` returned an error, then the site's step would run a program for the request now. The history
+-- must have room, the slots must agree with it, and after an error the request must ask a question whose slot has a
+-- program (`WouldRun`). Nothing is claimed if the call returned no error.
 pub begins-err : (config : ConfigValue) (history : List Entry) (s : SiteState) (slots : SlotsValue) (till moment : ℕ) (r : Request)
     (result : Result Begin AllocError) → Agrees config slots (reverse history) → length history < 1048576
     → OnErr result (WouldRun config s slots till r)

@@ -1,5 +1,5 @@
--- A command or an event at a point that doesn't exist is answered with S20. Otherwise its effect follows from what the
--- point returns for it.
+-- A till's command or a dispenser's event at a fuelling point that doesn't exist is answered with S20. If the point
+-- exists, the effect follows from what the point returns for the command or the event.
 use Rattle.std.proofs.Common.{◌≡◌, ℕ, ◌+◌, ◌-◌, ◌<◌, ◌≤◌, List, length, Option, Some, None, Result, Ok, Err, slice_set, refl, arith, ap, ◌∙◌, sym, get_or}
 use Rattle.std.specs.Prelude.{unwrap_or}
 use Rattle.std.proofs.lemmas.Bool.Decides.{nat_tests}

@@ -1,7 +1,7 @@
--- Let the version, the context, the points and the prices be the same in a state and in a draft (`SameBasis`). If the
--- declared counters are the same too, then the draft isn't stale in this state (`StillAsked`), provided that the counts
--- in the context fit into their bytes (`FitsContext`). If a declared counter differs, then the first such counter is
--- the first difference (`Differs`).
+-- Let the version, the context, the points and the prices be the same in a state and in a draft (`SameBasis`).
+-- - If the declared counters are the same too, and the counts in the context fit into their bytes (`FitsContext`), then
+--   the draft isn't stale in this state (`StillAsked`).
+-- - If a declared counter differs, then the first such counter is the first difference (`Differs`).
 use Rattle.std.proofs.Common.{◌≡◌, ℕ, Some, ap, ◌∙◌}
 use Rattle.bpf_model.specs.Machine.{counter}
 use Rattle.program_slots.specs.Value.{SlotsValue}

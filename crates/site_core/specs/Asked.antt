@@ -1,9 +1,7 @@
 -- Representation: what a draft keeps of the state in which it was made, and definitions for the contracts of the
--- functions that `apply`, `begin` and `commit` call. The public contracts of `begin` and `begin_with` use
--- `asked_question`, which is defined by `question_of` and `question_in`. The other definitions of this file don't have
--- to be trusted: the prover checks the code against them.
-use Rattle.std.specs.Prelude.{◌≡◌, ◌≢◌, ℕ, ◌<◌, ◌≤◌, ◌⊎◌, if◌then◌else◌, length, Option, Some, None, Result, Ok, Err}
-use Rattle.std.specs.Result.{result_ok}
+-- functions that `apply`, `begin` and `commit` call. Nothing here has to be trusted: the prover checks the code against
+-- these definitions.
+use Rattle.std.specs.Prelude.{◌≡◌, ◌≢◌, ℕ, ◌<◌, ◌≤◌, ◌⊎◌, length, Option, Some, None, Result, Ok, Err}
 use Rattle.fuelling_point.specs.Table.{PointState}
 use Rattle.till_request.specs.declared.act.Act.{Act}
 use Rattle.till_request.specs.declared.act.Act.TheVariants as act
@@ -12,31 +10,15 @@ use Rattle.bpf_model.specs.Layouts.{bytes_of}
 use Rattle.program_slots.specs.Value.{SlotsValue, Version}
 use Rattle.program_slots.specs.Slots.{version_in}
 use Rattle.site_core.specs.declared.question.Question.{Question}
-use Rattle.site_core.specs.declared.question.RequestAction.{RequestAction}
-use Rattle.site_core.specs.declared.question.RequestAction.TheVariants as action
 use Rattle.site_core.specs.declared.why.Why.{Why}
 use Rattle.site_core.specs.declared.why.CommitFault.{CommitFault}
 use Rattle.site_core.specs.declared.why.CommitFault.TheVariants as commit_fault
 use Rattle.site_core.specs.Limits.{ConfigValue}
 use Rattle.site_core.specs.State.{SiteState, busy_points, view_of}
 use Rattle.site_core.specs.Context.{context, field_of_question_point}
-use Rattle.site_core.specs.Decide.{is_till, admitted, request_action, HasPointOrValidPrice}
+use Rattle.site_core.specs.Decide.{asked_question, HasPointOrValidPrice}
 use Rattle.site_core.specs.Draft.{DraftValue, Basis, basis_of, routed}
 use Rattle.site_core.specs.Differences.{IsFresh, Differs}
-
--- The question that a program is asked in this state. None if the state refuses the question, or if the request is of a
--- kind that no program decides.
-abbrev pub question_in : SiteState → RequestAction → Option Question
-question_in s (action.Decision q) = result_ok (admitted s q)
-question_in s _ = None
-
-abbrev pub question_of : ConfigValue → SiteState → Request → Option Question
-question_of config s request = question_in s (request_action config request)
-
--- The question that a program is asked in this state for a request by this till. None if the site has no such till, if
--- the state refuses the question, or if the request is of a kind that no program decides.
-abbrev pub asked_question : ConfigValue → SiteState → ℕ → Request → Option Question
-asked_question config s till request = if is_till config till then question_of config s request else None
 
 -- The act can need memory before its entry is made. True for a load, false for a dispenser's event. For a till's
 -- request true exactly if the request asks a program a question in this state.

@@ -19,12 +19,12 @@ kind_number Release = 1
 kind_number Preset = 2
 kind_number Price = 3
 
--- A field of the point, or 0 if there is no point.
+-- What `field` gives for the point, or 0 if there is no point.
 abbrev pub field_or_zero : Option PointState → (PointState → ℕ) → ℕ
 field_or_zero None field = 0
 field_or_zero (Some p) field = field p
 
--- A field of the point that the question is about, or 0 if there is no such point, as for a price.
+-- What `field` gives for the point that the question is about, or 0 if there is no such point, as for a price.
 abbrev pub field_of_question_point : SiteState → Question → (PointState → ℕ) → ℕ
 field_of_question_point s q field = field_or_zero (at_number s.points q.point) field
 

@@ -3,6 +3,7 @@
 use Rattle.std.specs.Prelude.{◌≡◌, ◌≤◌, ℕ, ◌-◌, ◌/◌, ◌%◌, ◌^◌, min, Bool, true, false, ◌&&◌, ◌==◌, nat_lt, nat_le, if◌then◌else◌, List, length, map, slice_set}
 use Rattle.std.specs.Prelude.{slice_index_or, Option, Some, None, Result, Ok, Err}
 use Rattle.std.specs.List.{range_with_len}
+use Rattle.std.specs.Result.{result_ok}
 use Rattle.fuelling_point.specs.Table.{PointState, command_step}
 use Rattle.fuelling_point.specs.States.{is_ready, state_number}
 use Rattle.fuelling_point.specs.declared.kinds.State.{State}
@@ -144,6 +145,20 @@ price_at busy q =
 -- question.
 abbrev pub admitted : SiteState → Question → Result Question Reply
 admitted s q = elim q.kind [ Price ↦ price_at (first_busy s) q | _ ↦ asked_at_point s q ]
+
+-- The question that a program is asked in this state. None if the state refuses the question, or if the request is of a
+-- kind that no program decides.
+abbrev pub question_in : SiteState → RequestAction → Option Question
+question_in s (action.Decision q) = result_ok (admitted s q)
+question_in s _ = None
+
+abbrev pub question_of : ConfigValue → SiteState → Request → Option Question
+question_of config s request = question_in s (request_action config request)
+
+-- The question that a program is asked in this state for a request by this till. None if the site has no such till, if
+-- the state refuses the question, or if the request is of a kind that no program decides.
+abbrev pub asked_question : ConfigValue → SiteState → ℕ → Request → Option Question
+asked_question config s till request = if is_till config till then question_of config s request else None
 
 abbrev pub release_question : ConfigValue → SiteState → ℕ → ℕ → Result Question Reply
 release_question config s n amount = admitted s (release_of config n amount)

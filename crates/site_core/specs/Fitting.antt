@@ -7,8 +7,8 @@ use Rattle.site_core.specs.Opening.{OpeningValue, HaveOwnNumbers}
 use Rattle.site_core.specs.declared.opening.OpeningFault.{OpeningFault}
 use Rattle.site_core.specs.declared.opening.OpeningFault.TheVariants as fault
 
--- The opening, for a site with `count` points, doesn't have this fault. `OutOfMemory` isn't a fault of an opening. For
--- it `LacksFault` is always false, so `Misfits` below claims nothing.
+-- The opening doesn't have this fault for a site with `count` points. `OutOfMemory` isn't a fault of an opening. For it
+-- `LacksFault` is always false, so that `Misfits` below, which says that `LacksFault` is false, claims nothing.
 abbrev pub LacksFault : ℕ → OpeningValue → OpeningFault → Type 0
 LacksFault count o fault.Points = length o.points ≡ count
 LacksFault count o fault.Prices = All (λ price. price ≤ 9999999) o.prices

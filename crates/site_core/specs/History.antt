@@ -1,4 +1,5 @@
--- Definitions: looking back through a history. In these definitions a history has its newest entry first.
+-- Definitions: how many versions a history has loaded, and which version is in force in a slot after it. In these
+-- definitions a history has its newest entry first.
 use Rattle.std.specs.Prelude.{ℕ, ◌+◌, List, [], ◌∷◌, Option, Some, None, ◌==◌, if◌then◌else◌, slice_index_or}
 use Rattle.decision_journal.specs.declared.entries.Entry.{Entry}
 use Rattle.till_request.specs.declared.act.Act.{Act}

@@ -1,9 +1,10 @@
 -- Promises: the value that models a site, and what the contracts of its calls say.
 --
--- For a caller: a site is a `SiteValue`. It starts as `new_site config`, and `Upholds` holds for every site. An event
--- is an act, by a pass, at a moment, and `act_of` gives its act. `entered site pass moment act` is the entry that the
--- event makes, with its number, reply and run. `site_after site pass moment act` is the site with that entry added. The
--- site, the pass, the moment and the act determine both.
+-- For a caller: a site is a `SiteValue`. It starts as `new_site config`. `Upholds` says what is true of every site,
+-- such as that its history is legal and leads to its state. An event is an act, by a pass, at a moment, and `act_of`
+-- gives its act. `entered site pass moment act` is the entry that the event makes, with its number, reply and run.
+-- `site_after site pass moment act` is the site with that entry added. The site, the pass, the moment and the act
+-- determine both.
 --
 -- If `apply` returns Ok, `Enters old pass moment act number reply new` holds: the entry's number and reply were
 -- returned, and the new site is `site_after`. `apply` returns JournalFull exactly if the history has 1,048,576 entries.
@@ -37,7 +38,7 @@ pub record SiteValue : Type 0 where
 abbrev pub new_site : ConfigValue → SiteValue
 new_site config = record { config = config; history = []; state = opening_state config }
 
--- The act that an event names.
+-- The act of an event with this content.
 abbrev pub act_of : What → Act
 act_of (what.Till till request) = act.Till till request
 act_of (what.Dispenser point event) = act.Dispenser point event
@@ -78,9 +79,10 @@ Runs old (event ∷ events) (result ∷ results) new = (mid : SiteValue) × Appl
 Runs old [] (result ∷ results) new = ⊥
 Runs old (event ∷ events) [] new = ⊥
 
--- What holds for every site: its history is legal for its configuration and leads to its state. The verifier accepts
--- each program loaded in the history, and each of these programs is good, whatever the reply to its load was. Each
--- granted release in the history is lawful.
+-- What holds for every site. Its history is legal for its configuration and leads to its state. The verifier accepts
+-- each program loaded in the history, whatever the reply to its load was, and each of these programs is good: it can be
+-- decoded, and each run of it ends and changes only declared counters. Each granted release in the history is lawful
+-- (`LawfulRelease`).
 pub record Upholds (site : SiteValue) : Type 0 where
   pub legal : LegalHistory site.config site.history site.state
   pub accepted : AcceptedLoads site.history

@@ -32,9 +32,10 @@ pub record Agrees (config : ConfigValue) (slots : SlotsValue) (past : List Entry
 abbrev pub slots_at_first : ConfigValue → SlotsValue
 slots_at_first config = elim config.opening [ None ↦ no_versions | Some o ↦ opened_slots o.versions o.rules ]
 
--- The invariant of a site. The history, oldest entry first, is legal, its loads are accepted and good, and its entries
--- can be written. The state is the one that the history leads to, within its bounds, with as many points as the
--- configuration. The slots agree with the history.
+-- The invariant of a site. The history, oldest entry first, is legal. The verifier accepts the program of each load in
+-- it, and this program is good. Each entry can be written as a line of a journal. The state is the one that the history
+-- leads to. Its numbers are within their bounds, and it has as many points as the configuration. The slots have the
+-- versions that the opening and the history give them (`Agrees`).
 pub record IsConsistent (config : ConfigValue) (history : List Entry) (state : SiteState) (slots : SlotsValue) : Type 0 where
   pub legal : Legal config (reverse history) state
   pub agrees : Agrees config slots (reverse history)
@@ -47,8 +48,8 @@ pub record IsConsistent (config : ConfigValue) (history : List Entry) (state : S
 
 -- An act was performed as `effect` defines, on the state `old` after the entries `past`. The entry p has the act, the
 -- moment that `entered_moment` gives, and the reply and the run of the effect. `new` is the state after the effect. The
--- slots agree (`Agrees`) with `past` and one more entry, if this entry has the act and the reply of p. If the act is a
--- load, its program is accepted and good.
+-- slots have the versions that are in force after `past` and one more entry (`Agrees`), if this entry has the act and
+-- the reply of p. If the act is a load, the verifier accepts its program, and the program is good.
 pub record Performs (config : ConfigValue) (past : List Entry) (old : SiteState) (moment : ℕ) (act : Act) (p : Entry) (new : SiteState)
     (slots : SlotsValue) : Type 0 where
   pub act_is : p.act ≡ act
@@ -58,11 +59,12 @@ pub record Performs (config : ConfigValue) (past : List Entry) (old : SiteState)
   pub accepted : load_refusal p.act ≡ None
   pub good : GoodLoad p.act
 
--- A load was answered as `load_reply` defines. The slots `new` agree (`Agrees`) with `past` and one more entry, if this
--- is the load's entry.
-pub record Loads (config : ConfigValue) (old : SlotsValue) (slot : ℕ) (program : ProgramText) (past : List Entry) (reply : Reply) (new : SlotsValue) : Type 0 where
+-- A load was answered as `load_reply` defines. The slots `new` have the versions that are in force after `past` and the
+-- load's entry (`Agrees`).
+pub record Loads (config : ConfigValue) (slot : ℕ) (program : ProgramText) (past : List Entry) (reply : Reply) (new : SlotsValue) : Type 0 where
   pub reply_is : load_reply config slot past ≡ reply
-  pub agrees : (entry : Entry) → entry.act ≡ act.Load slot program.declared program.layout program.bytes → entry.reply ≡ reply → Agrees config new (entry ∷ past)
+  pub agrees : (entry : Entry) → entry.act ≡ act.Load slot program.declared program.layout program.bytes → entry.reply ≡ reply
+      → Agrees config new (entry ∷ past)
 
 abbrev pub with_counters : SiteState → Counters → SiteState
 with_counters s counters = record s { counters = counters }

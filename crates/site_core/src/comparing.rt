@@ -44,7 +44,8 @@ pub fn greater_point_count(a: &View, b: &View) -> u32
 }
 
 /// Returns the place, counted from 0, of the first point in which `a` and `b` differ; `None` if no point differs.
-/// Compares only the first `count` points, which must be at most 32. All other points must be the same in both.
+/// Compares only the first `count` points. `count` must be at most 32, and all other points must be the same in `a` and
+/// in `b`.
 pub fn first_point(count: u32, a: &[PointView; 32], b: &[PointView; 32]) -> Option<u32>
     requires count { count ≤ POINTS }
     requires others { drop count a.now ≡ drop count b.now }
@@ -96,7 +97,7 @@ pub fn first_counter(declared: u32, a: &Counters, b: &Counters) -> Option<u32>
     if declared == 0 {
         return None;
     }
-    // These reads tell the prover that both have 32 counters.
+    // These reads tell the prover that `a` and `b` have 32 counters each.
     let _counters = (a.get(0), b.get(0));
     for c in 0..32 {
         if !is_same_counter(declared, a, b, c) {

@@ -16,11 +16,17 @@ use std::sync::Arc;
 /// The greatest bound of a counter: the greatest number that the text of a configuration can contain.
 const MOST_COUNTER: u64 = 9_223_372_036_854_775_807;
 
-/// The configuration that a site is started from: how many tills there are, the slot whose program decides price
-/// changes, the prices of products 1 to 8 in thousandths of the currency per litre, for each point the slots whose
-/// programs decide its releases and its presets, and the values and bounds of the counters. Each value is in the range
-/// that `Config::new` names. If there is an opening, the site begins with the opening's prices and counters instead,
-/// and with its points, its versions and its totals of cleared transactions.
+/// The configuration that a site is started from:
+/// - `tills`: how many tills there are
+/// - `price_slot`: the slot whose program decides price changes
+/// - `prices`: the prices of products 1 to 8 in thousandths of the currency per litre
+/// - `points`: for each fuelling point the slot whose program decides its releases, and the slot whose program decides
+///   its presets
+/// - `counters`: for each counter its value and its bound
+/// - `opening`: what the day before left, if anything
+///
+/// Each value is in the range that `Config::new` names. If there is an opening, the site begins with the opening's
+/// prices and counters in place of these, and with the opening's points, versions and totals of cleared transactions.
 #[derive(Drop)]
 pub struct Config {
     tills: u32,
@@ -74,11 +80,11 @@ fn are_in_range(prices: &[u32; 8], points: &[(u32, u32)], counters: &[(u64, u64)
 }
 
 impl Config {
-    /// Makes a configuration without an opening. `points` has for each point the slot of its releases and the slot of
-    /// its presets, and `counters` has for each counter its value and its bound. Returns `None` if a value is out of
-    /// its range: there are 1 to 64 tills and 1 to 32 points, slots are 0 to 15, a price is at most 9,999,999
-    /// thousandths (0 for none), a counter's value is at most its bound, and a bound is at most 2^63 - 1. Allocates no
-    /// memory.
+    /// Makes a configuration without an opening. `points` has for each fuelling point the slot whose program decides
+    /// its releases, and the slot whose program decides its presets. `counters` has for each counter its value and its
+    /// bound. Returns `None` if a value is out of its range: there are 1 to 64 tills and 1 to 32 points, slots are 0 to
+    /// 15, a price is at most 9,999,999 thousandths (0 for none), a counter's value is at most its bound, and a bound
+    /// is at most 2^63 - 1. Allocates no memory.
     pub fn new(
         tills: u32,
         price_slot: u32,
@@ -121,8 +127,8 @@ impl Config {
         })
     }
 
-    /// Returns a copy of the configuration. The two share the opening. The error is that memory ran out, or that the
-    /// opening's `Arc` has too many owners.
+    /// Returns a copy of the configuration, which shares the opening with the original. The error is that memory ran
+    /// out, or that the opening's `Arc` has too many owners.
     pub fn copied(&self, alloc: Global) -> Result<Config, AllocError>
         ensures { IfOk result (λ config. config ≡ self.now) }
     {

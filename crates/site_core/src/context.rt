@@ -36,7 +36,8 @@ impl Field {
     }
 }
 
-/// Returns the number of a kind of request in a context: 1 for a release, 2 for a preset, 3 for a price.
+/// Returns the number by which a context names this kind of request: 1 for a release, 2 for a preset, 3 for a price
+/// change.
 pub fn kind_number(kind: Kind) -> u32
     ensures { result ≡ kind_number kind }
 {

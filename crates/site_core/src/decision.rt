@@ -96,8 +96,8 @@ pub fn command_of(kind: Kind, granted: u64) -> Command
     }
 }
 
-/// Returns the values of counter `c`, which must be 0 to 31, before and after a run; `None` if bit `c` of the mask
-/// isn't set, so that the counter isn't declared.
+/// Returns two values of counter `c`: the one before a run and the one after it. Returns `None` if the counter isn't
+/// declared, which is so if bit `c` of the mask isn't set. `c` must be 0 to 31.
 fn count_of(mask: u32, before: &Counters, after: &Counters, c: u32) -> Option<(u64, u64)>
     requires { c < COUNTERS }
     ensures { result ≡ count_of mask before.now after.now c }
@@ -109,8 +109,8 @@ fn count_of(mask: u32, before: &Counters, after: &Counters, c: u32) -> Option<(u
     }
 }
 
-/// Returns the values of each declared counter before and after a run. Bit c of the mask declares counter c. The error
-/// is that memory ran out; if no counter is declared, there is no error.
+/// Returns for each declared counter two values: the one before a run and the one after it. Bit c of the mask declares
+/// counter c. The error is that memory ran out; if no counter is declared, there is no error.
 pub fn note_counts(
     alloc: Global,
     mask: u32,

@@ -80,7 +80,8 @@ impl Model for Draft {
 }
 
 impl Station {
-    ghost use Rattle.site_core.specs.Asked.{Drafts, WouldRun, asked_question};
+    ghost use Rattle.site_core.specs.Asked.{Drafts, WouldRun};
+    ghost use Rattle.site_core.specs.Decide.{asked_question};
     ghost use Rattle.site_core.specs.Outside.{drafted};
 
     /// Makes the draft for a request in this state, or returns `Direct` if no program would be run for it. The

@@ -14,7 +14,7 @@ ghost use Rattle.site_core.specs.Days.{BoundsStay, ClosingChangesOnlyNumbers, Ev
 ghost use Rattle.site_core.specs.declared.why.Why.{Why};
 
 /// Does nothing. Its contract is a law: if nothing that a draft's run depends on differs at the site now, then no `Why`
-/// is the first difference. So a commit returns `Stale` only if something differs.
+/// names a first difference between the site and the draft. So a commit returns `Stale` only if something differs.
 pub fn fresh_differs_nowhere()
     ensures { (now : Basis) (draft : DraftValue) (why : Why) → IsFresh now draft → Differs now draft why → ⊥ }
 {}

@@ -219,7 +219,7 @@ fn is_rule(versions: u32, rule: &Option<Version>) -> bool
     match rule {
         None => true,
         Some(version) => {
-            // This call tells the prover that the program is good.
+            // This call tells the prover that the program is good (`IsGood`), and that the verifier accepts it.
             let _bytes = version.program.bytes();
             version.number >= 1 && version.number <= versions
         }

@@ -7,8 +7,8 @@ ghost use Rattle.decision_journal.specs.declared.entries.Entry.{Entry};
 ghost use Rattle.till_request.specs.declared.act.Act.TheVariants as act;
 ghost use Rattle.site_core.specs.Limits.{ConfigValue};
 ghost use Rattle.site_core.specs.Bounds.{Bounded, HasRoom};
-ghost use Rattle.site_core.specs.Decide.{admitted, decided};
-ghost use Rattle.site_core.specs.Asked.{TakesMemory, asked_question};
+ghost use Rattle.site_core.specs.Decide.{admitted, asked_question, decided};
+ghost use Rattle.site_core.specs.Asked.{TakesMemory};
 ghost use Rattle.program_slots.specs.Slots.{version_in};
 ghost use Rattle.program_slots.specs.Value.{Version};
 ghost use Rattle.site_core.specs.declared.question.Question.{Question as AskedQuestion};
@@ -110,7 +110,7 @@ pub fn entry_without_run(number: u32, pass: u32, act: Act, reply: Reply) -> Entr
 /// or an error the slots are unchanged.
 fn load(slots: &mut Slots, slot: u32, program: Arc<Program>) -> Result<Reply, AllocError>
     ensures reply { IfOk result (λ reply. (config : ConfigValue) (past : List Entry) → Agrees config slots.old past
-        → Loads config slots.old slot (arc_value program) past reply slots.new) }
+        → Loads config slot (arc_value program) past reply slots.new) }
     ensures unchanged { OnErr result (slots.new ≡ slots.old) }
     ensures memory { OnErr result ((slot < 16) × (length slots.old.programs < 4096)) }
 {

@@ -1,4 +1,5 @@
-//! What a till's request leads to: a question to a program, a command to a point, or a reply that shows a point.
+//! What a till's request leads to: a question to a program, a command to a fuelling point, or a reply that shows a
+//! fuelling point.
 
 ghost use Rattle.std.specs.Prelude.{◌≡◌};
 ghost use Rattle.site_core.specs.Decide.{request_action};
@@ -27,8 +28,8 @@ pub struct Question {
     pub slot: u32,
 }
 
-/// What a request leads to: a question to a program, a command to a point, or a reply that shows a point. The number in
-/// `Command` and in `Show` is the number of the point.
+/// What a till's request leads to: a question to a program, a command to a fuelling point, or a reply that shows a
+/// fuelling point. The number in `Command` and in `Show` is the number of the point.
 #[derive(Clone, Copy)]
 pub enum RequestAction {
     Decision(Question),

@@ -97,7 +97,7 @@ fn is_same_place(a: Option<Transaction>, b: Option<Transaction>) -> bool
 pub fn are_same_counters(a: &Counters, b: &Counters) -> bool
     ensures { IsTrue result ↔ (a.now ≡ b.now) }
 {
-    // These reads tell the prover that both have 32 counters.
+    // These reads tell the prover that `a` and `b` have 32 counters each.
     let _counters = (a.get(0), b.get(0));
     for c in 0..32 {
         if a.get(c) != b.get(c) || a.bound(c) != b.bound(c) {

@@ -1,4 +1,5 @@
-//! What programs can see of a point: the number of its state, its lifted nozzle, and the amount of its delivery.
+//! What programs can see of a fuelling point: the number of its state, its lifted nozzle, and the amount of its
+//! delivery.
 
 ghost use Rattle.std.specs.Prelude.{◌≡◌, ◌≤◌, length};
 ghost use Rattle.site_core.specs.State.{seen, seen_points};
@@ -7,8 +8,8 @@ ghost use Rattle.bpf_model.specs.declared.limits.TheConstants.{POINTS};
 use fuelling_point::Point;
 use helpers::PointView;
 
-/// Returns what programs can see of a point: the number of its state, its lifted nozzle (0 for none), and the amount of
-/// its delivery in cents.
+/// Returns what programs can see of a fuelling point: the number of its state, its lifted nozzle (0 for none), and the
+/// amount of its delivery in cents.
 pub fn seen(point: &Point) -> PointView
     ensures { result ≡ seen point.now }
 {

@@ -139,10 +139,11 @@ impl Station {
         n >= 1 && n as usize <= self.points.len()
     }
 
-    /// Carries out a till's command at point `n`, counted from 1. Returns `Done`, or the refusal: S20 if there is no
-    /// such point, else the point's own refusal. A `Clear` adds its amount to the total of all cleared amounts, and 1
-    /// to the number of cleared transactions. A refused command changes nothing. `till` must be at least 1; whether the
-    /// site has such a till isn't checked. The site's history must have room for the command's entry.
+    /// Carries out a till's command at fuelling point `n`, counted from 1. Returns `Done`, or the refusal: S20 if there
+    /// is no such point, else the point's own refusal. A `Clear` adds the amount of the cleared transaction to the
+    /// total of all cleared amounts, and 1 to the number of cleared transactions. A refused command changes nothing.
+    /// `till` must be at least 1; whether the site has such a till isn't checked. The site's history must have room for
+    /// the command's entry.
     pub fn command(&mut self, till: u32, n: u32, command: Command) -> Reply
         requires bounded { HasRoom self.old }
         requires till { 0 < till }
@@ -442,10 +443,11 @@ impl Station {
         }
     }
 
-    /// Sets the declared counters to their values in `after`, and returns their values before and after the change.
-    /// `before` and `after` are the counters before and after a run on a draft, whose context is `given`. This context
-    /// must have the program's layout. The run must have been made on the current values of the declared counters and
-    /// on the current view. The error is that memory ran out; then the station is unchanged.
+    /// Takes over the counters from a run that was made on a draft: sets each counter that the program declares to its
+    /// value in `after`. Returns for each declared counter its value before this change and its value after it.
+    /// `before` and `after` are the counters before and after that run. `given` is the context that the run was made
+    /// on, which must have the program's layout. The run must have been made on the current values of the declared
+    /// counters and on the current view. The error is that memory ran out; then the station is unchanged.
     pub fn adopt(
         &mut self,
         program: &Program,

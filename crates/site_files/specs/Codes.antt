@@ -1,5 +1,5 @@
--- Definitions: the number that is printed for a fault, such as `K1`, and the words that are printed with it (this
--- profile). The fault that memory ran out has no number: the result is None, or in `opening_words` an empty text.
+-- Definitions: the number that is printed for a fault, such as `K1`, and the words that are printed with it (source:
+-- this project). The fault that memory ran out has no number: the result is None, or in `opening_words` an empty text.
 use Rattle.std.specs.Prelude.{ℕ, ◌==◌, List, [], codes, count_by, nat_le, Option, Some, None, if◌then◌else◌}
 use Rattle.site_config.specs.declared.fault.ConfigFault.{ConfigFault}
 use Rattle.site_config.specs.declared.fault.ConfigFault.TheVariants as config
@@ -38,7 +38,7 @@ device_error journal.Cut failure = None
 device_error journal.Device failure = failure
 device_error journal.OutOfMemory failure = None
 
--- What is printed about the line of this number (counted from 1) when the text isn't an opening:
+-- What is printed if a text isn't an opening because of the line with this number, counted from 1:
 -- - if the text has at least this many LFs: that the line is no line of an opening
 -- - or else: that the text ends too early
 abbrev pub bad_line : List ℕ → ℕ → List ℕ

@@ -31,14 +31,14 @@ abbrev pub without_zeros : List ℕ → List ℕ
 without_zeros [] = []
 without_zeros (digit ∷ digits) = if digit == 48 then without_zeros digits else digit ∷ digits
 
--- The day's number that these digits spell in a file's name: six digits, or more without a zero in front. None for
--- anything else, and if the number is 0 or isn't below 2^32.
+-- The number of a day, given the part of a file's name that spells it: exactly six digits, or more than six that don't
+-- begin with 0. None for anything else, and if the number is 0 or isn't below 2^32.
 abbrev pub day_of : List ℕ → Option ℕ
 day_of digits =
     if length digits == 6 then result_ok (number 32 (without_zeros digits))
     else (if nat_lt 6 (length digits) then result_ok (number 32 digits) else None)
 
--- whether this is the ending of a journal or of an opening
+-- whether this is what follows the `.` in the file name of a journal or of an opening
 abbrev pub shows_day : List ℕ → Bool
 shows_day ending = bytes_eq ending (ending_of part.Journal) || bytes_eq ending (ending_of part.Opening)
 

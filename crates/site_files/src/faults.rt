@@ -36,7 +36,7 @@ impl<'a> Place<'a> {
         }
     }
 
-    /// Makes the place of standard output.
+    /// Makes the place for a message about standard output.
     fn output() -> Place<'static>
         ensures name { result.name.now ≡ codes "standard output" }
         ensures line { result.line ≡ None }

@@ -208,8 +208,8 @@ fn shows_day(ending: &str) -> bool
     ending == Part::Journal.ending() || ending == Part::Opening.ending()
 }
 
-/// Returns the day's number that these digits spell in a file's name: six digits, or more without a zero in front.
-/// Returns `None` for anything else, and if the number is 0 or isn't below 2^32.
+/// Returns the number of a day, given the part of a file's name that spells it: exactly six digits, or more than six
+/// that don't begin with 0. Returns `None` for anything else, and if the number is 0 or isn't below 2^32.
 fn day_of(digits: &[u8]) -> Option<u32>
     ensures { result ≡ day_of digits.now }
 {

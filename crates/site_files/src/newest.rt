@@ -55,8 +55,8 @@ pub fn read_given<'a>(rt: &HostRuntime, word: &'a str) -> Result<Given<'a>, JobE
 /// `is_new_day` and the newest day has an entry, closes that day and returns the next one.
 ///
 /// The configuration in `given` is used for a day that has none in the folder, or whose journal is missing or empty.
-/// Any other day keeps the configuration that it has in the folder. If the returned day keeps a configuration that
-/// differs from that in `given`, prints this. `given` also says how the day is served.
+/// Any other day keeps the configuration that it has in the folder. If the returned day keeps another configuration
+/// than the one in `given`, prints that it does. `given` also says how the day is served.
 /// Errors:
 ///
 /// - `AlreadyReported`, with the exit status: a file can't be used or is refused, or the next day has begun already.

@@ -1,4 +1,5 @@
-//! The opening that a site begins with: its file is read, and compared with the configuration.
+//! Reads the opening that a site begins with, and checks that it fits the site's configuration. Prints why an opening
+//! is refused.
 ghost use Rattle.std.specs.Prelude.{◌≡◌, ◌≤◌, IfOk, IfErr, vec_len};
 ghost use Rattle.days.specs.File.{IsOpeningFile};
 ghost use Rattle.days.specs.Fitting.{BeginsWith};
@@ -103,7 +104,7 @@ fn opening_in(rt: &HostRuntime, word: &str) -> Result<OpeningFile, JobError>
 /// only that, on standard error.
 /// The result:
 ///
-/// - `AlreadyReported`, with the exit status: this was printed
+/// - `AlreadyReported`, with the exit status: the reason was printed
 /// - `Failed`: memory ran out, which isn't printed yet
 pub fn refuse_opening(rt: &HostRuntime, word: &str, text: &[u8], flaw: OpeningFlaw) -> JobError
     ensures { RefusesOpening flaw result }
@@ -131,7 +132,7 @@ fn opening_words(text: &[u8], flaw: OpeningFlaw) -> (&'static str, &'static str)
     }
 }
 
-/// Returns what is printed about the line of this number (counted from 1) when the text isn't an opening:
+/// Returns what is printed if a text isn't an opening because of the line with this number, counted from 1:
 ///
 /// - if the text has at least this many LFs: that the line is no line of an opening
 /// - or else: that the text ends too early

@@ -77,8 +77,8 @@ fn line_in(fault: JournalFault) -> Option<u32>
 /// one failed.
 /// The result:
 ///
-/// - `AlreadyReported`, with the exit status: this was printed
-/// - `Failed`: memory ran out here, which isn't printed yet
+/// - `AlreadyReported`, with the exit status: the reason was printed
+/// - `Failed`: memory ran out in this call, which isn't printed yet
 pub fn report_journal_fault(
     rt: &HostRuntime,
     word: &str,

@@ -1,5 +1,6 @@
--- If the checks that are made when a forecourt is to be closed find no reason against it, then `ClosesSince` holds. If
--- they find a reason, then `RefusesSince` holds for this reason.
+-- Lemmas on the checks that are made when a forecourt is to be closed. If they find no reason against it, then the
+-- site, the passes and the journal are as they must be after a close (`ClosesSince`). If they find a reason, then this
+-- reason is true (`RefusesSince`).
 use Rattle.std.proofs.Common.{◌≡◌, ℕ, List, [], ◌++◌, length, Bool, true, false, IsTrue, ◌↔◌, Option, sym, ap, ◌∙◌, subst}
 use Rattle.std.specs.Prelude.{sum_by, IfNone, IfSome, None, Some}
 use Rattle.decision_journal.specs.declared.entries.Entry.{Entry}

@@ -1,5 +1,5 @@
--- The rises of a gate's count of calls over several attempts at a request add up. `IfOk r P` holds if P holds for every
--- value. `IfErr r P` implies `IfErr r Q` if P implies Q for every error.
+-- Lemmas: the rises of a gate's count of calls over several attempts at a request add up. For a result r, `IfOk r P`
+-- holds if P holds for every value, and `IfErr r P` implies `IfErr r Q` if P implies Q for every error.
 use Rattle.std.proofs.Common.{ℕ, ◌+◌, Result, Ok, Err, IfOk, IfErr, arith}
 use Rattle.till_request.proofs.Counts.{rose_more}
 use Rattle.site_lock.specs.Calls.{RoseWithin}

@@ -1,4 +1,7 @@
--- Promises: the result of closing a forecourt.
+-- Promises: the result of closing a forecourt (a site under its lock, which is called with passes). A close takes the
+-- forecourt and passes. If these are all its passes, each once, and their receipts agree with the site's history, the
+-- result is the site. Otherwise it is the reason, the passes, and the forecourt, which nobody can call until it is
+-- reopened.
 use Rattle.std.specs.Prelude.{◌≡◌, ℕ, ◌-◌, List, ◌++◌, length, sum_by, slice_get, Option, Some, Bool, true, false}
 use Rattle.std.specs.Io.KnownBytes.{Appends}
 use Rattle.decision_journal.specs.declared.entries.Entry.{Entry}
@@ -8,7 +11,7 @@ use Rattle.site_core.specs.Site.{SiteValue, Upholds}
 use Rattle.site_lock.specs.declared.close.CloseRefusal.{CloseRefusal}
 use Rattle.site_lock.specs.declared.close.CloseRefusal.TheVariants.{PassMissing, NotInHistory, OtherConfig}
 use Rattle.site_lock.specs.Passes.{PassView, Opened}
-use Rattle.site_lock.specs.LockedSites.{LockedSiteValue, IsWhole, MatchesJournal}
+use Rattle.site_lock.specs.LockedSites.{LockedSiteValue, IsWhole, HeldMatchesJournal}
 use Rattle.site_lock.specs.Merge.{AreAll, IsFault, IsFaultSince, IsMerge, IsMergeSince}
 
 -- The forecourt `f` is closed with these passes, and leaves this site. The passes are all passes of the forecourt, each
@@ -21,9 +24,10 @@ pub record Closes (f : Opened) (passes : List PassView) (s : SiteValue) : Type 0
   pub calls : length s.history ≡ sum_by (λ (p : PassView). p.amount) passes
   pub merge : IsMerge s.history passes
 
--- Like `Closes`, for a forecourt that began with a history. The site's history is the one at the start, followed by the
--- merge of the passes' receipts. This merge has one entry for each answered call that a pass counts, and the journal
--- took exactly the text of these entries.
+-- The forecourt `f`, which began with the history `f.base`, is closed with these passes, and leaves this site. The
+-- passes are all passes of the forecourt, each once. The site has the forecourt's configuration. The site's history is
+-- legal, and is `f.base`, followed by the merge of the passes' receipts. This merge has one entry for each answered
+-- call that a pass counts, and the journal took exactly the text of these entries.
 pub record ClosesSince (f : Opened) (passes : List PassView) (s : SiteValue) (written : Option (List ℕ)) : Type 0 where
   pub all : AreAll f.passes passes
   pub config : s.config ≡ f.config
@@ -45,7 +49,7 @@ pub record HaltedValue : Type 0 where
 pub record IsHalted (may_fail : Type 0) (h : HaltedValue) : Type 0 where
   pub config : h.locked_site.site.config ≡ h.opened.config
   pub legal : Upholds h.locked_site.site
-  pub matches_journal : MatchesJournal h.locked_site.journal_failed h.opened.base h.opened.taken may_fail h.locked_site.site.history h.locked_site.total h.locked_site.written
+  pub matches_journal : HeldMatchesJournal h.opened.base h.opened.taken may_fail h.locked_site
 
 -- the last entry has this pass and number
 abbrev pub IsLast : List Entry → ℕ → ℕ → Type 0
@@ -80,7 +84,12 @@ RefusesSince h passes (NotInHistory id number) =
     × IsWrong h.locked_site.journal_failed (length h.opened.base) h.locked_site.site.history passes id number
 RefusesSince h passes OtherConfig = ⊥
 
--- why a close was refused, if the history at the start was empty and the journal can't fail
+-- Why a close with `passes` was refused, if the history at the start was empty and the journal can't fail:
+-- - C1: they aren't all passes of the forecourt, each once.
+-- - C2: they are all passes of the forecourt, each once, and together they count as many calls as the history has
+--   entries. The pass and the number are those of a pass's first wrong receipt or of an entry without a receipt
+--   (`IsFault`).
+-- The reason is never C3 (another configuration).
 abbrev pub Refuses : HaltedValue → List PassView → CloseRefusal → Type 0
 Refuses h passes PassMissing = ¬ AreAll h.opened.passes passes
 Refuses h passes (NotInHistory id number) =

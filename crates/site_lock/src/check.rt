@@ -30,9 +30,9 @@ fn agrees_with_entry(history: &[Entry], id: u32, receipt: &Receipt) -> bool
     }
 }
 
-// Returns the entry number of the first wrong receipt of the pass `id`, or `None` if all are right. A receipt is wrong
-// if no entry has its number, if it disagrees with that entry, if its number is at most `base`, or if its number is at
-// most that of the receipt before it.
+// Returns the number of the first wrong receipt of the pass `id`, or `None` if all are right. Let n be a receipt's
+// number. The receipt is wrong if the history has no n-th entry, counted from 1, if this entry has another number,
+// pass, moment, act or reply, if n is at most `base`, or if n is at most the number of the receipt before it.
 fn wrong_receipt(history: &[Entry], base: u32, id: u32, receipts: &[Receipt]) -> Option<u32>
     ensures none { IfNone result (AgreesFrom history.now id base receipts.now) }
     ensures some { IfSome result (λ n. FailsFrom history.now id base receipts.now n) }
@@ -151,11 +151,12 @@ fn uncovered_since<L: SiteLedger>(
 }
 
 /// Compares a history with the receipts of the passes. Returns `None` if they agree. Otherwise returns the number of a
-/// pass and the number of an entry, in one of two cases:
+/// pass, and the number of a receipt or of an entry, in one of two cases:
 ///
-/// - The pass's first wrong receipt has this entry number. A receipt is wrong if no entry has its number, if the entry
-///   of its number has another pass, moment, act or reply, or if its number isn't above that of the receipt before it.
-/// - The entry is one of this pass, and the pass has no receipt of it.
+/// - The pass's first wrong receipt has this number. Let n be a receipt's number. The receipt is wrong if the history
+///   has no n-th entry, counted from 1, if this entry has another number, pass, moment, act or reply, or if n isn't
+///   above the number of the receipt before it.
+/// - An entry with this number is one of this pass, and the pass has no receipt of this number.
 pub fn fault<L: SiteLedger>(history: &[Entry], passes: &[Pass<L>]) -> Option<(u32, u32)>
     ensures none { IfNone result (IsMerge history.now passes.now) }
     ensures some { IfSome result (λ x. IsFault history.now passes.now x.0 x.1) }
@@ -163,10 +164,17 @@ pub fn fault<L: SiteLedger>(history: &[Entry], passes: &[Pass<L>]) -> Option<(u3
     fault_since(0, history, passes)
 }
 
-/// Compares a history with the receipts of the passes, as `fault` does, but takes the first `base` entries to be older
-/// than the passes. So a receipt is also wrong if its number isn't above `base`, and only the entries after the first
-/// `base` ones need a receipt. Returns `None` if the history and the receipts agree, or else the number of a pass and
-/// the number of an entry, as `fault` does. `base` must be at most the number of all entries.
+/// Compares a history with the receipts of the passes. The first `base` entries are older than the passes, and need no
+/// receipt. Returns `None` if the history and the receipts agree. Otherwise returns the number of a pass, and the
+/// number of a receipt or of an entry, in one of two cases:
+///
+/// - The pass's first wrong receipt has this number. Let n be a receipt's number. The receipt is wrong if the history
+///   has no n-th entry, counted from 1, if this entry has another number, pass, moment, act or reply, if n isn't above
+///   `base`, or if n isn't above the number of the receipt before it.
+/// - An entry with this number comes after the first `base` ones, and is one of this pass, and the pass has no receipt
+///   of this number.
+///
+/// `base` must be at most the number of all entries.
 pub fn fault_since<L: SiteLedger>(
     base: u32,
     history: &[Entry],

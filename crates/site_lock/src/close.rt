@@ -10,13 +10,13 @@ use std::fmt;
 pub enum CloseRefusal {
     /// C1: the passes given to the close aren't exactly the passes of the forecourt, each once.
     PassMissing,
-    /// C2, with the number of a pass and the number of an entry, in one of two cases:
+    /// C2, with the number of a pass, and the number of a receipt or of an entry, in one of two cases:
     ///
-    /// - The pass's receipt with this entry number is wrong. A receipt is wrong if no entry has its number, if the
-    ///   entry of its number has another pass, moment, act or reply, if that entry is older than the passes, or if its
-    ///   number isn't above that of the receipt before it.
-    /// - The entry is one of this pass, and the pass has no receipt of it. An example is the entry at which a journal
-    ///   failed.
+    /// - A receipt of this pass with this number is wrong. Let n be a receipt's number. The receipt is wrong if the
+    ///   history has no n-th entry, counted from 1, if this entry has another number, pass, moment, act or reply, if
+    ///   this entry is older than the passes, or if n isn't above the number of the receipt before it.
+    /// - An entry with this number is one of this pass, and the pass has no receipt of this number. An example is the
+    ///   entry at which a journal failed.
     NotInHistory(u32, u32),
     /// C3: the site has another configuration than the forecourt was made for. `Forecourt::finish` never returns it.
     OtherConfig,

@@ -69,7 +69,7 @@ impl<L: SiteLedger, J: Journal> Halted<L, J> {
         self.locked_site.into_parts()
     }
 
-    /// Returns the history.
+    /// Returns the history of the forecourt's site.
     pub fn history(&self) -> &[Entry]
         ensures same { result.now ≡ self.now.locked_site.site.history }
         ensures matches_journal { IsHalted J.may_fail self.now }

@@ -108,8 +108,9 @@ impl<L: SiteLedger> Pass<L> {
         self.receipts.as_slice()
     }
 
-    /// Returns an empty share of the ledger that counts the answered calls of all passes. The share has none of the
-    /// ledger's parts, and counts no call. The pass keeps its own share.
+    /// Returns a further share of the ledger that counts the answered calls of all passes. The ledger has one part for
+    /// each pass. The returned share has no part, and counts no call. The pass keeps its own share, which has one part.
+    /// To count the calls of all passes, the shares of all passes are added to the returned share for a short time.
     pub(super) fn lend_none(&mut self) -> Share<L>
         ensures parts { result.parts ≡ 0 }
         ensures amount { result.amount ≡ 0 }

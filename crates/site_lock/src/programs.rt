@@ -8,8 +8,8 @@ use std::alloc::{AllocError, Global};
 use std::thread;
 use std::thread::Threads;
 
-/// The result that an item has until it is verified. `verify` never returns it, as no program has a unit of this
-/// number.
+/// The result that `verify_all` has for a program until it is verified. `verify` never returns it, as no program has a
+/// unit of this number.
 const UNDECIDED: Refusal = Refusal::Type(TypeFault::FallsOff(u32::MAX));
 
 fn verified(alloc: Global, item: &(Vec<u8>, u32, Layout)) -> Result<Program, Refusal>

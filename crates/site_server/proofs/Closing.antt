@@ -1,5 +1,6 @@
--- If a close of a forecourt is tried with the passes that all workers returned, the promises of serving hold:
--- `IsServed` if the close succeeds, `ServingFails` if it is refused.
+-- A close of a forecourt is tried with the passes that all workers returned. If it succeeds, then the site was served
+-- by the plan, and closed (`IsServed`). If it is refused, then the workers returned all passes, and the close with them
+-- was refused with the fault that is returned (`ServingFails`).
 use Rattle.std.proofs.Common.{◌≡◌, ℕ, List, Option, Result, Ok, Err, IfOk, IfErr, subst, sym}
 use Rattle.site_core.specs.Site.{SiteValue}
 use Rattle.site_lock.specs.Closing.{ClosesSince}
@@ -18,9 +19,10 @@ pub if_err_more : {T E : Type 0} (P Q : E → Type 0) (r : Result T E) → ((e :
 if_err_more P Q (Ok x) more h = h
 if_err_more P Q (Err e) more h = more e h
 
--- Let a forecourt start with `from`, as the plan says. Let workers of the plan return `passes`, and let `clean` of
--- their connections, at all workers, end without a SessionFault. If a close with these passes succeeds, `IsServed`
--- holds. If the close is refused, and `passes` has all passes of the forecourt, each once, then `ServingFails` holds.
+-- If a close with these passes succeeds, then the site was served by the plan, and closed (`IsServed`). If the close is
+-- refused with a fault, and `passes` has all passes of the forecourt, each once, then serving failed with this fault
+-- (`ServingFails`). The forecourt must have started with `from`, as the plan says. Workers of the plan must have
+-- returned `passes`, and `clean` of their connections, at all workers, must have ended without a SessionFault.
 module _ (plan : Plan) (from : Opened) (same : from ≡ plan.from) (passes : List PassView) (clean : ℕ) (worked : HaveWorked plan passes clean) where
   pub leaves_so : (counted : ℕ) (site : SiteValue) (written : Option (List ℕ)) → counted ≡ clean → ClosesSince from passes site written
       → IsServed plan counted site written

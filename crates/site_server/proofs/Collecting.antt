@@ -137,8 +137,9 @@ module _ (may_fail : Type 0) (workers : List Worker) (connections : ℕ) (from :
   handed_length b (None ∷ tasks) h = absurd h
   handed_length b (Some r ∷ tasks) h = (let more = handed_length (b + 1) tasks h.1 in omega arith)
 
-  -- If each task has the result of its worker, then `HaveWorked` holds for what is collected from the tasks: the
-  -- passes, moved into an empty list, and the number of connections that ended without a SessionFault.
+  -- If each task has the result of its worker, then what is collected from the tasks is what the workers of the plan
+  -- returned (`HaveWorked`): the passes, moved into an empty list, and the number of connections that ended without a
+  -- SessionFault.
   pub have_worked : (tasks : List (Option (PassView × ℕ))) (room passes : List PassView) (clean : ℕ) → AllBack 0 tasks → room ≡ []
       → passes ≡ room ++ collected tasks → clean ≡ clean_in tasks → HaveWorked plan passes clean
   have_worked tasks room passes clean back none are counted = record {
@@ -174,8 +175,9 @@ waits_at k e p (q ∷ ps) [] is lt = absurd (omega arith)
 waits_at zero e p (q ∷ ps) (worker ∷ workers) is lt = (worker, refl, ap (λ (o : Option PassView). option_map (λ (x : PassView). (x, worker)) o) is)
 waits_at (suc k) e p (q ∷ ps) (worker ∷ workers) is lt = waits_at k e p ps workers is (omega arith)
 
--- Let `tasks` be made of the new passes `ps` and of `workers`: each holds a pass, and the worker at the same place.
--- Then `AreWaiting` holds for them, and there are as many tasks as workers.
+-- Let `tasks` be made of the new passes `ps` and of `workers`, in their order: the task at each place holds the pass
+-- and the worker at this place. Then there is one task for each worker, and the task at place k, counted from 0, holds
+-- the worker at place k and the pass with the number k + 1 (`AreWaiting`).
 module _ {P : Type 0} (w : P → Option (PassView × Worker)) (tasks : List P) (ps : List PassView) (workers : List Worker)
     (are : map w tasks ≡ map here (zip ps workers)) (new : AreNew (length workers) ps) where
   pub are_waiting : AreWaiting workers (map w tasks)

@@ -1,5 +1,5 @@
--- If `Serves` holds for a worker with a clock and a desk, then it also holds with the moment that the clock gave last
--- in place of the clock, and with the desk's pass in place of the desk.
+-- If a worker with a clock and a desk served `asked` connections, of which `clean` ended without a SessionFault
+-- (`Serves`), then this is true too if the clock is replaced by the moment that it gave last, and the desk by its pass.
 use Rattle.std.proofs.Common.{◌≡◌, ℕ, List, Option, Result}
 use Rattle.till_request.specs.declared.act.Act.{Act}
 use Rattle.till_request.specs.declared.act.Role.{Role}

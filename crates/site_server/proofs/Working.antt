@@ -1,5 +1,5 @@
--- If a worker served `asked` connections, of which `clean` ended without a SessionFault, then `Worked` holds for its
--- pass with these two numbers.
+-- If a worker served `asked` connections, of which `clean` ended without a SessionFault, then its pass served as many
+-- connections, and as many of them ended so (`Worked`).
 use Rattle.std.proofs.Common.{◌≡◌, ◌≢◌, ℕ, List, [], ◌∷◌, Option, Some, None, Result, Ok, Err, refl, subst, inl, inr}
 use Rattle.till_request.specs.declared.act.Answer.{Answer}
 use Rattle.till_request.specs.declared.act.Role.{Role}

@@ -20,7 +20,8 @@ use Rattle.site_lock.specs.Desks.{DeskAnswers}
 abbrev pub pass_answers : ConfigValue → Type 0 → PassView → Act → ℕ → Answer → PassView → Type 0
 pass_answers config may_fail before act moment answer now = DeskAnswers config may_fail before now act moment answer
 
--- `gives_any_moment before moment now`: a clock can give any moment, and its new state `now` is this moment
+-- `gives_any_moment before moment now`: the clock, in the state `before`, can give any `moment`, and its new state
+-- `now` is this moment
 abbrev pub gives_any_moment : ℕ → ℕ → ℕ → Type 0
 gives_any_moment before moment now = now ≡ moment
 
@@ -42,7 +43,8 @@ AnswersConnection config may_fail role (Some result) s s' =
     × AnswersAll (desk_answers (pass_answers config may_fail) gives_any_moment role) lines s texts m × DropsOne config may_fail role m s'
     × (result ≡ Err Journal → may_fail)
 
--- `AnswersConnection` for several connections: they were served one after another, with these outcomes
+-- What several connections, served one after another with these outcomes, did to the clock and the pass. Each of them
+-- did what `AnswersConnection` says.
 abbrev pub AnswersConnections : ConfigValue → Type 0 → Role → List Outcome → ℕ × PassView → ℕ × PassView → Type 0
 AnswersConnections config may_fail role [] s s' = s' ≡ s
 AnswersConnections config may_fail role (outcome ∷ outcomes) s s' =

@@ -178,7 +178,8 @@ impl<'a, R: Clock, N: Notices> Doors for SocketDoors<'a, R, N> {
         }
     }
 
-    // Input is read in blocks. If the last block has the next line too, that line is in memory already.
+    // Returns whether the next line is in memory already. It can be, since input is read in blocks, and the last block
+    // can have this line too.
     fn has_buffered_line(&self, input: &Self::In) -> bool {
         input.holds_line()
     }

@@ -37,10 +37,9 @@ impl Limiter {
         }
     }
 
-    /// Of the lines that come one after another with the same `second`, lets the first ten through, and holds the
-    /// others back. A line with another `second` than the line before it starts the count of these ten again. Returns
-    /// how many lines were held back since the last one that was let through, at most 2^64 - 1, or `None` if this line
-    /// is held back.
+    /// Decides whether a line that comes in this second is let through. Of the lines that come one after another with
+    /// the same `second`, the first ten are let through, and the others are held back. Returns how many lines were held
+    /// back since the last one that was let through, at most 2^64 - 1, or `None` if this line is held back.
     pub fn admit(&mut self, second: u64) -> Option<u64>
         ensures admitted { result ≡ admitted self.old second }
         ensures after { self.new ≡ after_line self.old second }

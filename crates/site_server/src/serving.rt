@@ -248,8 +248,8 @@ impl<J: Journal + Send> Serving<J> {
     }
 
     /// Serves the site like `run`, with the same errors. Makes the ledger `L` from `blank`, which must have been made
-    /// for `L`. `L` must have one part for each worker, the site's configuration, the site's history as the one to
-    /// start from, and the bytes that the journal has taken, if they are known.
+    /// for `L`. `L` must have one part for each worker. Its `config` must be the site's configuration, its `base` the
+    /// site's history, and its `taken` the bytes that the journal has taken, if they are known.
     fn run_on<
         L: SiteLedger + Send + Sync,
         N: Notices + Sync,

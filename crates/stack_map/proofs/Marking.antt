@@ -29,7 +29,7 @@ bits_high zero word p rest l = ap (λ k. slice_index_or rest k false) (omega ari
 bits_high (suc n) word zero rest l = absurd (omega (arith, l))
 bits_high (suc n) word (suc p) rest l = bits_high n (word / 2) p rest (omega (arith, l)) ∙ ap (λ k. slice_index_or rest k false) (omega arith)
 
--- place p is in the set that the words represent exactly if its bit is 1
+-- the set that the words represent has place p exactly if the bit of p in the words is 1 (`IsMarked`)
 pub marked_is : (words : List ℕ) (p : ℕ) → Has (places_of words) p ↔ IsMarked words p
 unfolding places_of
 marked_is [] p = (λ h. absurd (cc), λ e. absurd (let z = bit_at-zero (p % 64) in cc))
@@ -74,7 +74,7 @@ mask_low lo hi i l below =
 mask_high : (lo hi i : ℕ) → lo ≤ hi → hi ≤ i → bit_at (2 ^ hi - 2 ^ lo) i ≡ 0
 mask_high lo hi i l above = let some = pow_pos lo in let most = power_le lo hi l in bit_at_above (2 ^ hi - 2 ^ lo) hi i (omega (arith, some, most)) above
 
--- if lo ≤ hi, the mask of the lowest lo bits is at most that of the lowest hi, and the difference is 2 ^ hi - 2 ^ lo
+-- if low is 2 ^ lo - 1 and high is 2 ^ hi - 1, with lo ≤ hi, then low ≤ high, and high - low is 2 ^ hi - 2 ^ lo
 pub mask_of_low : (lo hi low high : ℕ) → lo ≤ hi → high ≡ 2 ^ hi - 1 → low ≡ 2 ^ lo - 1 → (low ≤ high) × (high - low ≡ 2 ^ hi - 2 ^ lo)
 mask_of_low lo hi low high l h e = let some = pow_pos lo in let most = power_le lo hi l in (omega (arith, h, e, some, most), omega (arith, h, e, some, most))
 
@@ -117,7 +117,7 @@ and_is a b i =
     let is = below_one (bit_at a i) (bit_at b i) (bit_at-lt a i) (bit_at-lt b i) in
     (λ e. is.0 (sym (bit_at_and a b i) ∙ e), λ h. bit_at_and a b i ∙ is.1 h)
 
--- ---- if word k of a set becomes v, the bits of v say which of its places are in the set, and no other place changes
+-- ---- if word k becomes v, the bits of v say which places of this word are in the set, and no other place changes
 
 module _ (words : List ℕ) (k v : ℕ) where
   pub word_set : (p : ℕ) → p / 64 ≡ k → k < length words → IsMarked (slice_set words k v) p ↔ (bit_at v (p % 64) ≡ 1)
@@ -212,7 +212,7 @@ taken_all words old at len k l taken p =
       λ h. is.1 ((taken p).1 (elim h [ inl o ↦ inl o | inr w ↦ inr (w, let b = w.1 in omega (arith, b, l)) ])),
     )
 
--- ---- the loop that removes places from a set removes exactly these places
+-- ---- the loop that removes from a set the `len` places that begin at `at` removes these places and no others
 
 none_left : (b : ℕ) → b < 2 → (1 - b ≡ 1) ↔ ¬ (b ≡ 1)
 none_left b l = (λ e h. omega (arith, e, h), λ h. elim (cases_eq b 1) [ inl e ↦ absurd (h e) | inr n ↦ omega (arith, l, n) ])
@@ -224,8 +224,8 @@ without_is a mask i small l =
     let none = none_left (bit_at mask i) (bit_at-lt mask i) in
     (λ e. let h = both.0 e in (h.0, none.0 (sym other ∙ h.1)), λ h. both.1 (h.0, other ∙ none.1 h.1))
 
--- The loop that removes the `len` places from `at` on from the set `old` has come to word k. The places that are marked
--- in the words are exactly those of `old`, without those of the `len` places that are below 64 k.
+-- The loop that removes the `len` places from `at` on from the set `old` has come to word k. A place is marked in the
+-- words exactly if it is in `old` and, if it is one of these `len` places, isn't below 64 k.
 abbrev pub IsFreed : List ℕ → List Bool → ℕ → ℕ → ℕ → Type 0
 IsFreed words old at len k = (p : ℕ) → IsMarked words p ↔ (Has old p × (Within at len p → 64 * k ≤ p))
 

@@ -120,8 +120,8 @@ bad_along e h = subst IsBad e h
 pub short_read : (role : Role) (line : List ℕ) → length line ≤ 8400 → line_read role line ≡ act_of_line role line
 short_read role line l = ap (λ b. cond b (Err TooLong) (act_of_line role line)) (le-ltb 8400 (length line) l)
 
--- If `line` and its LF were read, and parsing `line` gave `fault`, then `TakesFault` holds, which says what was read
--- for this fault. If `fault` is `OutOfMemory`, `line` must also have the form of a load that `role` may send.
+-- If `line` and its LF were read, and parsing `line` gave `fault`, then what was read is what `TakesFault` says for
+-- this fault. If `fault` is `OutOfMemory`, `line` must also have the form of a load that `role` may send.
 pub fault_taken : (fault : LineFault) (old new : Option (List ℕ)) (role : Role) (before after : ℕ) (line : List ℕ)
     → Consumes old new (line ++ 10 ∷ []) → IsLine line → Fails fault (line_read role line)
     → (fault ≡ OutOfMemory → IsLoad role (words line)) → TakesFault old new role before after (reading.Line fault)

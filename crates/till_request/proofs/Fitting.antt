@@ -4,15 +4,11 @@ use Rattle.std.proofs.Common.{Some, None, find, lit≤}
 use Rattle.std.proofs.lemmas.Bool.{eq-eqb}
 use Rattle.std.proofs.lemmas.Bool.{and_parts}
 use Rattle.std.proofs.lemmas.Grind.{common_steps}
-use Rattle.bpf_model.specs.declared.context.Layout.{Layout}
-use Rattle.bpf_model.specs.declared.context.Layout.TheVariants as layouts
 use Rattle.till_request.specs.declared.act.Role.{Role}
 use Rattle.till_request.specs.declared.form.Form.{Form}
 use Rattle.till_request.specs.declared.form.Form.TheVariants as forms
 use Rattle.till_request.specs.declared.form.Part.{Part}
-use Rattle.till_request.specs.declared.form.Keyword.TheVariants.{Load}
-use Rattle.till_request.specs.Grammar.{text, template, part_fits, fits, suits, allows, sender, all_forms}
-use Rattle.till_request.specs.Spelling.{load_word}
+use Rattle.till_request.specs.Grammar.{template, part_fits, fits, suits, allows, sender, all_forms}
 
 -- if words fit a form's parts, there are as many words as parts
 pub fits_count : (ps : List Part) (ws : List (List ℕ)) → fits ps ws ≡ true → length ps ≡ length ws
@@ -108,7 +104,3 @@ third_last true false true = refl
 third_last true false false = refl
 third_last false b true = refl
 third_last false b false = refl
-
-pub load_text : (layout : Layout) → text (Load layout) ≡ load_word layout
-load_text layouts.One = refl
-load_text layouts.Two = refl

@@ -22,8 +22,8 @@ and_false false c h = refl
 not_below : (m n : ℕ) → ¬ (m < n) → nat_lt m n ≡ false
 not_below m n h = search (rules, common_steps)
 
--- if the first i bytes are digits of the number `v`, and the next byte is a digit, then the first i + 1 bytes are
--- digits, and their number is `m`, which is v * 10 plus the digit
+-- if the first i bytes of a word are digits that spell the number `v`, and the next byte is a digit, then the first
+-- i + 1 bytes are digits that spell the number `m`, which must be v * 10 plus the value of that next digit
 pub digits_more : (w : List ℕ) (i v m : ℕ) → i < length w → list_all is_ascii_digit (take i w) ≡ true → v ≡ digits_value 10 (take i w)
     → is_ascii_digit (get_or w i 0) ≡ true → m ≡ v * 10 + digit_value (get_or w i 0)
     → (list_all is_ascii_digit (take (i + 1) w) ≡ true) × (m ≡ digits_value 10 (take (i + 1) w))

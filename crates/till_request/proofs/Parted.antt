@@ -41,7 +41,7 @@ by_no_place false t e = ltb-false _ _ t
 pub cut_nowhere : (p : ℕ → Bool) (xs : List ℕ) → position p xs ≡ None → slice_split p xs ≡ xs ∷ []
 cut_nowhere p xs e = none_before p xs (by_no_place (ltb (position_or_len p xs) (length xs)) refl e)
 
--- after its first n bytes a text has `length xs - n` bytes, so taking `length xs - n` of them takes them all
+-- after its first n bytes a text has `length xs - n` further bytes, so taking that many of these takes them all
 pub rest_behind : (xs : List ℕ) (n : ℕ) → take (length xs - n) (drop n xs) ≡ drop n xs
 rest_behind xs n = grind (arith, common_steps)
 
@@ -82,7 +82,8 @@ part_up_to sep xs start at l h none found =
     subst P place (slice_split_first p (drop start xs) 0 (omega (arith, place, many, h, l)))
     ∙ ap (λ t. take (at - start) (drop start xs) ∷ slice_split p t) behind
 
--- if there is no separator from `start` to the end, these bytes are a single part
+-- if none of the bytes from place `start` to the end is the separator, then splitting these bytes gives them as a
+-- single part
 part_to_the_end : (sep : ℕ) (xs : List ℕ) (start at : ℕ) → start ≤ at → at ≡ length xs → NoneFrom sep xs start at
     → slice_split (λ b. eqb b sep) (drop start xs) ≡ drop start xs ∷ []
 part_to_the_end sep xs start at l e none =
@@ -97,9 +98,10 @@ pushed : (parts more : List (Bor (List ℕ))) (part : Bor (List ℕ)) → more �
     → map (λ w. w.now) more ≡ map (λ w. w.now) parts ++ part.now ∷ []
 pushed parts more part e = ap (λ t. map (λ w. w.now) t) e ∙ map-append (λ w. w.now) parts (part ∷ [])
 
--- One step of splitting a text from left to right: `parts`, followed by the parts of the bytes from `start` on, are
--- `all`. The next separator is at place `at`. `more` is `parts` followed by `part`, the bytes from `start` up to but
--- not including the separator. Then `more`, followed by the parts of the bytes after the separator, is `all` too.
+-- One step of splitting a text from left to right. If `parts`, followed by the parts of the bytes from `start` on, are
+-- `all`, and the next separator is at place `at`, then `more`, followed by the parts of the bytes after this separator,
+-- is `all` too. `more` must be `parts` followed by `part`, the bytes from `start` up to but not including the
+-- separator.
 pub part_more : (sep : ℕ) (all : List (List ℕ)) (xs : List ℕ) (start at : ℕ) (parts more : List (Bor (List ℕ))) (part : Bor (List ℕ))
     → map (λ w. w.now) parts ++ slice_split (λ b. eqb b sep) (drop start xs) ≡ all → more ≡ parts ++ part ∷ []
     → part.now ≡ take (at - start) (drop start xs) → start ≤ at → at < length xs → NoneFrom sep xs start at → get_or xs at 0 ≡ sep
@@ -110,9 +112,9 @@ part_more sep all xs start at parts more part so e is l h none found =
     ∙ append_assoc (map (λ w. w.now) parts) (part.now ∷ []) (slice_split p (drop (at + 1) xs))
     ∙ ap (λ t. map (λ w. w.now) parts ++ t) (ap (λ t. t ∷ slice_split p (drop (at + 1) xs)) is ∙ sym (part_up_to sep xs start at l h none found)) ∙ so
 
--- The last step of splitting a text from left to right: `parts`, followed by the parts of the bytes from `start` on,
--- are `all`, and none of these bytes is the separator. `more` is `parts` followed by `part`, which is these bytes. Then
--- `more` is `all`.
+-- The last step of splitting a text from left to right. If `parts`, followed by the parts of the bytes from `start` on,
+-- are `all`, and none of these bytes is the separator, then `more` is `all`. `more` must be `parts` followed by `part`,
+-- the bytes from `start` on.
 pub part_last : (sep : ℕ) (all : List (List ℕ)) (xs : List ℕ) (start at : ℕ) (parts more : List (Bor (List ℕ))) (part : Bor (List ℕ))
     → map (λ w. w.now) parts ++ slice_split (λ b. eqb b sep) (drop start xs) ≡ all → more ≡ parts ++ part ∷ []
     → part.now ≡ drop start xs → start ≤ at → at ≡ length xs → NoneFrom sep xs start at
@@ -122,7 +124,7 @@ part_last sep all xs start at parts more part so e is l h none =
     ∙ ap (λ t. map (λ w. w.now) parts ++ t) (ap (λ t. t ∷ []) is ∙ sym (part_to_the_end sep xs start at l h none)) ∙ so
 
 -- if none of the bytes from place `start` up to but not including place `at` is the separator, nor the byte at place
--- `at`, then `NoneFrom` holds up to place `at + 1`
+-- `at`, then none of the bytes from `start` up to and including `at` is the separator
 pub none_further : (sep : ℕ) (xs : List ℕ) (start at : ℕ) → NoneFrom sep xs start at → get_or xs at 0 ≢ sep → NoneFrom sep xs start (at + 1)
 none_further sep xs start at none f k low high = by_last (eqb_tells k at) where
   by_last : ((eqb k at ≡ true) × (k ≡ at)) ⊎ ((eqb k at ≡ false) × (k ≢ at)) → get_or xs k 0 ≢ sep

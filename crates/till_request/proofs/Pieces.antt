@@ -33,8 +33,8 @@ ends_behind bytes (Some k) h = (
       ∙ ap (λ l. take k bytes ++ l) (drop_more bytes k 0 h.0.high ∙ ap (λ b. b ∷ drop (k + 1) bytes) (eqb-true _ 10 h.1)),
 )
 
--- if a range has at least `count` bytes, then the range that begins `count` bytes later is that range without its first
--- `count` bytes
+-- if the range from `at` to `end` has at least `count` bytes, then the range from `at` + `count` to `end` is that range
+-- without its first `count` bytes
 pub moved_on : (bytes : List ℕ) (at end count : ℕ) → count ≤ length (slice_range bytes at end)
     → slice_range bytes (at + count) end ≡ drop count (slice_range bytes at end)
 moved_on bytes at end count l =
@@ -66,26 +66,26 @@ beyond there line room l e o h = (
   omega (arith, e, l.1, length-append line (take (room + 1) there), length-take-le (room + 1) there o),
 )
 
--- `room` is how many more bytes the line can have. If more than `room` bytes come before the block's first LF, and the
--- first `room` + 1 of them are removed, then `LineGrows` holds for `TooLong`: the line and the removed bytes are 8,401
--- bytes without an LF, one more than a line can have.
+-- If more than `room` bytes come before the block's first LF, and the first `room` + 1 of them are removed, then the
+-- line is too long: the line and the removed bytes are 8,401 bytes without an LF, one more than a line can have
+-- (`LineGrows` for `TooLong`). `room` must be how many more bytes the line can have.
 pub ends_too_late : (there line : List ℕ) (room count : ℕ) → IsLine line → room ≡ 8400 - length line → HasFirstLfAt count there → room < count
     → LineGrows there line (drop (room + 1) there) [] TooLong
 ends_too_late there line room count l e h o =
     beyond there line room l e (omega (arith, o, h.0)) (no_lf_less count (room + 1) there (omega (arith, o)) h.1)
 
--- `room` is how many more bytes the line can have. If the block has no LF and more than `room` bytes, and the first
--- `room` + 1 of them are removed, then `LineGrows` holds for `TooLong`: the line and the removed bytes are 8,401 bytes
--- without an LF, one more than a line can have.
+-- If the block has no LF and more than `room` bytes, and the first `room` + 1 of them are removed, then the line is too
+-- long: the line and the removed bytes are 8,401 bytes without an LF, one more than a line can have (`LineGrows` for
+-- `TooLong`). `room` must be how many more bytes the line can have.
 pub ends_nowhere : (there line : List ℕ) (room : ℕ) → IsLine line → room ≡ 8400 - length line → HasNoLf there → room < length there
     → LineGrows there line (drop (room + 1) there) [] TooLong
 ends_nowhere there line room l e h o =
     beyond there line room l e (omega (arith, o))
     (no_lf_less (length there) (room + 1) there (omega (arith, o)) (subst (λ l. HasNoLf l) (sym (take_all (length there) there (omega arith))) h))
 
--- `place` is the capacity of the line's vector. If at least one byte and no LF was removed from the front of the block,
--- and the line with the removed bytes has more than `place` bytes, but at most 8,400, then `LosesPart` holds: the
--- removed bytes belong to the line and don't fit into its vector.
+-- If one or more bytes, none of them an LF, were removed from the front of the block, and the line with these bytes has
+-- more than `place` bytes but at most 8,400, then the removed bytes belong to the line, but the line with them doesn't
+-- fit into a vector with room for `place` bytes (`LosesPart`).
 pub part_lost : (there line left : List ℕ) (count place : ℕ) → IsLine line → HasNoLf (take count there) → count ≤ length there
     → count ≤ 8400 - length line → 0 < count → place < length line + count → left ≡ drop count there → LosesPart there line place left
 part_lost there line left count place l h long room some full rest = (
@@ -96,9 +96,9 @@ part_lost there line left count place l h long room some full rest = (
   omega (arith, length-append line (take count there), length-take-le count there long, full),
 )
 
--- If the bytes before the block's first LF were moved to the end of the line, if the LF was removed, and if the line
--- has at most 8,400 bytes now, then `LineGrows` holds for `Ended`: the line is whole, and the bytes after its LF are
--- left in the block.
+-- If the bytes before the block's first LF were moved to the end of the line, the LF was removed, and the line has at
+-- most 8,400 bytes now, then the line is whole, and the bytes after its LF are left in the block (`LineGrows` for
+-- `Ended`).
 pub line_ended : (there line left grown : List ℕ) (count : ℕ) → IsLine line → HasFirstLfAt count there → count ≤ 8400 - length line
     → grown ≡ line ++ take count there → left ≡ drop 1 (drop count there) → LineGrows there line left grown Ended
 line_ended there line left grown count l h room is rest =
@@ -111,8 +111,9 @@ line_ended there line left grown count l h room is rest =
       subst (λ w. IsLine w) (sym is) whole,
     )
 
--- After `line` was taken from the input, the block has the bytes `there`, and the device has `ahead`. If the block's
--- first bytes, `piece`, are taken too, then `line` followed by `piece` was taken in all.
+-- If `line` was taken from an input (a block and a device together), and after it `piece`, the first bytes of the
+-- block, then `line` followed by `piece` was taken in all. Before `piece` was taken, the block had the bytes `there`,
+-- and the device had `ahead`.
 pub piece_taken : (a b ahead : Option (List ℕ)) (line there left piece : List ℕ) → Consumes a b line → Keeps b (prepend_known there ahead)
     → there ≡ piece ++ left → Consumes a (prepend_known left ahead) (line ++ piece)
 piece_taken None b ahead line there left piece h k e = tt
@@ -161,8 +162,9 @@ end_by a b ahead (x ∷ xs) h l k z =
     subst (λ e. Takes a (prepend_known [] ahead) (if e then End else Cut)) (sym some)
     (x ∷ xs, still_taken a b (prepend_known [] ahead) (x ∷ xs) h k, l, omega arith, at_end_too ahead z)
 
--- `found` is `End` if `line` is empty, else `Cut`. If the input has ended after `line` was taken, then `Takes` holds
--- for `found`: nothing was taken (`End`), or at least one byte and no LF (`Cut`), and the input has ended.
+-- If the input has ended after `line` was taken, then what was taken is what `Takes` says for `found`: nothing if
+-- `found` is `End`, and at least one byte and no LF if it is `Cut`. `found` must be `End` if `line` is empty, else
+-- `Cut`.
 pub end_taken : (a b ahead : Option (List ℕ)) (line there : List ℕ) (found : NextLine) → Consumes a b line → IsLine line
     → Keeps b (prepend_known there ahead) → there ≡ [] → IsAtEnd ahead → found ≡ (if length line == 0 then End else Cut)
     → Takes a (prepend_known there ahead) found
@@ -170,8 +172,8 @@ end_taken a b ahead line there found h l k none z is =
     subst (λ t. Takes a (prepend_known t ahead) found) (sym none)
     (subst (λ f. Takes a (prepend_known [] ahead) f) (sym is) (end_by a b ahead line h l (subst (λ t. Keeps b (prepend_known t ahead)) none k) z))
 
--- if the block's first `count` bytes, which belong to the line, were moved to the end of the line, then `MovesIntoLine`
--- holds: the line with these bytes has no LF and at most 8,400 bytes
+-- if the block's first `count` bytes belong to the line and were moved to its end, then the line has no LF and at most
+-- 8,400 bytes now, as `MovesIntoLine` says
 pub buffered_moved : (there line grown left : List ℕ) (room n count : ℕ) → IsLine line → room ≡ 8400 - length line → Belongs there room n → count ≤ n
     → grown ≡ line ++ take count there → left ≡ drop count there → MovesIntoLine there line left grown count
 buffered_moved there line grown left room n count l e belongs within_limit is rest =
@@ -183,9 +185,10 @@ buffered_moved there line grown left room n count l e belongs within_limit is re
     ) in
     (bytes, sym (ap (λ r. bytes ++ r) rest ∙ take-append-drop count there), is, subst (λ w. IsLine w) (sym is) whole, long)
 
--- `free` is how many more bytes the line can have, and `place` is the capacity of the line's vector. The block's first
--- `count` bytes belong to the line. `count` must be at most `most`, the number of bytes that may be moved. If the line
--- fits into `place`, but the line with the `count` bytes doesn't, then `LacksRoom` holds for the bytes of the block.
+-- If the line fits into a vector with room for `place` bytes, but the line with the block's first `count` bytes
+-- doesn't, then the vector lacks room for bytes that come next in the block, as `LacksRoom` says. These `count` bytes
+-- must belong to the line, and `count` must be at most `most`, the number of bytes that may be moved. `free` is how
+-- many more bytes the line can have.
 pub buffered_lacks_room : (there line : List ℕ) (free n count place most : ℕ) → IsLine line → free ≡ 8400 - length line → Belongs there free n
     → count ≤ n → count ≤ most → length line ≤ place → place < length line + count → LacksRoom (Some there) line place most most
 buffered_lacks_room there line free n count place most l e belongs within_limit within fits full =
@@ -215,8 +218,8 @@ lacks_ahead None there line place most h = (h.0, None, tt, h.3, h.4, h.5, h.6, h
 lacks_ahead (Some rest) there line place most h =
     (h.0, append_known h.1 rest, consumes_ahead there rest h.0 h.1 h.2, h.3, h.4, h.5, h.6, h.7)
 
--- if bytes were moved from a block to the end of the line, as `MovesIntoLine` says, then `ReadsIntoLine` holds for the
--- input, which is the block and the device together: these bytes were read from it and appended to the line
+-- if bytes were moved from a block to the end of the line (`MovesIntoLine`), then they were read from the input, which
+-- is the block and the device together, and appended to the line (`ReadsIntoLine`)
 pub buffered_with_device : (ahead : Option (List ℕ)) (there line left grown : List ℕ) (count : ℕ) → MovesIntoLine there line left grown count
     → ReadsIntoLine (prepend_known there ahead) (prepend_known left ahead) line grown
 buffered_with_device None there line left grown count h = (h.0, tt, h.2, h.3)

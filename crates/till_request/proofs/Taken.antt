@@ -31,8 +31,8 @@ pub part_given : {T E : Type 0} (r : Result T E) (a c : Option (List ℕ)) (xs :
 part_given (Ok x) a c xs h l = tt
 part_given (Err e) a c xs h l = (xs, h, l)
 
--- `line` was read, then zero or more bytes, with which the line became `grown`, and then `byte`. So `grown` followed by
--- `byte` was read in all.
+-- If `line` was read, after it zero or more bytes, with which the line became `grown`, and after these `byte`, then
+-- `grown` followed by `byte` was read in all.
 pub byte_behind : (a b c : Option (List ℕ)) (line grown : List ℕ) (byte : ℕ) → Consumes a b line → ReadsIntoLineThenByte b c line grown (Some byte)
     → Consumes a c (grown ++ byte ∷ [])
 byte_behind a b c line grown byte h on =
@@ -42,26 +42,27 @@ byte_behind a b c line grown byte h on =
 nothing_more : (a b c : Option (List ℕ)) (xs : List ℕ) → Consumes a b xs → Consumes b c [] → Consumes a c xs
 nothing_more a b c xs h k = subst (Consumes a c) (append-nil xs) (consumes_more a b c xs [] h k)
 
--- Zero or more bytes were read and appended to a line, and after that one more byte was to be read. If this last read
--- didn't fail, then `ReadsIntoLineThenByte` holds for both steps together: bytes were appended to the line, and then
--- one more byte was read or the input had ended.
+-- If zero or more bytes were read and appended to a line, and the read of one more byte after that didn't fail, then
+-- both steps together did what `ReadsIntoLineThenByte` says: bytes were appended to the line, and then one more byte
+-- was read or the input had ended.
 pub goes_on : {E : Type 0} (a b c : Option (List ℕ)) (line grown : List ℕ) (r : Result (Option ℕ) E) → ReadsIntoLine a b line grown
     → IfOk r (λ found. MatchOption found (Consumes b c [] × IsAtEnd c) (λ byte. Consumes b c (byte ∷ []))) → IfOk r (ReadsIntoLineThenByte a c line grown)
 goes_on a b c line grown (Err e) h k = tt
 goes_on a b c line grown (Ok None) h k = ((h.0, nothing_more a b c h.0 h.1 k.0, h.2, h.3), k.1)
 goes_on a b c line grown (Ok (Some byte)) h k = (h.0, consumes_more a b c h.0 (byte ∷ []) h.1 k, h.2, h.3)
 
--- Bytes were read and appended to a line, and after that one more byte was to be read. If this failed and took no byte,
--- `ReadsBytesOfLine` holds for both steps together: all bytes that were read belong to the line.
+-- If bytes were read and appended to a line, and the read of one more byte after that failed and took no byte, then all
+-- bytes that were read belong to the line (`ReadsBytesOfLine` for both steps together).
 pub goes_part : {T E : Type 0} (a b c : Option (List ℕ)) (line grown : List ℕ) (r : Result T E) → ReadsIntoLine a b line grown
     → OnErr r (Consumes b c []) → OnErr r (ReadsBytesOfLine a c line)
 goes_part a b c line grown (Ok x) h k = tt
 goes_part a b c line grown (Err e) h k = (h.0, nothing_more a b c h.0 h.1 k, subst (λ l. IsLine l) h.2 h.3)
 
--- `line` was read from an input, and `LacksRoom` says that `line` has no room for bytes that come next. Then
--- `LacksRoom` also holds for the input before `line` was read, with an empty line and a room of `least` bytes. `least`
--- must be at most `room`. `all` is the number of reads that were allowed before `line` was read, and must be
--- `length line` + `before`.
+-- In the input `a`, more than `least` bytes of a line come next (`LacksRoom` with an empty line). This holds if `line`
+-- was read from `a`, which left the input `b`, and `line` with further bytes that come next in `b` is longer than
+-- `room` (`LacksRoom` with `line`). `least` must be at most `room`. `all`, `before` and `after` are numbers of reads:
+-- how many were still allowed when the input was `a`, when it was `b`, and later. `all` must be `length line` +
+-- `before`.
 pub lacks_behind : (a b : Option (List ℕ)) (line : List ℕ) (least room all before after : ℕ) → Consumes a b line → least ≤ room
     → length line + before ≡ all → LacksRoom b line room before after → LacksRoom a [] least all after
 lacks_behind a b line least room all before after h fits counted l =
@@ -76,10 +77,10 @@ lacks_behind a b line least room all before after h fits counted l =
       omega (arith, long, counted, l.7),
     )
 
--- `line` and then `byte` were read from an input. Then `LacksRoom` holds for the input before these reads, with an
--- empty line: `line` and `byte` together have more than `room` bytes. Together they must be a line or the beginning of
--- one. `room` must be at most `length line`. `all` is the number of reads that were allowed before `line` was read, and
--- must be `length line` + `after` + 1.
+-- In the input `a`, more than `room` bytes of a line come next (`LacksRoom` with an empty line). This holds if `line`
+-- and then `byte` were read from `a`, and `room` is at most `length line`. Together `line` and `byte` must have no LF
+-- and at most 8,400 bytes. `all` and `after` are numbers of reads: how many were still allowed before `line` was read,
+-- and after `byte` was read. `all` must be `length line` + `after` + 1.
 pub lacks_byte : (a c : Option (List ℕ)) (line : List ℕ) (byte room all after : ℕ) → Consumes a c (line ++ byte ∷ []) → IsLine (line ++ byte ∷ [])
     → room ≤ length line → length line + after + 1 ≡ all → LacksRoom a [] room all after
 lacks_byte a c line byte room all after h whole full counted =

@@ -44,8 +44,8 @@ fault_text faults.BadNumber = codes "L3"
 fault_text faults.CutLine = codes "L4"
 fault_text faults.OutOfMemory = codes "S31"
 
--- the words of a program's refusal: V with the refusal's number, the unit that it names, and the register or argument
--- that it names; each of these two is left out if the refusal names none
+-- the words of a program's refusal: V with the refusal's number; then the unit that the refusal names, if it names one;
+-- then the register or argument that it names, if it names one
 abbrev pub program_words : ℕ → Option ℕ → Option ℕ → List (List ℕ)
 program_words number None None = (codes "V" ++ decimal number) ∷ []
 program_words number None (Some part) = (codes "V" ++ decimal number) ∷ decimal part ∷ []

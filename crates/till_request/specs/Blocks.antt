@@ -11,7 +11,7 @@ use Rattle.till_request.specs.declared.line.InputFault.TheVariants.{Read, ReadsS
 abbrev pub most_ahead : ℕ → List ℕ → ℕ
 most_ahead left unread = 4096 * left + length unread
 
--- `unread` is the bytes in the block. After `Read` or `ReadsSpent` the block is empty. After `OutOfMemory` nothing is
+-- After the fault `Read` or `ReadsSpent` the block, whose bytes are `unread`, is empty. After `OutOfMemory` nothing is
 -- stated.
 abbrev pub IsEmptyAfterInputFault : InputFault → List ℕ → Type 0
 IsEmptyAfterInputFault Read unread = unread ≡ []
@@ -22,10 +22,13 @@ IsEmptyAfterInputFault OutOfMemory unread = Unit {0}
 abbrev pub HasFirstLfAt : ℕ → List ℕ → Type 0
 HasFirstLfAt count bytes = (count < length bytes) × HasNoLf (take count bytes) × (bytes ≡ take count bytes ++ 10 ∷ drop (count + 1) bytes)
 
--- The block had the bytes `there` and has the bytes `left` now. `line` has become `grown`. Ended: the bytes before the
--- first LF were moved to the end of the line, and the LF was removed. More: all bytes were moved to the end of the
--- line. In both cases `grown` has no LF and at most 8,400 bytes. TooLong: as many bytes were removed as make the line
--- 8,401 bytes long, one more than a line can have; `grown` can be any bytes.
+-- What was done to a block and a line, for each result of taking bytes of the line from the block. The block had the
+-- bytes `there` and has the bytes `left` now. The line was `line` and is `grown` now.
+-- - Ended: the bytes before the first LF were moved to the end of the line, and the LF was removed. `grown` has no LF
+--   and at most 8,400 bytes.
+-- - TooLong: as many bytes were removed as would make `line` 8,401 bytes long, one more than a line can have. `line`
+--   and these bytes have no LF. `grown` can be any bytes.
+-- - More: all bytes were moved to the end of the line. `grown` has no LF and at most 8,400 bytes.
 abbrev pub LineGrows : List ℕ → List ℕ → List ℕ → List ℕ → Piece → Type 0
 LineGrows there line left grown Ended = (bytes : List ℕ) × (there ≡ bytes ++ 10 ∷ left) × (grown ≡ line ++ bytes) × IsLine grown
 LineGrows there line left grown TooLong = (bytes : List ℕ) × (there ≡ bytes ++ left) × HasNoLf (line ++ bytes) × (length (line ++ bytes) ≡ 8401)

@@ -30,53 +30,51 @@ use Rattle.till_request.specs.declared.form.TransactionVerb.{TransactionVerb}
 use Rattle.till_request.specs.declared.form.TransactionVerb.TheVariants as transactions
 use Rattle.till_request.specs.declared.form.ReportVerb.{ReportVerb}
 use Rattle.till_request.specs.declared.form.ReportVerb.TheVariants as reports
-use Rattle.till_request.specs.declared.form.Keyword.{Keyword}
-use Rattle.till_request.specs.declared.form.Keyword.TheVariants as keywords
 use Rattle.till_request.specs.declared.form.Form.{Form}
 use Rattle.till_request.specs.declared.form.Form.TheVariants as forms
+use Rattle.till_request.specs.declared.form.RequestByForm.{RequestByForm}
+use Rattle.till_request.specs.declared.form.RequestByForm.TheVariants as request_forms
 use Rattle.till_request.specs.declared.form.Part.{Part}
-use Rattle.till_request.specs.declared.form.Part.TheVariants.{Word, Value}
+use Rattle.till_request.specs.declared.form.Part.TheVariants.{Till, Disp, Verb, Value}
 
 -- the words of a line, which is split at each space
 abbrev pub words : List ℕ → List (List ℕ)
 words line = slice_split (λ b. b == 32) line
 
--- the spelling of a fixed word
-abbrev pub text : Keyword → List ℕ
-text keywords.Till = codes "till"
-text keywords.Disp = codes "disp"
-text (keywords.Load layouts.One) = codes "load"
-text (keywords.Load layouts.Two) = codes "load2"
-text keywords.Up = codes "up"
-text keywords.Flow = codes "flow"
-text (keywords.Amount amounts.Release) = codes "release"
-text (keywords.Amount amounts.Preset) = codes "preset"
-text (keywords.Amount amounts.Price) = codes "price"
-text (keywords.Point points.Open) = codes "open"
-text (keywords.Point points.Close) = codes "close"
-text (keywords.Point points.Show) = codes "show"
-text (keywords.Point points.Suspend) = codes "suspend"
-text (keywords.Point points.Resume) = codes "resume"
-text (keywords.Point points.Stop) = codes "stop"
-text (keywords.Transaction transactions.Lock) = codes "lock"
-text (keywords.Transaction transactions.Unlock) = codes "unlock"
-text (keywords.Transaction transactions.Clear) = codes "clear"
-text (keywords.Report reports.Down) = codes "down"
-text (keywords.Report reports.Started) = codes "started"
-text (keywords.Report reports.Fault) = codes "fault"
-text (keywords.Report reports.Repaired) = codes "repaired"
-text (keywords.Report reports.Order) = codes "order"
+-- the verb of a form: the fixed word by which the form is known
+abbrev pub text : Form → List ℕ
+text (forms.Load layouts.One) = codes "load"
+text (forms.Load layouts.Two) = codes "load2"
+text forms.Up = codes "up"
+text forms.Flow = codes "flow"
+text (forms.Amount amounts.Release) = codes "release"
+text (forms.Amount amounts.Preset) = codes "preset"
+text (forms.Amount amounts.Price) = codes "price"
+text (forms.Point points.Open) = codes "open"
+text (forms.Point points.Close) = codes "close"
+text (forms.Point points.Show) = codes "show"
+text (forms.Point points.Suspend) = codes "suspend"
+text (forms.Point points.Resume) = codes "resume"
+text (forms.Point points.Stop) = codes "stop"
+text (forms.Transaction transactions.Lock) = codes "lock"
+text (forms.Transaction transactions.Unlock) = codes "unlock"
+text (forms.Transaction transactions.Clear) = codes "clear"
+text (forms.Report reports.Down) = codes "down"
+text (forms.Report reports.Started) = codes "started"
+text (forms.Report reports.Fault) = codes "fault"
+text (forms.Report reports.Repaired) = codes "repaired"
+text (forms.Report reports.Order) = codes "order"
 
 -- the words of a form: `till T verb P A`, `till T verb P`, `till T verb P X`, `disp P verb`, `disp P up N`, `disp P
 -- flow A V`, `load SLOT MASK HEX` and `load2 SLOT MASK HEX`
 abbrev pub template : Form → List Part
-template (forms.Amount verb) = Word keywords.Till ∷ Value ∷ Word (keywords.Amount verb) ∷ Value ∷ Value ∷ []
-template (forms.Point verb) = Word keywords.Till ∷ Value ∷ Word (keywords.Point verb) ∷ Value ∷ []
-template (forms.Transaction verb) = Word keywords.Till ∷ Value ∷ Word (keywords.Transaction verb) ∷ Value ∷ Value ∷ []
-template (forms.Report verb) = Word keywords.Disp ∷ Value ∷ Word (keywords.Report verb) ∷ []
-template forms.Up = Word keywords.Disp ∷ Value ∷ Word keywords.Up ∷ Value ∷ []
-template forms.Flow = Word keywords.Disp ∷ Value ∷ Word keywords.Flow ∷ Value ∷ Value ∷ []
-template (forms.Load layout) = Word (keywords.Load layout) ∷ Value ∷ Value ∷ Value ∷ []
+template (forms.Amount verb) = Till ∷ Value ∷ Verb (forms.Amount verb) ∷ Value ∷ Value ∷ []
+template (forms.Point verb) = Till ∷ Value ∷ Verb (forms.Point verb) ∷ Value ∷ []
+template (forms.Transaction verb) = Till ∷ Value ∷ Verb (forms.Transaction verb) ∷ Value ∷ Value ∷ []
+template (forms.Report verb) = Disp ∷ Value ∷ Verb (forms.Report verb) ∷ []
+template forms.Up = Disp ∷ Value ∷ Verb forms.Up ∷ Value ∷ []
+template forms.Flow = Disp ∷ Value ∷ Verb forms.Flow ∷ Value ∷ Value ∷ []
+template (forms.Load layout) = Verb (forms.Load layout) ∷ Value ∷ Value ∷ Value ∷ []
 
 -- all forms that a line can have
 unfoldable pub all_forms : List Form
@@ -117,7 +115,9 @@ is_some_word (b ∷ word) = true
 
 -- the word fits this part of a form: it is the fixed word, or for a value any word that isn't empty
 abbrev pub part_fits : Part → List ℕ → Bool
-part_fits (Word keyword) word = bytes_eq word (text keyword)
+part_fits Till word = bytes_eq word (codes "till")
+part_fits Disp word = bytes_eq word (codes "disp")
+part_fits (Verb form) word = bytes_eq word (text form)
 part_fits Value word = is_some_word word
 
 -- there are as many words as parts, and each word fits its part
@@ -155,8 +155,8 @@ abbrev pub ◌>>=◌ : {A B : Type 0} → Result A LineFault → (A → Result B
 (Ok x) >>= f = f x
 (Err e) >>= f = Err e
 
--- the request with this verb and these numbers; `point_request` and `transaction_request` are the same for other verbs.
--- `report_event` is the event that a dispenser reports by a verb.
+-- The request with this verb and these numbers. `point_request` and `transaction_request` give the requests with the
+-- other verbs, and `report_event` gives the event that a dispenser reports by a verb.
 abbrev pub amount_request : AmountVerb → ℕ → ℕ → Request
 amount_request amounts.Release point amount = requests.Release point amount
 amount_request amounts.Preset point amount = requests.Preset point amount
@@ -174,6 +174,21 @@ abbrev pub transaction_request : TransactionVerb → ℕ → ℕ → Request
 transaction_request transactions.Lock point transaction = requests.Lock point transaction
 transaction_request transactions.Unlock point transaction = requests.Unlock point transaction
 transaction_request transactions.Clear point transaction = requests.Clear point transaction
+
+-- a request's verb and its numbers
+abbrev pub by_form : Request → RequestByForm
+by_form (requests.Release point amount) = request_forms.Amount amounts.Release point amount
+by_form (requests.Preset point amount) = request_forms.Amount amounts.Preset point amount
+by_form (requests.Price product price) = request_forms.Amount amounts.Price product price
+by_form (requests.OpenPoint point) = request_forms.Point points.Open point
+by_form (requests.ClosePoint point) = request_forms.Point points.Close point
+by_form (requests.Show point) = request_forms.Point points.Show point
+by_form (requests.Suspend point) = request_forms.Point points.Suspend point
+by_form (requests.Resume point) = request_forms.Point points.Resume point
+by_form (requests.Stop point) = request_forms.Point points.Stop point
+by_form (requests.Lock point transaction) = request_forms.Transaction transactions.Lock point transaction
+by_form (requests.Unlock point transaction) = request_forms.Transaction transactions.Unlock point transaction
+by_form (requests.Clear point transaction) = request_forms.Transaction transactions.Clear point transaction
 
 abbrev pub report_event : ReportVerb → DispenserEvent
 report_event reports.Down = events.Down
@@ -261,16 +276,16 @@ abbrev pub names_point : ℕ → Act → Bool
 names_point points (acts.Dispenser point event) = nat_le 1 point && (nat_le point 32 && (points / 2 ^ (point - 1) % 2 == 1))
 names_point points act = false
 
--- For `OneTill`, the act is a request of this till. For `SomePoints`, the act is a dispenser's event at one of these
--- points. For every other role, true.
+-- For `OneTill`, the act is a request of the till that the role names. For `SomePoints`, the act is a dispenser's event
+-- at one of the fuelling points that the role names. For every other role, true.
 abbrev pub is_within_role : Role → Act → Bool
 is_within_role (roles.OneTill number) act = names_till number act
 is_within_role (roles.SomePoints points) act = names_point points act
 is_within_role role act = true
 
--- Limits a parsed act to the role. For `OneTill`, an act that isn't a request of this till is a bad line. For
--- `SomePoints`, an act that isn't a dispenser's event at one of these points is a bad line. Any other act, and a fault,
--- stays as it is.
+-- Limits a parsed act to the role. For `OneTill`, an act that isn't a request of the till that the role names is a bad
+-- line. For `SomePoints`, an act that isn't a dispenser's event at one of the fuelling points that the role names is a
+-- bad line. Any other act, and a fault, stays as it is.
 abbrev pub act_within_role : Role → Result Act LineFault → Result Act LineFault
 act_within_role (roles.OneTill number) parsed_act = parsed_act >>= (λ act. if names_till number act then Ok act else Err BadLine)
 act_within_role (roles.SomePoints points) parsed_act = parsed_act >>= (λ act. if names_point points act then Ok act else Err BadLine)

@@ -1,8 +1,8 @@
 -- Promises: which bytes are read from an input that is read line by line. `old` is the bytes that the input has left
--- before the reads, and `new` those after the reads. Each is None if the bytes aren't known. A line has no LF and is
--- allowed at most 8,400 bytes. With more it is too long. A line is cut if the input ends after at least one of its
--- bytes and before its LF. `IsLine` and `Takes` are also definitions, so only a reader can check that they say what is
--- meant. `IsLine` says what a line is, and `Takes` says what was read for each result of reading a line.
+-- before the reads, and `new` those that it has left after the reads. Each is None if the bytes aren't known. A line
+-- has no LF and is allowed at most 8,400 bytes. With more it is too long. A line is cut if the input ends after at
+-- least one of its bytes and before its LF. `IsLine` (what a line is) and `Takes` (what was read, for each result of
+-- reading a line) are also definitions, so only a reader can check that they say what is meant.
 use Rattle.std.specs.Prelude.{◌≡◌, ◌≢◌, ◌⊎◌, ℕ, ◌+◌, ◌<◌, ◌≤◌, List, [], ◌∷◌, ◌++◌, length, Option, Some, None, Result, Ok, Err, Bool, true, false}
 use Rattle.std.specs.List.{AllByRecursion}
 use Rattle.std.specs.Io.KnownBytes.{Consumes, IsAtEnd}
@@ -45,17 +45,18 @@ abbrev pub TakesBytes : Option (List ℕ) → Option (List ℕ) → Type 0
 TakesBytes old new = (bytes : List ℕ) × Consumes old new bytes × IsLine bytes × (0 < length bytes)
 
 -- `line` is the beginning of a line. One or more further bytes of this line come next in the input `old`, and with them
--- the line is longer than `room`. `before` reads of one byte were allowed when the input was `old`, and `after` of them
--- are left now. The further bytes are at least as many as the reads that were made, and at most `before`.
+-- the line is longer than `room`. `before` and `after` are numbers of reads of one byte: how many were still allowed
+-- when the input was `old`, and how many are still allowed now, after some reads. The further bytes are at least as
+-- many as the reads that were made in between, and at most `before`.
 abbrev pub LacksRoom : Option (List ℕ) → List ℕ → ℕ → ℕ → ℕ → Type 0
 LacksRoom old line room before after =
     (bytes : List ℕ) × (rest : Option (List ℕ)) × Consumes old rest bytes × IsLine (line ++ bytes) × (0 < length bytes)
     × (room < length (line ++ bytes)) × (before ≤ after + length bytes) × (length bytes ≤ before)
 
--- What was read until memory ran out. `before` reads of one byte were allowed at first, and `after` of them are left.
--- Either zero or more bytes of a line were read, and there was no memory for one or more of its bytes, as `LacksRoom`
--- says. Or a whole line with its LF was read that has the form of a load, and there was no memory for the load's
--- program.
+-- What was read until memory ran out. `old` is what the input had left before the reads, and `new` what it had left
+-- after them. `before` and `after` are how many more reads of one byte were allowed before and after. Either zero or
+-- more bytes of a line were read, and there was no memory for one or more of its bytes, as `LacksRoom` says. Or a whole
+-- line with its LF was read that has the form of a load, and there was no memory for the load's program.
 abbrev pub ReadsUntilOutOfMemory : Option (List ℕ) → Option (List ℕ) → Role → ℕ → ℕ → Type 0
 ReadsUntilOutOfMemory old new role before after =
     (TakesPart old new × LacksRoom old [] 0 before after)
@@ -97,13 +98,14 @@ ReadsFound old new line found.End = Consumes old new [] × IsAtEnd new
 abbrev pub TakesLine : Option (List ℕ) → Option (List ℕ) → Role → Result Act LineFault → Type 0
 TakesLine old new role given = (line : List ℕ) × Consumes old new (line ++ 10 ∷ []) × IsLine line × (line_read role line ≡ given)
 
--- What was read, for each result. For an act it is a line with its LF, and the line is read as this act. For None
--- nothing was read, and the input has ended.
+-- What was read, if reading an act gave this result. If it is an act, a line with its LF was read, and the line is read
+-- as this act. If it is None, nothing was read, and the input has ended.
 abbrev pub TakesAct : Option (List ℕ) → Option (List ℕ) → Role → Option Act → Type 0
 TakesAct old new role (Some act) = TakesLine old new role (Ok act)
 TakesAct old new role None = Consumes old new [] × IsAtEnd new
 
--- what was read, for each fault; `before` reads were allowed, and `after` of them are left
+-- What was read, if reading an act failed with this fault. `old` is what the input had left before the reads, and `new`
+-- what it had left after them. `before` and `after` are how many more reads of one byte were allowed before and after.
 abbrev pub TakesFault : Option (List ℕ) → Option (List ℕ) → Role → ℕ → ℕ → LineReadFault → Type 0
 TakesFault old new role before after (reading.Line line.TooLong) = TakesTooLong old new
 TakesFault old new role before after (reading.Line line.BadLine) = TakesLine old new role (Err line.BadLine)

@@ -79,8 +79,8 @@ impl PartialEq for Bytes {
     }
 }
 
-/// A till's request. If a variant has only one number, that is the point's. The numbers of points, of products and of a
-/// point's transactions begin at 1.
+/// A till's request. If a variant has only one number, it is the number of a fuelling point. The numbers of points and
+/// of products, and those of a point's transactions, begin at 1.
 #[derive(Clone, Copy, PartialEq)]
 pub enum Request {
     /// `Release(point, amount)`: allow a delivery of at most this amount, in cents.
@@ -135,12 +135,13 @@ pub enum Reply {
     Granted(u64, u32),
     /// `Version(version)`: a program was loaded, and this is the number of its version, counted from 1.
     Version(u32),
-    /// The order that was waiting at the point for the dispenser.
+    /// The order that was waiting at the fuelling point until its dispenser asked for it.
     Order(Order),
-    /// A point as it is: its state 1 to 9, the lifted nozzle or 0, and how many transactions are unpaid. `amount` in
-    /// cents and `volume` in centilitres are those of the delivery so far. `limit` is the amount that was granted to
-    /// the delivery, and `preset` bounds the next release, both in cents. When a delivery ends, `amount`, `volume` and
-    /// `limit` become 0. `preset` is 0 if there is no preset.
+    /// A fuelling point as it is: the number of its state (1 to 9), the number of its lifted nozzle (0 if none is
+    /// lifted), and how many of its transactions are unpaid. `amount` (cents) and `volume` (centilitres) are those of
+    /// the delivery so far. `limit` (cents) is the amount that was granted to the delivery. When a delivery ends,
+    /// `amount`, `volume` and `limit` become 0. `preset` (cents) bounds the next release, and is 0 if there is no
+    /// preset.
     Point {
         state: u32,
         nozzle: u32,

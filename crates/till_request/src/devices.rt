@@ -1,5 +1,6 @@
-//! Sources and sinks. Some are lists in memory, which can be made to return or accept few bytes at a time, or to fail.
-//! The others use the readers and writers of `std`, or read ahead from another source.
+//! Sources that lines are read from, and sinks that answers are written to. Some are lists in memory, which can be made
+//! to return or accept few bytes at a time, or to fail. The others use the readers and writers of `std`, or read ahead
+//! from another source.
 ghost use Rattle.std.specs.Prelude.{◌≡◌, ◌↔◌, ◌<◌, ◌≤◌, ◌-◌, ◌^◌};
 ghost use Rattle.std.specs.Prelude.{min, [], Some, IfOk, IsTrue, is_err, drop, take, length, true, false, ℕ};
 ghost use Rattle.std.specs.Io.KnownBytes.{ReadConsumes, WriteAppends, prepend_known};
@@ -56,8 +57,8 @@ impl MemoryIn {
     }
 }
 
-/// Returns the greatest number of bytes that call number `call`, counted from 0, can move: `sizes[call]`, or `each` if
-/// `sizes` has no such index; but at least 1.
+/// Returns how many bytes a call can move at most: `sizes[call]`, or `each` if `sizes` has no such index; but at least
+/// 1. `call` is the number of the call, counted from 0.
 fn size_at(sizes: &[usize], each: usize, call: u64) -> usize
     ensures { result ≡ piece_size sizes.now each call }
 {

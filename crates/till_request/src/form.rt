@@ -1,11 +1,12 @@
 //! The forms that a line can have: which fixed words it has, and where its values are.
 ghost use Rattle.std.specs.Prelude.{◌≡◌, ◌≤◌, ◌∷◌, [], map, find, length, IfSome, true};
 ghost use Rattle.till_request.specs.Grammar.{text, template, sender, allows, amount_request, point_request};
-ghost use Rattle.till_request.specs.Grammar.{transaction_request, report_event, all_forms, part_fits, fits, suits};
-ghost use Rattle.till_request.specs.declared.form.Part.TheVariants.{Word, Value};
+ghost use Rattle.till_request.specs.Grammar.{transaction_request, report_event, all_forms, part_fits, fits, suits, by_form};
+ghost use Rattle.till_request.specs.declared.form.Part.TheVariants.{Value};
 ghost use Rattle.till_request.specs.declared.form.Form.TheVariants as forms;
 
 use crate::act::{Request, Role};
+use crate::form::RequestByForm::{Amount, Point, Transaction};
 use bpf_model::context::Layout;
 use fuelling_point::DispenserEvent;
 
@@ -46,20 +47,6 @@ pub enum ReportVerb {
     Order,
 }
 
-/// A fixed word of a line, such as `till` or `release`.
-#[derive(Clone, Copy)]
-pub enum Keyword {
-    Till,
-    Disp,
-    Load(Layout),
-    Up,
-    Flow,
-    Amount(AmountVerb),
-    Point(PointVerb),
-    Transaction(TransactionVerb),
-    Report(ReportVerb),
-}
-
 /// The form of a line: its fixed words, and the places of its values.
 #[derive(Clone, Copy)]
 pub enum Form {
@@ -75,10 +62,27 @@ pub enum Form {
     Load(Layout),
 }
 
+/// A till's request by the form of its line: the verb, and the numbers that come after it, in the order of the line.
+#[derive(Clone, Copy)]
+pub enum RequestByForm {
+    /// The number of a fuelling point, and an amount in cents. For `Price`, the number of a product, and a price in
+    /// thousandths of the currency per litre.
+    Amount(AmountVerb, u32, u64),
+    /// The number of a fuelling point.
+    Point(PointVerb, u32),
+    /// The number of a fuelling point, and the number of one of its transactions.
+    Transaction(TransactionVerb, u32, u32),
+}
+
 /// A word of a form: a fixed one, or a place where a line has a value.
 #[derive(Clone, Copy)]
 pub enum Part {
-    Word(Keyword),
+    /// The word `till`.
+    Till,
+    /// The word `disp`.
+    Disp,
+    /// The verb of this form.
+    Verb(Form),
     Value,
 }
 
@@ -115,42 +119,40 @@ const FIVE: [Form; 7] = [
     Form::Flow,
 ];
 
-/// Returns the spelling of a fixed word.
+/// Returns the verb of a form: the fixed word by which the form is known, such as `release` or `load`.
 #[inline(always)]
-pub fn text_of(keyword: Keyword) -> &'static str
-    ensures word { result.now ≡ text keyword }
+pub fn text_of(form: Form) -> &'static str
+    ensures word { result.now ≡ text form }
     ensures short { length result.now ≤ 8 }
 {
-    match keyword {
-        Keyword::Till => "till",
-        Keyword::Disp => "disp",
-        Keyword::Load(Layout::One) => "load",
-        Keyword::Load(Layout::Two) => "load2",
-        Keyword::Up => "up",
-        Keyword::Flow => "flow",
-        Keyword::Amount(AmountVerb::Release) => "release",
-        Keyword::Amount(AmountVerb::Preset) => "preset",
-        Keyword::Amount(AmountVerb::Price) => "price",
-        Keyword::Point(PointVerb::Open) => "open",
-        Keyword::Point(PointVerb::Close) => "close",
-        Keyword::Point(PointVerb::Show) => "show",
-        Keyword::Point(PointVerb::Suspend) => "suspend",
-        Keyword::Point(PointVerb::Resume) => "resume",
-        Keyword::Point(PointVerb::Stop) => "stop",
-        Keyword::Transaction(TransactionVerb::Lock) => "lock",
-        Keyword::Transaction(TransactionVerb::Unlock) => "unlock",
-        Keyword::Transaction(TransactionVerb::Clear) => "clear",
-        Keyword::Report(ReportVerb::Down) => "down",
-        Keyword::Report(ReportVerb::Started) => "started",
-        Keyword::Report(ReportVerb::Fault) => "fault",
-        Keyword::Report(ReportVerb::Repaired) => "repaired",
-        Keyword::Report(ReportVerb::Order) => "order",
+    match form {
+        Form::Load(Layout::One) => "load",
+        Form::Load(Layout::Two) => "load2",
+        Form::Up => "up",
+        Form::Flow => "flow",
+        Form::Amount(AmountVerb::Release) => "release",
+        Form::Amount(AmountVerb::Preset) => "preset",
+        Form::Amount(AmountVerb::Price) => "price",
+        Form::Point(PointVerb::Open) => "open",
+        Form::Point(PointVerb::Close) => "close",
+        Form::Point(PointVerb::Show) => "show",
+        Form::Point(PointVerb::Suspend) => "suspend",
+        Form::Point(PointVerb::Resume) => "resume",
+        Form::Point(PointVerb::Stop) => "stop",
+        Form::Transaction(TransactionVerb::Lock) => "lock",
+        Form::Transaction(TransactionVerb::Unlock) => "unlock",
+        Form::Transaction(TransactionVerb::Clear) => "clear",
+        Form::Report(ReportVerb::Down) => "down",
+        Form::Report(ReportVerb::Started) => "started",
+        Form::Report(ReportVerb::Fault) => "fault",
+        Form::Report(ReportVerb::Repaired) => "repaired",
+        Form::Report(ReportVerb::Order) => "order",
     }
 }
 
-/// Returns whether a sender of this role may send the lines of a till, of a dispenser or of the owner, as `by` says
-/// (`Till`, `Dispenser` or `Owner`). Here `OneTill` may send the lines of any till, and `SomePoints` those of any
-/// dispenser. `is_within_role` checks the till or the point that the parsed line names.
+/// Returns whether a sender with the role `role` may send the lines that belong to `by`: those of a till (`Till`), of a
+/// dispenser (`Dispenser`) or of the owner (`Owner`). `OneTill` may send the lines of any till here, and `SomePoints`
+/// those of any dispenser. It is `is_within_role` that checks the till or the point that the parsed line names.
 #[inline(always)]
 pub fn may_send(role: Role, by: Role) -> bool
     ensures { result ≡ allows role by }
@@ -175,31 +177,28 @@ pub fn sender_of(form: Form) -> Role
     }
 }
 
-/// Returns whether `word` is the spelling of `keyword`.
+/// Returns whether `word` fits this part of a form: it is the fixed word, or it isn't empty if the part is a value.
 #[inline(always)]
-fn is_word(word: &[u8], keyword: Keyword) -> bool
-    ensures { result ≡ part_fits (Word keyword) word.now }
+fn is_part(word: &[u8], part: Part) -> bool
+    ensures { result ≡ part_fits part word.now }
 {
-    word == text_of(keyword).as_bytes()
-}
-
-/// Returns whether a word can be a value: whether it isn't empty.
-#[inline(always)]
-fn is_value(word: &[u8]) -> bool
-    ensures { result ≡ part_fits Value word.now }
-{
-    !word.is_empty()
+    match part {
+        Part::Till => word == b"till".as_slice(),
+        Part::Disp => word == b"disp".as_slice(),
+        Part::Verb(form) => word == text_of(form).as_bytes(),
+        Part::Value => !word.is_empty(),
+    }
 }
 
 /// Returns whether the words are `first`, a value and `third`. The verb, which is `third`, is compared first, since
 /// forms differ most in it.
 #[tactic(auto, using(crate::proofs::Fitting::third_last))]
 #[inline(always)]
-fn three_fit(first: Keyword, third: Keyword, words: &[&[u8]]) -> bool
-    ensures { result ≡ fits (Word first ∷ Value ∷ Word third ∷ []) (map (λ w. w.now) words.now) }
+fn three_fit(first: Part, third: Part, words: &[&[u8]]) -> bool
+    ensures { result ≡ fits (first ∷ Value ∷ third ∷ []) (map (λ w. w.now) words.now) }
 {
     match words {
-        [a, b, c] => is_word(c, third) && is_word(a, first) && is_value(b),
+        [a, b, c] => is_part(c, third) && is_part(a, first) && is_part(b, Part::Value),
         _ => false,
     }
 }
@@ -207,11 +206,16 @@ fn three_fit(first: Keyword, third: Keyword, words: &[&[u8]]) -> bool
 /// Returns whether the words are `first`, a value, `third` and a value.
 #[tactic(auto, using(crate::proofs::Fitting::third_first))]
 #[inline(always)]
-fn four_fit(first: Keyword, third: Keyword, words: &[&[u8]]) -> bool
-    ensures { result ≡ fits (Word first ∷ Value ∷ Word third ∷ Value ∷ []) (map (λ w. w.now) words.now) }
+fn four_fit(first: Part, third: Part, words: &[&[u8]]) -> bool
+    ensures { result ≡ fits (first ∷ Value ∷ third ∷ Value ∷ []) (map (λ w. w.now) words.now) }
 {
     match words {
-        [a, b, c, d] => is_word(c, third) && is_word(a, first) && is_value(b) && is_value(d),
+        [a, b, c, d] => {
+            is_part(c, third)
+                && is_part(a, first)
+                && is_part(b, Part::Value)
+                && is_part(d, Part::Value)
+        }
         _ => false,
     }
 }
@@ -219,12 +223,16 @@ fn four_fit(first: Keyword, third: Keyword, words: &[&[u8]]) -> bool
 /// Returns whether the words are `first`, a value, `third` and two values.
 #[tactic(auto, using(crate::proofs::Fitting::third_first))]
 #[inline(always)]
-fn five_fit(first: Keyword, third: Keyword, words: &[&[u8]]) -> bool
-    ensures { result ≡ fits (Word first ∷ Value ∷ Word third ∷ Value ∷ Value ∷ []) (map (λ w. w.now) words.now) }
+fn five_fit(first: Part, third: Part, words: &[&[u8]]) -> bool
+    ensures { result ≡ fits (first ∷ Value ∷ third ∷ Value ∷ Value ∷ []) (map (λ w. w.now) words.now) }
 {
     match words {
         [a, b, c, d, e] => {
-            is_word(c, third) && is_word(a, first) && is_value(b) && is_value(d) && is_value(e)
+            is_part(c, third)
+                && is_part(a, first)
+                && is_part(b, Part::Value)
+                && is_part(d, Part::Value)
+                && is_part(e, Part::Value)
         }
         _ => false,
     }
@@ -237,24 +245,27 @@ fn load_fits(layout: Layout, words: &[&[u8]]) -> bool
 {
     match words {
         [a, b, c, d] => {
-            is_word(a, Keyword::Load(layout)) && is_value(b) && is_value(c) && is_value(d)
+            is_part(a, Part::Verb(Form::Load(layout)))
+                && is_part(b, Part::Value)
+                && is_part(c, Part::Value)
+                && is_part(d, Part::Value)
         }
         _ => false,
     }
 }
 
-/// Returns whether the words have this form: as many words, the same fixed words, and values that aren't empty.
+/// Returns whether the words have this form: they are as many as the form has, its fixed words are among them in their
+/// places, and the other words, which are the values, aren't empty.
 #[inline(always)]
 fn has_form(form: Form, words: &[&[u8]]) -> bool
     ensures { result ≡ fits (template form) (map (λ w. w.now) words.now) }
 {
     match form {
-        Form::Amount(verb) => five_fit(Keyword::Till, Keyword::Amount(verb), words),
-        Form::Point(verb) => four_fit(Keyword::Till, Keyword::Point(verb), words),
-        Form::Transaction(verb) => five_fit(Keyword::Till, Keyword::Transaction(verb), words),
-        Form::Report(verb) => three_fit(Keyword::Disp, Keyword::Report(verb), words),
-        Form::Up => four_fit(Keyword::Disp, Keyword::Up, words),
-        Form::Flow => five_fit(Keyword::Disp, Keyword::Flow, words),
+        Form::Amount(_) | Form::Transaction(_) => five_fit(Part::Till, Part::Verb(form), words),
+        Form::Point(_) => four_fit(Part::Till, Part::Verb(form), words),
+        Form::Report(_) => three_fit(Part::Disp, Part::Verb(form), words),
+        Form::Up => four_fit(Part::Disp, Part::Verb(form), words),
+        Form::Flow => five_fit(Part::Disp, Part::Verb(form), words),
         Form::Load(layout) => load_fits(layout, words),
     }
 }
@@ -335,7 +346,29 @@ pub fn request_of_transaction(verb: TransactionVerb, point: u32, number: u32) ->
     }
 }
 
-/// Returns the event that a dispenser reports by this verb. Lines with these verbs have no value after the verb.
+impl Request {
+    /// Returns the request's verb and its numbers.
+    pub fn by_form(self) -> RequestByForm
+        ensures { result ≡ by_form self }
+    {
+        match self {
+            Request::Release(point, amount) => Amount(AmountVerb::Release, point, amount),
+            Request::Preset(point, amount) => Amount(AmountVerb::Preset, point, amount),
+            Request::Price(product, price) => Amount(AmountVerb::Price, product, price),
+            Request::OpenPoint(point) => Point(PointVerb::Open, point),
+            Request::ClosePoint(point) => Point(PointVerb::Close, point),
+            Request::Show(point) => Point(PointVerb::Show, point),
+            Request::Suspend(point) => Point(PointVerb::Suspend, point),
+            Request::Resume(point) => Point(PointVerb::Resume, point),
+            Request::Stop(point) => Point(PointVerb::Stop, point),
+            Request::Lock(point, number) => Transaction(TransactionVerb::Lock, point, number),
+            Request::Unlock(point, number) => Transaction(TransactionVerb::Unlock, point, number),
+            Request::Clear(point, number) => Transaction(TransactionVerb::Clear, point, number),
+        }
+    }
+}
+
+/// Returns the event that a dispenser reports by this verb. A line with such a verb has no value after the verb.
 pub fn event_of_report(verb: ReportVerb) -> DispenserEvent
     ensures { result ≡ report_event verb }
 {

@@ -163,7 +163,8 @@ fn put_program(text: &mut ShortText, number: u32, unit: Option<u32>, part: Optio
     put_part(text, part);
 }
 
-/// Writes an entry's number, a space and its reply, without an LF, into `text`, which must be empty.
+/// Writes the answer to a line whose act was entered in the history, without an LF, into `text`, which must be empty.
+/// The answer is the entry's number, a space and the reply to the act.
 #[tactic(auto, using(crate::proofs::Short::entered))]
 fn put_entered(text: &mut ShortText, number: u32, reply: &Reply)
     requires { text.old.bytes ≡ [] }

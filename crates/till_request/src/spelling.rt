@@ -1,17 +1,11 @@
 //! Writes acts as lines.
-ghost use Rattle.std.specs.Prelude.{◌≡◌, ◌+◌, ◌≤◌, ◌∷◌, ◌++◌, [], IfOk, Some, decimal, length, map, slice_get};
-ghost use Rattle.std.specs.Prelude.{string_bytes};
-ghost use Rattle.std.specs.Option.{option_to_list};
-ghost use Rattle.till_request.specs.Grammar.{text};
-ghost use Rattle.till_request.specs.Spelling.{ReadsBack, event_words, load_word as load_by, request_text, request_words, spelling};
+ghost use Rattle.std.specs.Prelude.{◌≡◌, ◌+◌, ◌≤◌, ◌++◌, [], IfOk, length, string_bytes};
+ghost use Rattle.till_request.specs.Spelling.{ReadsBack, event_form, load_word as load_by, request_text, spelling};
 
 use crate::act::{Act, Request};
-use crate::form::AmountVerb::{Preset, Price, Release};
-use crate::form::Keyword::{Amount, Flow, Load, Point, Report, Transaction, Up};
-use crate::form::PointVerb::{Close, Open, Resume, Show, Stop, Suspend};
+use crate::form::Form::{Flow, Load, Report, Up};
 use crate::form::ReportVerb::{Down, Fault, Order, Repaired, Started};
-use crate::form::TransactionVerb::{Clear, Lock, Unlock};
-use crate::form::{Keyword, text_of};
+use crate::form::{Form, RequestByForm, text_of};
 use crate::short_text::{ShortText, put_word, put_word_number};
 use bpf_model::context::Layout;
 use fuelling_point::DispenserEvent;
@@ -25,37 +19,26 @@ pub fn spelling_is_read()
     ensures { ReadsBack }
 {}
 
-/// Returns a request's verb, its first number, and its second number. If the request has only one number, the second is
-/// `None`.
-fn words_of(request: Request) -> (Keyword, u32, Option<u64>)
-    ensures { request_words request ≡ text result.0 ∷ decimal result.1 ∷ map decimal (option_to_list result.2) }
-{
-    match request {
-        Request::Release(point, amount) => (Amount(Release), point, Some(amount)),
-        Request::Preset(point, amount) => (Amount(Preset), point, Some(amount)),
-        Request::Price(product, price) => (Amount(Price), product, Some(price)),
-        Request::OpenPoint(point) => (Point(Open), point, None),
-        Request::ClosePoint(point) => (Point(Close), point, None),
-        Request::Show(point) => (Point(Show), point, None),
-        Request::Suspend(point) => (Point(Suspend), point, None),
-        Request::Resume(point) => (Point(Resume), point, None),
-        Request::Stop(point) => (Point(Stop), point, None),
-        Request::Lock(point, number) => (Transaction(Lock), point, Some(u64::from(number))),
-        Request::Unlock(point, number) => (Transaction(Unlock), point, Some(u64::from(number))),
-        Request::Clear(point, number) => (Transaction(Clear), point, Some(u64::from(number))),
-    }
-}
-
 /// Appends a request's words, with a space between them, to `text`, which must have room for 50 more bytes.
 fn put_request(text: &mut ShortText, request: Request)
     requires { length text.old.bytes + 50 ≤ 192 }
     ensures { text.new.bytes ≡ text.old.bytes ++ request_text request }
 {
-    let (keyword, first, second) = words_of(request);
-    text.push_str(text_of(keyword));
-    put_word_number(text, u64::from(first));
-    if let Some(second) = second {
-        put_word_number(text, second);
+    match request.by_form() {
+        RequestByForm::Amount(verb, subject, amount) => {
+            text.push_str(text_of(Form::Amount(verb)));
+            put_word_number(text, u64::from(subject));
+            put_word_number(text, amount);
+        }
+        RequestByForm::Point(verb, point) => {
+            text.push_str(text_of(Form::Point(verb)));
+            put_word_number(text, u64::from(point));
+        }
+        RequestByForm::Transaction(verb, point, number) => {
+            text.push_str(text_of(Form::Transaction(verb)));
+            put_word_number(text, u64::from(point));
+            put_word_number(text, u64::from(number));
+        }
     }
 }
 
@@ -83,9 +66,9 @@ pub fn put_till_line(text: &mut ShortText, till: u32, request: Request)
     put_request(text, request);
 }
 
-/// Returns the verb of a dispenser's event: the word after `disp P` in its line.
-fn verb_of(event: DispenserEvent) -> Keyword
-    ensures { slice_get (event_words event) 0 ≡ Some (text result) }
+/// Returns the form of the line that reports a dispenser's event.
+pub fn event_form(event: DispenserEvent) -> Form
+    ensures { result ≡ event_form event }
 {
     match event {
         DispenserEvent::Up(_) => Up,
@@ -105,7 +88,7 @@ pub fn put_dispenser_line(text: &mut ShortText, point: u32, event: DispenserEven
 {
     text.push_str("disp");
     put_word_number(text, u64::from(point));
-    put_word(text, text_of(verb_of(event)));
+    put_word(text, text_of(event_form(event)));
     match event {
         DispenserEvent::Up(nozzle) => put_word_number(text, u64::from(nozzle)),
         DispenserEvent::Flowed(amount, volume) => {
@@ -128,7 +111,6 @@ pub fn load_word(layout: Layout) -> &'static str
 }
 
 /// Returns the line that loads a program, without its LF. The error is that memory ran out.
-#[tactic(auto, using(crate::proofs::Fitting::load_text))]
 fn spell_load(
     alloc: Global,
     slot: u32,

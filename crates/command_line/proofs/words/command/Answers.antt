@@ -35,16 +35,17 @@ simple = refl
 simple_and_free : (a : App) → a ≡ fc_app → is_simple_and_free a ≡ true
 simple_and_free a e = subst (λ (b : App). is_simple_and_free b ≡ true) (sym e) refl
 
--- The arguments that `clap` gets (`lent`) are the program's arguments (`words`). Then `clap` finds in them what
--- `subcommand_of` finds in `words`: the subcommand and its values, or no subcommand.
+-- `lent` is the list of the arguments that `clap` gets, and `words` the list of the program's arguments. If both are
+-- the same, and `clap` finds the matches `m` in `lent`, then `m` has what `subcommand_of` finds in `words`: the
+-- subcommand and its values, or no subcommand.
 found : (a : App) → a ≡ fc_app → (lent words : List (String Global)) → lent ≡ words → (m : ArgMatches) → HasMatchesOf a (map (λ w. string_bytes w) lent) m
     → subcommand_rows_of m ≡ subcommand_of fc_app (map (λ w. string_bytes w) words)
 found a e lent words same m h =
     ((subst (λ (ws : List (String Global)). HasMatchesOf fc_app (map (λ w. string_bytes w) ws) m) same
     (subst (λ (b : App). HasMatchesOf b (map (λ w. string_bytes w) lent) m) e h)) simple).1
 
--- The arguments that `clap` gets (`lent`) are the program's arguments (`words`). Then `clap` can return the same errors
--- for `lent` as for `words`.
+-- `lent` is the list of the arguments that `clap` gets, and `words` the list of the program's arguments. If both are
+-- the same, then the errors that `clap` can return for `lent` are those that it can return for `words`.
 faults : (a : App) → a ≡ fc_app → (lent words : List (String Global)) → lent ≡ words
     → fault_of a (map (λ w. string_bytes w) lent) ≡ fault_of fc_app (map (λ w. string_bytes w) words)
 faults a e lent words same =

@@ -9,7 +9,7 @@ use Rattle.command_line.proofs.words.no_job_message.Goals as goal
 
 module _ {Z : Type 0} where
   -- If `name` and `rows` are the name and the values of the subcommand `o`, then `unasked_by` and `unasked_words` give
-  -- the same text.
+  -- the same first line of an error message.
   of_name : (o : Option (Box SubCommand Z)) (name : Text) (rows : List Row) → Some name ≡ option_map (λ b. (out-SubCommand (box_value b)).name.now) o
       → Some rows ≡ option_map (λ p. p.1) (subcommand_rows o) → unasked_by name rows ≡ unasked_words (subcommand_rows o)
   of_name None name rows n r = let bad : Some name ≡ None = n in absurd (cc)

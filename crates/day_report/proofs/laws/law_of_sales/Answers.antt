@@ -1,5 +1,5 @@
-use Rattle.day_report.proofs.SiteSales.{tells}
+use Rattle.day_report.proofs.SiteSales.{sales-agree}
 use Rattle.day_report.proofs.laws.law_of_sales.Goals as goal
 
 pub returns : goal.returns
-returns c = tells
+returns c = sales-agree

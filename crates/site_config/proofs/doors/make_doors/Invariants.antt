@@ -6,6 +6,4 @@ use Rattle.site_config.proofs.doors.make_doors.Given as goal
 -- Making the rest of the doors and appending them to those made so far gives the same as making all doors.
 abbrev pub invariant-loop-door : goal.invariant-loop-door
 invariant-loop-door l =
-    with_front (map door_seen l.made.items)
-    (each_door (door_of l.counts.tills l.counts.points l.counts.till_workers l.counts.dispenser_workers) (drop l.door-index l.doors))
-    ≡ each_door (door_of l.counts.tills l.counts.points l.counts.till_workers l.counts.dispenser_workers) l.doors
+    with_front (map door_seen l.made.items) (each_door (door_of l.counts) (drop l.door-index l.doors)) ≡ each_door (door_of l.counts) l.doors

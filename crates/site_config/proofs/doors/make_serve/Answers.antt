@@ -26,4 +26,4 @@ returns-in-Err-make_doors-clause-memory c = λ is.
       rw c.deref-5.ensures.value at c.in-Ok-check_side-2.ensures.read,
     )
     (with_doors _ (length c.args.served.now.doors.items) _ (λ ds. refl)
-    (rw c.deref-6.ensures.value at c.in-Err-make_doors.ensures.memory (ap Err taken)) (all_made _ _ _ _ _ fit))
+    (rw c.deref-6.ensures.value at c.in-Err-make_doors.ensures.memory (ap Err taken)) (all_made _ _ fit))

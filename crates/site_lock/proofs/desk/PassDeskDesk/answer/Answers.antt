@@ -11,7 +11,8 @@ use Rattle.site_lock.specs.Desks.{CallsGate, DeskDecides}
 use Rattle.site_lock.proofs.Trying.{rose_none}
 use Rattle.site_lock.proofs.desk.PassDeskDesk.answer.Goals as goal
 
--- `CallsGate` claims nothing of a load. So it holds for a load without a call of the gate, whatever the answer is.
+-- `CallsGate` says how often the gate was called for a till's request, and claims nothing of a load. So it holds for a
+-- load without a call of the gate, whatever the answer is.
 asks_of_load : (calls slot mask : ℕ) (layout : Layout) (bytes : List ℕ) (answer : Answer) → CallsGate calls calls answer (Load slot mask layout bytes)
 asks_of_load calls slot mask layout bytes (Entered number reply) = tt
 asks_of_load calls slot mask layout bytes JournalFull = tt
