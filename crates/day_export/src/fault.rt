@@ -1,4 +1,4 @@
-//! The error of writing rows.
+//! The error of writing a day's rows.
 
 use std::alloc::AllocError;
 use std::io;

@@ -1,4 +1,4 @@
-//! The names of states and of refusals, in words.
+//! The names of a fuelling point's states and of refusals, in words.
 use fuelling_point::State;
 
 /// Returns the name of a state in words.

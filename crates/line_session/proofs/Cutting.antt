@@ -1,5 +1,5 @@
--- If two sessions have the same bytes in their inputs, and neither fails, then both read the same lines, and end with
--- the same fault of a line, if any.
+-- If two sessions have the same bytes in their inputs, and neither ends with a `SessionFault`, then both read the same
+-- lines, and their last lines have the same fault (too long, or without an LF), or both have none.
 use Rattle.std.proofs.Common.{◌≡◌, ℕ, ◌+◌, ◌<◌, ◌≤◌, List, [], ◌∷◌, ◌++◌, length, Option, Some, None, Result, Ok, Err, refl, sym, ◌∙◌, ap, ap₂, subst, arith}
 use Rattle.std.proofs.Common.{append_assoc, length-append}
 use Rattle.std.specs.List.{AllByRecursion}

@@ -24,7 +24,7 @@ use Rattle.site_core.specs.Limits.{ConfigValue}
 use Rattle.site_core.specs.State.{SiteState, at_number, first_busy}
 use Rattle.site_core.specs.Context.{context}
 use Rattle.site_core.specs.Decide.{is_till, is_within, refuse_unless, bad_amount, wrong_state, release_of, preset_of, price_question_of, has_room, admitted}
-use Rattle.site_core.specs.Decide.{asked_at_point, price_at, release_question, preset_question, price_question, request_action, question_in, question_of}
+use Rattle.site_core.specs.Decide.{asked_at_point, price_at, request_action, question_in, question_of}
 use Rattle.site_core.specs.Decide.{asked_question, HasPointOrValidPrice}
 use Rattle.site_core.specs.Draft.{routed, routed_request, routed_to, at_point}
 use Rattle.site_core.specs.Asked.{FitsContext}
@@ -143,14 +143,14 @@ by-request : (layout : Layout) (config other : ConfigValue) (s t : SiteState) (t
     → bytes_of (context layout s till moment q) ≡ bytes_of (context layout t till moment was) → question_of config s r ≡ Some q
 by-request layout config other s t till moment (request.Release n amount) q was h routed fits same =
     ap result_ok (by-point layout s t till moment (release_of config n amount) (release_of other n amount) q was refl refl
-    (ok-is (release_question other t n amount) was h) routed fits same)
+    (ok-is (admitted t (release_of other n amount)) was h) routed fits same)
 by-request layout config other s t till moment (request.Preset n amount) q was h routed fits same =
     ap result_ok (by-point layout s t till moment (preset_of config n amount) (preset_of other n amount) q was refl refl
-    (ok-is (preset_question other t n amount) was h) routed fits same)
+    (ok-is (admitted t (preset_of other n amount)) was h) routed fits same)
 by-request layout config other s t till moment (request.Price product price) q was h routed fits same =
     let p : Question = price_question_of config product price in
     let a : AsksPrice t (price_question_of other product price) was =
-    asks-price t (price_question_of other product price) was (ok-is (price_question other t product price) was h) in
+    asks-price t (price_question_of other product price) was (ok-is (admitted t (price_question_of other product price)) was h) in
     let free : first_busy s ≡ None = same-busy layout s t till moment q was fits.busy a.free same in
     ap result_ok (price-again p (first_busy s) a.within free) ∙ routed
 by-request layout config other s t till moment _ q was h routed fits same = absurd (none-some was h)

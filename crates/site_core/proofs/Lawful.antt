@@ -25,7 +25,7 @@ use Rattle.site_core.specs.State.{SiteState, at_number, view_of}
 use Rattle.site_core.specs.Context.{context}
 use Rattle.site_core.specs.History.{in_force}
 use Rattle.site_core.specs.Decide.{Effect, replied, no_such_point, no_such_till, denied, is_till, bad_amount, transactions_full, wrong_state, no_program}
-use Rattle.site_core.specs.Decide.{is_within, refuse_unless, slots_of, has_room, release_of, asked_at_point, release_question, decided, verdict}
+use Rattle.site_core.specs.Decide.{is_within, refuse_unless, slots_of, has_room, release_of, asked_at_point, admitted, decided, verdict}
 use Rattle.site_core.specs.Decide.{run_result, grant, granted_amount, is_decided}
 use Rattle.site_core.specs.Step.{effect}
 use Rattle.site_core.specs.Legal.{Legal, LawfulRelease, LawfulEntry, LawfulReleases}
@@ -136,7 +136,7 @@ by-version config past s till moment n amount g v q (Some w) a some h =
     (h ∙ ap (λ (x : Effect). x.reply) (decided-some config past s till moment q w some))
 
 by-question : (config : ConfigValue) (past : List Entry) (s : SiteState) (till moment n amount g v : ℕ) (x : Result Question Reply)
-    → release_question config s n amount ≡ x → reply.Granted g v ≡ (decided config past s till moment x).reply → LawfulRelease config past s till moment n amount g v
+    → admitted s (release_of config n amount) ≡ x → reply.Granted g v ≡ (decided config past s till moment x).reply → LawfulRelease config past s till moment n amount g v
 by-question config past s till moment n amount g v (Ok q) is h =
     by-version config past s till moment n amount g v q (in_force config q.slot past)
     (asks-at s (release_of config n amount) q (at_number s.points n) refl is) refl h
@@ -147,9 +147,9 @@ by-question config past s till moment n amount g v (Err r) is h =
     absurd (let e : true ≡ false = yes ∙ no in cc)
 
 by-till : (config : ConfigValue) (past : List Entry) (s : SiteState) (till moment n amount g v : ℕ) (b : Bool)
-    → reply.Granted g v ≡ (if b then decided config past s till moment (release_question config s n amount) else replied no_such_till s).reply
+    → reply.Granted g v ≡ (if b then decided config past s till moment (admitted s (release_of config n amount)) else replied no_such_till s).reply
     → LawfulRelease config past s till moment n amount g v
-by-till config past s till moment n amount g v true h = by-question config past s till moment n amount g v (release_question config s n amount) refl h
+by-till config past s till moment n amount g v true h = by-question config past s till moment n amount g v (admitted s (release_of config n amount)) refl h
 by-till config past s till moment n amount g v false h = absurd (let e : reply.Granted g v ≡ no_such_till = h in cc)
 
 lawful-entry : (config : ConfigValue) (past : List Entry) (s : SiteState) (moment : ℕ) (act : Act) (r : Reply) → r ≡ (effect config past s moment act).reply

@@ -11,11 +11,10 @@ use Rattle.fuelling_point.specs.declared.kinds.PointFault.{PointFault}
 use Rattle.fuelling_point.specs.declared.kinds.Command.{Command}
 use Rattle.fuelling_point.specs.declared.kinds.Order.{Order}
 use Rattle.fuelling_point.specs.declared.kinds.DispenserEvent.{DispenserEvent}
-use Rattle.site_core.specs.Limits.{ConfigValue}
 use Rattle.till_request.specs.declared.act.Reply.TheVariants as reply
 use Rattle.site_core.specs.State.{SiteState, at_number, with_point}
 use Rattle.site_core.specs.declared.question.Question.{Question}
-use Rattle.site_core.specs.Decide.{replied, no_such_point, release_of, preset_of, asked_at, asked_at_point, release_question, preset_question}
+use Rattle.site_core.specs.Decide.{replied, no_such_point, asked_at, asked_at_point}
 use Rattle.site_core.specs.Step.{clears_by, till_command_effect, command_effect, dispenser_effect, event_effect, order_reply, event_reply, fault_reply, shown, show_reply}
 
 pub at_number-within : {T : Type 0} → (items : List T) (n : ℕ) (d : T) → 1 ≤ n → n ≤ length items → at_number items n ≡ Some (get_or items (n - 1) d)
@@ -136,17 +135,3 @@ asked-none s q none = rw (none, asked_at_point)
 pub asked-some : (s : SiteState) (q : Question) (p : PointState) → at_number s.points q.point ≡ Some p → asked_at_point s q ≡ asked_at p q
 unfolding asked_at_point
 asked-some s q p some = rw (some, asked_at_point)
-
-pub release-none : (config : ConfigValue) (s : SiteState) (n amount : ℕ) → at_number s.points n ≡ None → release_question config s n amount ≡ Err no_such_point
-release-none config s n amount none = asked-none s (release_of config n amount) none
-
-pub release-some : (config : ConfigValue) (s : SiteState) (n amount : ℕ) (p : PointState) → at_number s.points n ≡ Some p
-    → release_question config s n amount ≡ asked_at p (release_of config n amount)
-release-some config s n amount p some = asked-some s (release_of config n amount) p some
-
-pub preset-none : (config : ConfigValue) (s : SiteState) (n amount : ℕ) → at_number s.points n ≡ None → preset_question config s n amount ≡ Err no_such_point
-preset-none config s n amount none = asked-none s (preset_of config n amount) none
-
-pub preset-some : (config : ConfigValue) (s : SiteState) (n amount : ℕ) (p : PointState) → at_number s.points n ≡ Some p
-    → preset_question config s n amount ≡ asked_at p (preset_of config n amount)
-preset-some config s n amount p some = asked-some s (preset_of config n amount) p some

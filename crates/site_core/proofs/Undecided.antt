@@ -29,7 +29,7 @@ use Rattle.site_core.specs.State.{SiteState, at_number, first_busy, view_of}
 use Rattle.site_core.specs.Context.{context}
 use Rattle.site_core.specs.History.{versions_before, in_force, versions}
 use Rattle.site_core.specs.Decide.{Effect, replied, refused, no_such_till, is_decided, is_till, is_within, has_room, bad_amount, transactions_full, wrong_state}
-use Rattle.site_core.specs.Decide.{refuse_unless, request_action, release_of, preset_of, admitted, asked_at_point, price_at, release_question, preset_question}
+use Rattle.site_core.specs.Decide.{refuse_unless, request_action, admitted, asked_at_point, price_at}
 use Rattle.site_core.specs.Decide.{decided, verdict, run_result, grant}
 use Rattle.site_core.specs.Step.{effect, effect_of, asked, till_command_effect, command_effect, dispenser_effect, event_effect}
 use Rattle.site_core.specs.Step.{order_reply, fault_reply, show_reply}

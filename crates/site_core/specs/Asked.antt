@@ -1,6 +1,6 @@
 -- Representation: what a draft keeps of the state in which it was made, and definitions for the contracts of the
--- functions that `apply`, `begin` and `commit` call. Nothing here has to be trusted: the prover checks the code against
--- these definitions.
+-- functions that `apply`, `begin` and `commit` call. No public contract cites these definitions, so nothing here has to
+-- be trusted: if one of them were wrong, only a proof could fail.
 use Rattle.std.specs.Prelude.{◌≡◌, ◌≢◌, ℕ, ◌<◌, ◌≤◌, ◌⊎◌, length, Option, Some, None, Result, Ok, Err}
 use Rattle.fuelling_point.specs.Table.{PointState}
 use Rattle.till_request.specs.declared.act.Act.{Act}

@@ -160,15 +160,6 @@ question_of config s request = question_in s (request_action config request)
 abbrev pub asked_question : ConfigValue → SiteState → ℕ → Request → Option Question
 asked_question config s till request = if is_till config till then question_of config s request else None
 
-abbrev pub release_question : ConfigValue → SiteState → ℕ → ℕ → Result Question Reply
-release_question config s n amount = admitted s (release_of config n amount)
-
-abbrev pub preset_question : ConfigValue → SiteState → ℕ → ℕ → Result Question Reply
-preset_question config s n amount = admitted s (preset_of config n amount)
-
-abbrev pub price_question : ConfigValue → SiteState → ℕ → ℕ → Result Question Reply
-price_question config s product price = admitted s (price_question_of config product price)
-
 -- The amount that is granted if the program answered r. For a price, it is the price that is asked. For a preset or a
 -- release, it is the amount that is asked, but at most r. For a release it is also at most the point's preset, unless
 -- the preset is 0, which means none.
