@@ -74,6 +74,7 @@ moment 1790000700
 till 1 show 1
 """
 TIMES_ARE = ["14:14", "14:16", "14:19", "14:22", "14:25"]
+LOAD = "load 0 0 79101800000000009500000000000000\n"
 AXIS_LABEL = re.compile(r'<text class="soft" x="\d+" y="78" text-anchor="\w+">([^<]*)</text>')
 # A line of a chart of prices: its path, which has H before the place to which it goes.
 PRICE_LINE = re.compile(r'<path class="price[^"]*" d="M(\d+)([^"]*)"')
@@ -235,6 +236,7 @@ def main():
         ):
             show(checks, program, work, name, two, lines)
         show(checks, program, work, "long", station, long)
+        columns(checks, program, two, work)
         faulty(checks, program, two, work, day)
     checks.end()
 
@@ -268,6 +270,16 @@ def show(checks, program, work, name, site, lines):
         checks.same(f"{name}: browser", f"<p class=\"audited\">{len(lines):,} entries, audited</p>" in dom, True)
     else:
         print(f"report.py: no Chromium is there: {name} is not opened in a browser")
+
+
+def columns(checks, program, site, work):
+    """Checks that the page says which versions a column shows: each its own if they are fewer than 1,000."""
+    journal = os.path.join(work, "journal")
+    for versions, want in ((999, "A column for each version"), (1000, "A column for some neighbouring versions")):
+        with open(journal, "w") as file:
+            file.writelines(line + "\n" for line in journal_of(program, site, LOAD * versions))
+        done = subprocess.run([program, "report", site, journal], capture_output=True, text=True)
+        checks.same(f"{versions} versions: columns", want in done.stdout, True)
 
 
 def faulty(checks, program, site, work, day):
