@@ -13,7 +13,7 @@ HERE = os.path.dirname(os.path.abspath(__file__))
 sys.path.insert(0, os.path.join(HERE, "..", "serve"))
 sys.path.insert(0, os.path.join(HERE, "..", "..", "tools"))
 from metrics import Metrics
-from serving import PATIENCE, Peer, Served, free_ports
+from serving import PATIENCE, Peer, Served, free_ports, no_syncs
 
 STATUS_LINE = re.compile(r"HTTP/1\.[01] ([1-5][0-9][0-9]) [ -~]*")
 

@@ -94,7 +94,7 @@ def end_of(file, changes):
 
 class Station:
     """The site of examples/network, with keys and with the controller's end of the tunnels. Each door serves so many
-    connections; `further` is more text of its `[serve]`."""
+    connections, and its lines are read as fast as they come; `further` is more text of its `[serve]`."""
 
     def __init__(self, fc, connections, further=""):
         self.room = tempfile.TemporaryDirectory()
@@ -104,7 +104,12 @@ class Station:
         self.ends = 0
         os.mkdir(self.doors)
         made_keys(self.keys, *SERVICES)
-        site = {"/run/fc": self.doors, "connections = 1000000\n": f"connections = {connections}\n{further}"}
+        site = {
+            "/run/fc": self.doors,
+            'connections = "unlimited"\n': f"connections = {connections}\n{further}",
+            "lines_per_second = 50\n": "",
+            "lines_per_second = 100\n": "",
+        }
         self.config = os.path.join(self.folder, "site.toml")
         with open(self.config, "w") as file:
             file.write(changed(read(os.path.join(NETWORK, "site.toml")), site))

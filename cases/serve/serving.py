@@ -1,8 +1,10 @@
 """A site served over loopback, for the cases and benchmarks that drive it: free ports, the program, its peers."""
 
+import ctypes
 import os
 import select
 import socket
+import struct
 import subprocess
 import tempfile
 import time
@@ -37,6 +39,20 @@ def lines_until_open(program):
                 break
             said += piece
     return said.decode()
+
+
+def no_syncs():
+    """For `prepare`: each sync of a file's data fails with EIO in this process, as on a disk that is broken."""
+    fdatasync = {"x86_64": 75, "aarch64": 83, "riscv64": 83}[os.uname().machine]
+    # Load the call's number; if it is this one, refuse it, or else allow it.
+    steps = ((0x20, 0, 0, 0), (0x15, 0, 1, fdatasync), (0x06, 0, 0, 0x00050005), (0x06, 0, 0, 0x7FFF0000))
+    packed = b"".join(struct.pack("HBBI", *step) for step in steps)
+    program = ctypes.create_string_buffer(packed, len(packed))
+    described = ctypes.create_string_buffer(struct.pack("HxxxxxxP", len(steps), ctypes.addressof(program)))
+    library = ctypes.CDLL(None, use_errno=True)
+    no_new_rights, by_filter = 38, 22
+    if library.prctl(no_new_rights, 1, 0, 0, 0) or library.prctl(by_filter, 2, described, 0, 0):
+        raise OSError(ctypes.get_errno(), "no filter of calls")
 
 
 class Site:

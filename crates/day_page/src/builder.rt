@@ -1,8 +1,9 @@
 //! Builds a text piece by piece, such as a page in HTML or a text of metrics.
 use crate::names::refusal_name;
 use crate::texts::{Date, Text, date_of};
-use html_text::Escaped;
+use escaped_text::Escaped;
 use std::alloc::{AllocError, Global};
+use std::fmt::Display;
 
 /// Builds a text, such as a page in HTML. If memory runs out, the functions that add to the text don't report it:
 /// `finish` returns the error.
@@ -48,6 +49,12 @@ impl TextBuilder {
         self.note(written);
     }
 
+    /// Adds a value as its `Display` writes it.
+    pub fn write<D: Display>(&mut self, value: &D) {
+        let written = write!(self.text, "{value}");
+        self.note(written);
+    }
+
     /// Adds `form`, a template, in which `texts` replace the `{}`, in order.
     ///
     /// - If there are too few texts, the remaining `{}` are left out.
@@ -81,9 +88,7 @@ impl TextBuilder {
 
     /// Adds words, with the special characters of HTML escaped.
     pub fn words(&mut self, words: &str) {
-        let words = Escaped(words);
-        let written = write!(self.text, "{words}");
-        self.note(written);
+        self.write(&Escaped(words));
     }
 
     fn number(&mut self, number: u64) {

@@ -14,7 +14,7 @@ pub mod tables;
 pub mod texts;
 
 pub use builder::TextBuilder;
-pub use html_text::Escaped;
+pub use escaped_text::Escaped;
 pub use names::STATES;
 pub use page::Page;
 pub use style::{HEAD, STYLE};

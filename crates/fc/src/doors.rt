@@ -1,6 +1,7 @@
 //! The doors of a served site: the ports and sockets where its tills, its dispensers and the owner connect.
 use crate::sockets::{Listening, SocketFile, StagingFolder, listen_at};
 use site_config::{Address, Door};
+use site_files::faults::{print_message, print_message_at};
 use site_files::{FAILED, JobError, Place};
 use site_server::{Listener, OpenDoor};
 use std::alloc::AllocError;
@@ -19,7 +20,7 @@ pub struct BoundDoors<'a> {
 
 /// The name that is printed for a door with this role, such as `tills` or `points 1 3`.
 #[derive(Clone, Copy)]
-struct Name(Role);
+pub struct Name(pub Role);
 
 impl Display for Name {
     fn fmt<W: fmt::Write>(&self, f: &mut fmt::Formatter<W>) -> fmt::Result {
@@ -52,6 +53,16 @@ fn are_ports(doors: &[Door]) -> bool {
         }
     }
     true
+}
+
+/// The address of a door, as it is printed: `127.0.0.1:` and a port, or the path of a socket.
+#[derive(Clone, Copy)]
+pub struct DoorAddress<'a>(pub &'a Address);
+
+impl Display for DoorAddress<'_> {
+    fn fmt<W: fmt::Write>(&self, f: &mut fmt::Formatter<W>) -> fmt::Result {
+        write_address(f, self.0, false)
+    }
 }
 
 /// Writes one address of a `DoorListing`: a port, or the path of a socket. `are_ports` says whether all doors of the
@@ -115,8 +126,8 @@ fn refuse_socket(rt: &HostRuntime, config_name: &str, door: &Door, error: io::Er
     if error.kind() == ErrorKind::OutOfMemory && error.raw_os_error().is_none() {
         return JobError::Failed(error);
     }
-    let (place, key) = (Place::of(config_name), &door.place);
-    let _ = eprintln!(rt; "fc: {place}: {key}: {error}");
+    let key = &door.place;
+    print_message_at(rt, Place::of(config_name), &format_args!("{key}: {error}"));
     JobError::AlreadyReported(FAILED)
 }
 
@@ -128,14 +139,15 @@ fn refuse_folder(
     door: &Door,
     folder: StagingFolder<'_>,
 ) -> JobError {
-    let (place, key) = (Place::of(config_name), &door.place);
-    let _ = eprintln!(rt; "fc: {place}: {key}: {folder} is in the way");
+    let key = &door.place;
+    let words = format_args!("{key}: {folder} is in the way");
+    print_message_at(rt, Place::of(config_name), &words);
     JobError::AlreadyReported(FAILED)
 }
 
 /// Prints why a port can't be opened. Returns `AlreadyReported` with the exit status.
 pub fn refuse_port(rt: &HostRuntime, port: u32, error: io::Error) -> JobError {
-    let _ = eprintln!(rt; "fc: port {port}: {error}");
+    print_message(rt, &format_args!("port {port}: {error}"));
     JobError::AlreadyReported(FAILED)
 }
 
@@ -157,6 +169,7 @@ impl<'a> BoundDoors<'a> {
             role: door.role,
             listener,
             workers: door.workers,
+            lines_per_second: door.lines_per_second,
         })?;
         Ok(())
     }

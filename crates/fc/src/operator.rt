@@ -1,5 +1,10 @@
 //! The lines that are printed for an operator on standard error while a site is served.
+ghost use Rattle.std.specs.Prelude.{◌≡◌, is_some};
+
+use crate::doors::DoorAddress;
 use page_port::ConnectionCounts;
+use site_config::Door;
+use site_files::faults::print_message;
 use site_server::{Limiter, Notices, SessionFailure, SessionFault};
 use std::fmt::{self, Display};
 use std::io;
@@ -7,13 +12,23 @@ use std::sync::{Mutex, Wait};
 use std::time::{Clock, SystemTime, UNIX_EPOCH};
 use till_request::{LineFault, Role};
 
-/// Prints reports for an operator on standard error, at most ten a second. Further reports are left out, and a line
-/// before the next printed report says how many. If a report can't be printed, the site is served all the same.
+/// The most reports that are printed in a second.
+const MOST_IN_SECOND: u32 = 10;
+
+/// The most reports on connections that speak another protocol that are printed in a minute.
+const MOST_STRANGERS_IN_MINUTE: u32 = 1;
+
+/// Prints reports for an operator on standard error, at most ten a second. Of the reports on connections that speak
+/// another protocol, at most one a minute is printed. Further reports are left out, and a line before the next printed
+/// report says how many. If a report can't be printed, the site is served all the same.
 #[derive(Drop)]
 pub struct OperatorReports<'a, H: Wait + Clock> {
     rt: &'a HostRuntime,
     host: &'a H,
     limiter: Mutex<Limiter>,
+    /// Limits the reports on connections that speak another protocol, by the minute.
+    strangers: Mutex<Limiter>,
+    doors: &'a [Door],
     connections: Option<&'a ConnectionCounts>,
 }
 
@@ -49,19 +64,36 @@ fn code_of(failure: SessionFailure) -> &'static str {
     }
 }
 
+/// Returns the door whose worker has the pass with this number, or `None` if there is no such pass. The workers of
+/// `doors` have the passes from 1 on, door after door.
+fn door_at(doors: &[Door], pass: u32) -> Option<&Door> {
+    let mut passes = 0u32;
+    for door in doors {
+        passes = passes.saturating_add(door.workers);
+        if pass <= passes {
+            return Some(door);
+        }
+    }
+    None
+}
+
 impl<'a, H: Wait + Clock> OperatorReports<'a, H> {
     /// Makes a printer that has printed no report yet. If `connections` is given, the printer counts in it the
-    /// connections that open, the connections that end, and the workers that have served their last connection. `host`
-    /// must be the same runtime as `rt`.
+    /// connections that open, the connections that end, the lines that are read, and the workers that have served their
+    /// last connection. `doors` are the site's doors, in the order of their workers' passes. `host` must be the same
+    /// runtime as `rt`.
     pub fn new(
         rt: &'a HostRuntime,
         host: &'a H,
+        doors: &'a [Door],
         connections: Option<&'a ConnectionCounts>,
     ) -> OperatorReports<'a, H> {
         OperatorReports {
             rt,
             host,
-            limiter: Mutex::new(Limiter::new()),
+            limiter: Mutex::new(Limiter::new(MOST_IN_SECOND)),
+            strangers: Mutex::new(Limiter::new(MOST_STRANGERS_IN_MINUTE)),
+            doors,
             connections,
         }
     }
@@ -83,11 +115,27 @@ impl<'a, H: Wait + Clock> OperatorReports<'a, H> {
     /// the last printed one, if any.
     fn is_admitted(&self) -> bool {
         let admitted = self.limiter.lock(self.host).admit(self.second());
+        self.print_held(admitted)
+    }
+
+    /// Returns whether a report on a connection that speaks another protocol is allowed to be printed now. If so, first
+    /// prints how many such reports were left out since the last printed one, if any.
+    fn is_stranger_admitted(&self) -> bool {
+        let minute = self.second() / 60;
+        let admitted = self.strangers.lock(self.host).admit(minute);
+        self.print_held(admitted)
+    }
+
+    /// Prints how many reports a limiter held back, if `admitted` is a number over 0. Returns whether `admitted` is a
+    /// number.
+    fn print_held(&self, admitted: Option<u64>) -> bool
+        ensures { result ≡ is_some admitted }
+    {
         match admitted {
             None => false,
             Some(0) => true,
             Some(held) => {
-                let _ = eprintln!(self.rt; "fc: and {held} more");
+                print_message(self.rt, &format_args!("and {held} more"));
                 true
             }
         }
@@ -100,26 +148,55 @@ impl<H: Wait + Clock> Notices for OperatorReports<'_, H> {
 
     ghost end_reported = { λ _ _. Unit {0} };
 
+    ghost stranger_reported = { λ _ _. Unit {0} };
+
+    ghost line_reported = { λ _ _. Unit {0} };
+
     fn accept_failed(&self, role: Role, pass: u32, error: &io::Error) {
         if self.is_admitted() {
             let who = Peer(role);
-            let _ = eprintln!(self.rt; "fc: pass {pass}: no connection for {who}: {error}");
+            let words = format_args!("pass {pass}: no connection for {who}: {error}");
+            print_message(self.rt, &words);
         }
     }
 
     fn session_failed(&self, role: Role, pass: u32, failure: SessionFailure) {
         if self.is_admitted() {
             let (who, code) = (Peer(role), code_of(failure));
-            let _ = eprintln!(self.rt; "fc: pass {pass}: the session of {who}: {failure}{code}");
+            let words = format_args!("pass {pass}: the session of {who}: {failure}{code}");
+            print_message(self.rt, &words);
         }
     }
 
     fn fell_silent(&self, role: Role, pass: u32, seconds: u32) {
         if self.is_admitted() {
             let (who, unit) = (Peer(role), if seconds == 1 { "second" } else { "seconds" });
-            let _ = eprintln!(self.rt;
-                "fc: pass {pass}: the connection of {who} was closed: nothing came for {seconds} {unit}"
+            let words = format_args!(
+                "pass {pass}: the connection of {who} was closed: nothing came for {seconds} {unit}"
             );
+            print_message(self.rt, &words);
+        }
+    }
+
+    fn turned_away(&self, role: Role, pass: u32) {
+        if let Some(connections) = self.connections {
+            connections.turned_away(role, pass);
+        }
+        let Some(door) = door_at(self.doors, pass) else {
+            return;
+        };
+        if self.is_stranger_admitted() {
+            let address = DoorAddress(&door.address);
+            let words = format_args!(
+                "pass {pass}: {address}: a connection that speaks another protocol was closed"
+            );
+            print_message(self.rt, &words);
+        }
+    }
+
+    fn line_read(&self, role: Role, pass: u32) {
+        if let Some(connections) = self.connections {
+            connections.line_read(role, pass);
         }
     }
 

@@ -10,8 +10,8 @@ use crate::progress::{Watched, watch};
 use days::chain::audit_days;
 use days::{Cause, DayIn, DaysFault, DaysIn, NoDay, NoNextOpening, Unbegun, Unclosed, Unfollowed};
 use site_core::Config;
-use site_files::faults::{once_printed, report_file_error, report_out_of_memory};
-use site_files::files::{lines_in, text_of};
+use site_files::faults::{once_printed, print_message, report_file_error, report_out_of_memory};
+use site_files::files::{lines_in, regular_source_of, text_of};
 use site_files::kept::to_last_lf;
 use site_files::newest::{OfDay, UNOPENED, kept_config, refuse_link, refuse_uncarried};
 use site_files::opening::{opening_bytes, refuse_opening, refuse_unfit, refuse_words};
@@ -94,7 +94,7 @@ impl<'a> FolderIn<'a> {
             return Ok(None);
         }
         let path = self.folder.file(self.rt, number, Part::Opening)?;
-        match opening_bytes(self.rt, &path) {
+        match opening_bytes(self.rt, &path, regular_source_of(self.rt, &path)?) {
             Ok(bytes) => Ok(Some(bytes)),
             Err(job_error) => Err(job_error),
         }
@@ -104,7 +104,7 @@ impl<'a> FolderIn<'a> {
         ensures { IfErr result Fails }
     {
         let path = self.folder.file(self.rt, number, Part::Journal)?;
-        match Source::open(self.rt, &path) {
+        match Source::open_regular(self.rt, &path) {
             Ok(source) => {
                 let size = source.size();
                 Ok(Some(watch(self.rt, source, size)))
@@ -173,8 +173,11 @@ fn audit_span(
 {
     if span.oldest > 1 {
         let (path, oldest) = (folder.path, span.oldest);
-        let _ = eprintln!(rt;
-            "fc: {path}: the oldest day is {oldest}, and what it begins with is not compared"
+        print_message(
+            rt,
+            &format_args!(
+                "{path}: the oldest day is {oldest}, and what it begins with is not compared"
+            ),
         );
     }
     let mut days = FolderIn::new(rt, folder, config, span);

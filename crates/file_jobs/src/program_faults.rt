@@ -6,7 +6,7 @@ use bpf_asm::{AsmFault, AsmFlaw, ProgramFileFault};
 use job_texts::ProgramFlaw;
 use job_texts::reasons::asm_flaw;
 use site_files::Place;
-use site_files::faults::{print_fault, print_out_of_memory};
+use site_files::faults::{print_fault, print_message, print_out_of_memory};
 use std::alloc::AllocError;
 
 /// Returns the number of a program file's fault, as it is printed, or `None` if the fault is that memory ran out.
@@ -30,7 +30,7 @@ pub(crate) fn print_program_flaw(rt: &HostRuntime, word: &str, flaw: &ProgramFla
         },
         ProgramFlaw::Program(refused) => {
             let number = refused.number();
-            let _ = eprintln!(rt; "fc: {place}: {refused} (V{number})");
+            print_message(rt, &format_args!("{place}: {refused} (V{number})"));
         }
     }
 }

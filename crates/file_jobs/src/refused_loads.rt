@@ -4,6 +4,7 @@ use crate::progress::Progress;
 use console::PlayNotices;
 use job_texts::reasons::explain_refusal;
 use reg_types::Refusal;
+use site_files::faults::print_message;
 use std::alloc::AllocError;
 use std::cell::Cell;
 use till_request::Act;
@@ -45,7 +46,10 @@ impl<'a, 'b> RefusedLoads<'a, 'b> {
             progress.clear();
         }
         let (name, line, number) = (self.name, self.lines.get(), refused.number());
-        let _ = eprintln!(self.rt; "fc: {name}:{line}: slot {slot}: {refused} (V{number})");
+        print_message(
+            self.rt,
+            &format_args!("{name}:{line}: slot {slot}: {refused} (V{number})"),
+        );
         Ok(())
     }
 }

@@ -2,10 +2,13 @@
 #![tactic(auto)]
 
 pub mod checking;
+mod labels;
 mod parts;
 pub mod samples;
 pub mod sections;
 mod station;
 mod words;
 
-pub use station::{DurationSummary, Health, JournalFileStats, RoleCounts, StationSnapshot};
+pub use station::{
+    DoorCounts, DurationSummary, Health, JournalFileStats, RoleCounts, StationSnapshot,
+};

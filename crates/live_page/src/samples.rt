@@ -1,6 +1,7 @@
 //! Metrics of a station, in the text format of Prometheus, version 0.0.4.
+use crate::labels::LabelValue;
 use crate::parts::{ENTRIES, digits};
-use crate::station::{DurationSummary, JournalFileStats, RoleCounts, StationSnapshot};
+use crate::station::{DoorCounts, DurationSummary, JournalFileStats, RoleCounts, StationSnapshot};
 use crate::words::role_name;
 use day_page::names::state_name;
 use day_page::texts::{number, numbered};
@@ -49,6 +50,7 @@ pub fn metrics(alloc: Global, station: &StationSnapshot<'_>) -> Result<String, A
     add_money(&mut text, left);
     add_counters(&mut text, left);
     add_peers(&mut text, station.role_counts);
+    add_doors(&mut text, station.doors);
     add_times(&mut text, LOCK_WAITS, station.waits);
     if let Some(journal) = station.journal {
         add_file(&mut text, journal);
@@ -281,6 +283,28 @@ fn add_peers(text: &mut TextBuilder, role_counts: &[RoleCounts]) {
     for role in role_counts {
         let (name, workers) = (Text::Words(role_name(role.role)), u64::from(role.workers));
         add_sample(text, "fc_workers{role=\"{}\"} {}\n", name, workers);
+    }
+}
+
+/// Adds a line that shows a count of a door. `start` is the line up to the value of the label `door`.
+fn add_door(text: &mut TextBuilder, start: &str, door: &DoorCounts<'_>, value: u64) {
+    text.add(start);
+    text.write(&LabelValue(door.address));
+    text.add("\",who=\"");
+    text.write(&LabelValue(door.who));
+    text.fill("\"} {}\n", &[Text::Number(value)]);
+}
+
+fn add_doors(text: &mut TextBuilder, doors: &[DoorCounts<'_>]) {
+    text.add(head!("fc_lines_total" is a "counter": "Lines that were read, by door."));
+    for door in doors {
+        add_door(text, "fc_lines_total{door=\"", door, door.lines);
+    }
+    text.add(
+        head!("fc_turned_away_total" is a "counter": "Connections in another protocol, by door."),
+    );
+    for door in doors {
+        add_door(text, "fc_turned_away_total{door=\"", door, door.turned_away);
     }
 }
 

@@ -1,7 +1,7 @@
 //! The page of HTML that shows a station as it is now, section by section.
 use crate::checking::health;
 use crate::parts::{ENTRIES, NONE, digits, hundredths, thousands};
-use crate::station::{Health, RoleCounts, StationSnapshot};
+use crate::station::{DoorCounts, Health, RoleCounts, StationSnapshot};
 use crate::words::{add_entry, order_name, role_name};
 use day_page::names::state_name;
 use day_page::page::add_figure;
@@ -47,6 +47,7 @@ pub fn page(alloc: Global, station: &StationSnapshot<'_>) -> Result<String, Allo
     add_counters(&mut html, left);
     add_refusals(&mut html, station.tally);
     add_peers(&mut html, station.role_counts);
+    add_doors(&mut html, station.doors);
     add_entries(&mut html, station.last);
     html.add("</main></body></html>\n");
     html.finish()
@@ -225,6 +226,27 @@ fn add_peers(html: &mut TextBuilder, role_counts: &[RoleCounts]) {
             thousands(role.total),
         ];
         add_row(html, Text::Words(role_name(role.role)), &cells);
+    }
+    html.add(END);
+}
+
+/// Adds the table row of a door: its address, whom it is for, and what was counted there.
+fn add_door(html: &mut TextBuilder, door: &DoorCounts<'_>) {
+    html.add("<tr><th scope=\"row\">");
+    html.words(door.address);
+    html.add("</th><td class=\"words\">");
+    html.words(door.who);
+    html.fill(
+        "</td><td>{}</td><td>{}</td></tr>\n",
+        &[thousands(door.lines), thousands(door.turned_away)],
+    );
+}
+
+fn add_doors(html: &mut TextBuilder, doors: &[DoorCounts<'_>]) {
+    html.add(section!("doors" with title "Doors" and columns
+        "Door", "For", "Lines read", "Turned away"));
+    for door in doors {
+        add_door(html, door);
     }
     html.add(END);
 }

@@ -28,6 +28,8 @@ pub struct StationSnapshot<'a> {
     /// The counts of workers and connections: for tills, for dispensers and for the owner, in this order. A role for
     /// which the site never had a worker is left out.
     pub role_counts: &'a [RoleCounts],
+    /// The counts of each door, in the order in which the doors were opened.
+    pub doors: &'a [DoorCounts<'a>],
     /// The moment at which the station is shown, in seconds since the start of 1970.
     pub moment: u64,
     /// The resident memory of the process in bytes, if it is known.
@@ -61,6 +63,19 @@ pub struct RoleCounts {
     pub open: u64,
     /// The number of connections since the serving of the site began.
     pub total: u64,
+}
+
+/// What was counted at one door since the serving of the site began.
+#[derive(Clone, Copy)]
+pub struct DoorCounts<'a> {
+    /// The door's address: `127.0.0.1:` and its port, or the path of its socket.
+    pub address: &'a str,
+    /// Whom the door is for, such as `tills` or `till 3`.
+    pub who: &'a str,
+    /// The lines that were read.
+    pub lines: u64,
+    /// The connections that were closed without an answer, since they spoke another protocol.
+    pub turned_away: u64,
 }
 
 /// The health of a station: `Healthy` if all is well, or else the first problem that it has, in the order of the

@@ -3,7 +3,7 @@ use line_session::Doors;
 use site_core::{Config, Site};
 use site_server::{
     AtOnce, Crew, Listener, NoJournal, NoWatcher, Notices, OpenDoor, Serving, ServingHooks,
-    SessionFailure, SocketDoors, Stream,
+    SessionFailure, SharedDoor, SocketDoors, Stream,
 };
 use std::alloc::{AllocError, Global};
 use std::io;
@@ -24,11 +24,19 @@ impl Notices for Silent {
 
     ghost end_reported = { λ _ _. Unit {0} };
 
+    ghost stranger_reported = { λ _ _. Unit {0} };
+
+    ghost line_reported = { λ _ _. Unit {0} };
+
     fn accept_failed(&self, _role: Role, _pass: u32, _error: &io::Error) {}
 
     fn session_failed(&self, _role: Role, _pass: u32, _breach: SessionFailure) {}
 
     fn fell_silent(&self, _role: Role, _pass: u32, _seconds: u32) {}
+
+    fn turned_away(&self, _role: Role, _pass: u32) {}
+
+    fn line_read(&self, _role: Role, _pass: u32) {}
 
     fn connected(&self, _role: Role, _pass: u32) {}
 
@@ -105,6 +113,7 @@ fn doors_at(alloc: Global, ports: Ports) -> Result<Vec<OpenDoor>, AllocError> {
             role,
             listener,
             workers: 1,
+            lines_per_second: 0,
         })?;
     }
     Ok(doors)
@@ -153,7 +162,7 @@ fn serving(alloc: Global, ports: Ports) -> Result<Serving, Fail> {
         site: site(alloc)?,
         journal: NoJournal,
         crew,
-        connections: 1,
+        connections: Some(1),
         idle_seconds: 0,
     })
 }
@@ -194,12 +203,12 @@ fn serve_on_loopback(rt: HostRuntime) -> Result<(), Fail> {
 }
 
 /// Returns whether the socket of a till's connection sends small answers without delay (`TCP_NODELAY`).
-fn leaves_at_once<R: Net<Listener = TcpListener, Stream = TcpStream> + Clock>(
+fn leaves_at_once<R: Net<Listener = TcpListener, Stream = TcpStream> + Wait + Clock>(
     rt: &R,
-    listener: &Listener,
+    door: &SharedDoor,
 ) -> io::Result<bool> {
-    let _peer = TcpStream::connect(rt, address_of(listener)?)?;
-    let mut doors = SocketDoors::new(rt, listener, &Silent, Role::Till, 1, 0);
+    let _peer = TcpStream::connect(rt, address_of(&door.listener)?)?;
+    let mut doors = SocketDoors::new(rt, door, &Silent, Role::Till, 1, 0);
     match doors.next() {
         Ok((_input, output)) => match output.writer {
             Stream::Port(stream) => stream.nodelay(),
@@ -211,7 +220,7 @@ fn leaves_at_once<R: Net<Listener = TcpListener, Stream = TcpStream> + Clock>(
 
 #[test]
 fn answers_leave_without_a_delay(rt: HostRuntime) -> Result<(), Fail> {
-    let listener = port(&rt)?;
-    assert!(rt; leaves_at_once(&rt, &listener)?);
+    let door = SharedDoor::new(port(&rt)?, 0);
+    assert!(rt; leaves_at_once(&rt, &door)?);
     Ok(())
 }

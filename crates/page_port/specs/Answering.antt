@@ -14,8 +14,10 @@ use Rattle.page_port.specs.declared.page_answer.MediaType.{MediaType}
 use Rattle.page_port.specs.declared.page_answer.MediaType.TheVariants as kinds
 use Rattle.page_port.specs.declared.page_answer.PageAnswer.{PageAnswer}
 
+-- the HTTP status of a refusal (RFC 9110, section 15; a scheme that isn't served: section 7.4)
 abbrev pub status_of : Refusal → ℕ
 status_of refusals.OtherHost = 403
+status_of refusals.OtherScheme = 421
 status_of refusals.NoSuchPath = 404
 status_of refusals.OtherMethod = 405
 status_of refusals.BadQuery = 400
@@ -44,12 +46,14 @@ fields kind =
 abbrev pub fields_refusing : Refusal → List Header
 fields_refusing refusals.OtherMethod = fields kinds.Plain ++ (codes "allow", codes "GET, HEAD") ∷ []
 fields_refusing refusals.OtherHost = fields kinds.Plain
+fields_refusing refusals.OtherScheme = fields kinds.Plain
 fields_refusing refusals.NoSuchPath = fields kinds.Plain
 fields_refusing refusals.BadQuery = fields kinds.Plain
 
 -- the text of the answer to a request that is refused for this reason
 abbrev pub text_refusing : Refusal → List ℕ
 text_refusing refusals.OtherHost = codes "this page is for localhost, 127.0.0.1 and [::1] alone\n"
+text_refusing refusals.OtherScheme = codes "only http is answered here\n"
 text_refusing refusals.NoSuchPath = codes "nothing is here: try /, /metrics, /healthz or /journal?after=N\n"
 text_refusing refusals.OtherMethod = codes "only GET and HEAD are answered here\n"
 text_refusing refusals.BadQuery = codes "write after=N, with N from 0 to 4294967295 in plain digits\n"

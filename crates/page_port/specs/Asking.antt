@@ -1,12 +1,12 @@
 -- Definitions: what a request on the page port asks for, or why it is refused.
 use Rattle.std.specs.Prelude.{◌==◌, nat_lt, ℕ, List, [], ◌∷◌, length, take, drop, map, codes, Bool, true, false}
 use Rattle.std.specs.Prelude.{Option, Some, None, option_map, Result, Ok, Err, if◌then◌else◌, ◌&&◌, ◌||◌, not}
-use Rattle.std.specs.Char.{to_ascii_lowercase}
+use Rattle.std.specs.Char.{to_ascii_lowercase, is_ascii_digit}
+use Rattle.std.specs.List.{list_all}
 use Rattle.std.specs.Str.{bytes_eq}
 use Rattle.http.specs.declared.request.Parts.{Parts}
 use Rattle.http_header.specs.HeaderMap.{get}
-use Rattle.http_uri.specs.Grammar.{authority_host}
-use Rattle.http_uri.specs.Uri.{uri_authority, uri_path, uri_query}
+use Rattle.http_uri.specs.Uri.{uri_authority, uri_path, uri_query, uri_scheme}
 use Rattle.till_request.specs.declared.act.LineFault.{LineFault}
 use Rattle.till_request.specs.Grammar.{number}
 use Rattle.page_port.specs.declared.routing.Refusal.{Refusal}
@@ -14,10 +14,11 @@ use Rattle.page_port.specs.declared.routing.Refusal.TheVariants as refusals
 use Rattle.page_port.specs.declared.routing.Endpoint.{Endpoint}
 use Rattle.page_port.specs.declared.routing.Endpoint.TheVariants as endpoints
 
--- whether this text, which follows a host's name, is empty or begins with a colon, as a port does
+-- whether this text, which follows a host's name, is empty or a port: a colon (58) and decimal digits, perhaps none (RFC
+-- 3986, section 3.2.3)
 abbrev pub is_empty_or_port : List ℕ → Bool
 is_empty_or_port [] = true
-is_empty_or_port (b ∷ _) = b == 58
+is_empty_or_port (b ∷ digits) = b == 58 && list_all is_ascii_digit digits
 
 -- whether a host (the first argument) has this name (the second), in upper or lower case, with any port or none
 abbrev pub is_named : List ℕ → List ℕ → Bool
@@ -30,21 +31,28 @@ is_named host name =
 abbrev pub is_loopback_host : List ℕ → Bool
 is_loopback_host host = is_named host (codes "localhost") || is_named host (codes "127.0.0.1") || is_named host (codes "[::1]")
 
--- The host that a request is for: the host in the request's target (the first argument), or, if that is None, the
--- request's header field `host` (the second). It is None if both are None.
-abbrev pub host_or_field : Option (List ℕ) → Option (List ℕ) → Option (List ℕ)
-host_or_field (Some host) _ = Some host
-host_or_field None host = host
+-- the value of the header field `host`, or None if the request has no such field
+abbrev pub field_host : Parts → Option (List ℕ)
+field_host head = option_map (λ v. v.bytes) (get head.headers (codes "host"))
 
-abbrev pub host_of : Parts → Option (List ℕ)
-host_of head = host_or_field (option_map authority_host (uri_authority head.uri))
-    (option_map (λ v. v.bytes) (get head.headers (codes "host")))
-
--- whether a request for this host is allowed: the host must be this machine (localhost, 127.0.0.1 or [::1]), or None
--- (the request names no host)
+-- whether a request that names this host is allowed: the host must be this machine (localhost, 127.0.0.1 or [::1]), or
+-- None (no host is named)
 abbrev pub is_allowed_host : Option (List ℕ) → Bool
 is_allowed_host None = true
 is_allowed_host (Some host) = is_loopback_host host
+
+-- Whether each host that a request names is this machine. A target in absolute form (RFC 9112, section 3.2.2) names one
+-- before its path, which must have no user's name before it (RFC 9110, section 4.2.4); the field `host` names one too.
+abbrev pub is_for_this_machine : Parts → Bool
+is_for_this_machine head = is_allowed_host (uri_authority head.uri) && is_allowed_host (field_host head)
+
+-- whether a target's scheme is http, or there is none, since the target is a path
+abbrev pub is_allowed_scheme : Option (List ℕ) → Bool
+is_allowed_scheme None = true
+is_allowed_scheme (Some scheme) = bytes_eq scheme (codes "http")
+
+abbrev pub is_of_http : Parts → Bool
+is_of_http head = is_allowed_scheme (uri_scheme head.uri)
 
 abbrev pub is_get_or_head : List ℕ → Bool
 is_get_or_head method = bytes_eq method (codes "GET") || bytes_eq method (codes "HEAD")
@@ -75,6 +83,7 @@ endpoint_at path query =
 -- the endpoint that a request with this head asks for, or why the request is refused
 abbrev pub requested_endpoint : Parts → Result Endpoint Refusal
 requested_endpoint head =
-    if not (is_allowed_host (host_of head)) then Err refusals.OtherHost
+    if not (is_for_this_machine head) then Err refusals.OtherHost
+    else if not (is_of_http head) then Err refusals.OtherScheme
     else if not (is_get_or_head head.method) then Err refusals.OtherMethod
     else endpoint_at (uri_path head.uri) (uri_query head.uri)

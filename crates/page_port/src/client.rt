@@ -1,4 +1,7 @@
 //! A connection to the page port, on which a browser or a script looks at the petrol station that is served.
+ghost use Rattle.std.specs.Prelude.{◌≡◌};
+ghost use Rattle.page_port.specs.Limits.{is_over};
+
 use http_server::{Config, Connection, Service, State};
 use http1::Limits;
 use std::alloc::Global;
@@ -7,9 +10,12 @@ use std::io::{self, ErrorKind, Read};
 use std::net::{Shutdown, TcpStream};
 use std::time::{Clock, Instant};
 
-/// A time limit in seconds: a connection ends when it has been open for this many seconds without an answer, or when
-/// this many seconds have passed since its answer was made.
-const MOST_SECONDS: u64 = 5;
+/// The time limit in milliseconds: a connection ends when it has been open for this long without an answer, or when this
+/// long has passed since its answer was made.
+const MOST_MILLISECONDS: u128 = 5000;
+
+/// The time limit in milliseconds for a connection without an answer while no further connection can be served.
+const MOST_MILLISECONDS_IF_TAKEN: u128 = 1000;
 
 /// The limits of a connection: a request's head must have at most 8,192 bytes, and a request must have no body.
 const LIMITS: Config = Config {
@@ -32,6 +38,19 @@ pub enum TurnOutcome {
     Waits,
     /// The connection must be closed.
     Over,
+}
+
+/// Returns whether a connection is over. If it `is_answered`, `milliseconds` have passed since its answer was made, or
+/// else since it was opened. `are_all_taken` says that as many connections are served as can be served at once.
+fn is_over(milliseconds: u128, is_answered: bool, are_all_taken: bool) -> bool
+    ensures { result ≡ is_over milliseconds is_answered are_all_taken }
+{
+    let most = if are_all_taken && !is_answered {
+        MOST_MILLISECONDS_IF_TAKEN
+    } else {
+        MOST_MILLISECONDS
+    };
+    milliseconds >= most
 }
 
 /// A connection to the page port. No method waits for the peer: each call of `turn` reads or writes what it can at
@@ -115,9 +134,11 @@ impl Client {
         &mut self,
         rt: &R,
         service: &mut S,
+        are_all_taken: bool,
     ) -> io::Result<TurnOutcome> {
         self.answer(rt, service)?;
-        if self.since.elapsed(rt)?.as_secs() >= MOST_SECONDS {
+        let milliseconds = self.since.elapsed(rt)?.as_millis();
+        if is_over(milliseconds, !self.is_open(), are_all_taken) {
             return Ok(TurnOutcome::Over);
         }
         let is_done = self.connection.is_done();
@@ -134,11 +155,17 @@ impl Client {
         }
     }
 
-    /// Has `service` answer the request once it has come, and writes or reads what it can at once. Returns `Over` if
-    /// the time limit is reached, if nothing more is to be sent and the peer has closed its side, or if there is a
+    /// Has `service` answer the request once it has come, and writes or reads what it can at once. `are_all_taken` says
+    /// that as many connections are served as can be served at once: then the request must come within 1 second, not 5.
+    /// Returns `Over` if the time limit is reached, if nothing more is to be sent and the peer has closed its side, or if there is a
     /// failure. A failure isn't reported: nobody needs to know of a peer that goes away.
-    pub fn turn<S: Service, R: Clock>(&mut self, rt: &R, service: &mut S) -> TurnOutcome {
-        match self.try_turn(rt, service) {
+    pub fn turn<S: Service, R: Clock>(
+        &mut self,
+        rt: &R,
+        service: &mut S,
+        are_all_taken: bool,
+    ) -> TurnOutcome {
+        match self.try_turn(rt, service, are_all_taken) {
             Ok(turn) => turn,
             Err(_) => TurnOutcome::Over,
         }

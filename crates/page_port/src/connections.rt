@@ -1,5 +1,6 @@
-//! Counts of a site's workers and of their connections: for tills, for dispensers and for the owner.
-use live_page::RoleCounts;
+//! Counts of a site's workers and of their connections: for tills, for dispensers and for the owner. Also counts of the
+//! lines that are read at each door, and of the connections that are turned away there.
+use live_page::{DoorCounts, RoleCounts};
 use std::alloc::{AllocError, Global};
 use std::sync::atomic::{AtomicU32, AtomicU64, Ordering};
 use till_request::Role;
@@ -40,22 +41,72 @@ impl RoleCounters {
     }
 }
 
-/// Counts a site's workers and their connections, separately for tills, for dispensers and for the owner. A worker with
-/// `Role::All` counts as one for the owner.
+/// Counts what comes to one worker, by the worker's pass. Each worker's counts are 128 bytes apart from the next one's,
+/// so that workers on several processors don't wait for one another when they count.
+#[derive(Drop)]
+struct PassCounters {
+    lines: AtomicU64,
+    turned_away: AtomicU64,
+    _apart: [u64; 14],
+}
+
+impl PassCounters {
+    fn new() -> PassCounters {
+        PassCounters {
+            lines: AtomicU64::new(0),
+            turned_away: AtomicU64::new(0),
+            _apart: [0; 14],
+        }
+    }
+}
+
+/// A door: its address, whom it is for, and how many workers it has.
+#[derive(Drop)]
+struct NamedDoor {
+    address: String,
+    who: String,
+    workers: u32,
+}
+
+impl NamedDoor {
+    /// Returns the counts of this door, whose workers have the counters `passes`.
+    fn counts(&self, passes: &[PassCounters]) -> DoorCounts<'_> {
+        let (mut lines, mut turned_away) = (0u64, 0u64);
+        for pass in passes {
+            lines = lines.saturating_add(pass.lines.load(Ordering::Relaxed));
+            turned_away = turned_away.saturating_add(pass.turned_away.load(Ordering::Relaxed));
+        }
+        DoorCounts {
+            address: &self.address,
+            who: &self.who,
+            lines,
+            turned_away,
+        }
+    }
+}
+
+/// Counts a site's workers and their connections, separately for tills, for dispensers and for the owner, and what comes
+/// in at each door. A worker with `Role::All` counts as one for the owner.
 #[derive(Drop)]
 pub struct ConnectionCounts {
     tills: RoleCounters,
     dispensers: RoleCounters,
     owner: RoleCounters,
+    /// The doors, in the order of their workers' passes.
+    doors: Vec<NamedDoor>,
+    /// The counters of each worker. The one whose pass has the number n is at place n - 1.
+    passes: Vec<PassCounters>,
 }
 
 impl ConnectionCounts {
-    /// Makes counts that are all 0.
-    pub fn new() -> ConnectionCounts {
+    /// Makes counts that are all 0, of a site without doors.
+    pub fn new(alloc: Global) -> ConnectionCounts {
         ConnectionCounts {
             tills: RoleCounters::new(),
             dispensers: RoleCounters::new(),
             owner: RoleCounters::new(),
+            doors: Vec::new(alloc),
+            passes: Vec::new(alloc),
         }
     }
 
@@ -67,14 +118,65 @@ impl ConnectionCounts {
         }
     }
 
-    /// Adds `workers` workers to the count for `role`.
-    pub fn add_workers(&mut self, role: Role, workers: u32) {
+    fn add_workers(&mut self, role: Role, workers: u32) {
         let counted = match role {
             Role::Till | Role::OneTill(_) => &mut self.tills,
             Role::Dispenser | Role::SomePoints(_) => &mut self.dispensers,
             Role::Owner | Role::All => &mut self.owner,
         };
         counted.workers = counted.workers.saturating_add(workers);
+    }
+
+    /// Adds a door with `workers` workers for `role`, which have the passes that follow those of the doors before. `who`
+    /// and `address` are shown. The error is that memory ran out; the door then counts in part.
+    pub fn add_door(
+        &mut self,
+        role: Role,
+        workers: u32,
+        who: String,
+        address: String,
+    ) -> Result<(), AllocError> {
+        self.add_workers(role, workers);
+        for _ in 0..workers {
+            self.passes.push(PassCounters::new())?;
+        }
+        self.doors.push(NamedDoor {
+            address,
+            who,
+            workers,
+        })?;
+        Ok(())
+    }
+
+    /// Returns the counters of the worker whose pass has this number, or `None` if no door has such a worker.
+    fn at_pass(&self, pass: u32) -> Option<&PassCounters> {
+        self.passes.get((pass as usize).wrapping_sub(1))
+    }
+
+    /// Counts that the worker with this pass read a line.
+    pub fn line_read(&self, _role: Role, pass: u32) {
+        if let Some(counters) = self.at_pass(pass) {
+            counters.lines.fetch_add(1, Ordering::Relaxed);
+        }
+    }
+
+    /// Counts that the worker with this pass closed a connection that speaks another protocol.
+    pub fn turned_away(&self, _role: Role, pass: u32) {
+        if let Some(counters) = self.at_pass(pass) {
+            counters.turned_away.fetch_add(1, Ordering::Relaxed);
+        }
+    }
+
+    /// Returns the counts of each door, in the order of their passes. The error is that memory ran out.
+    pub(crate) fn door_counts(&self, alloc: Global) -> Result<Vec<DoorCounts<'_>>, AllocError> {
+        let mut door_counts = Vec::new(alloc);
+        let mut passes = self.passes.as_slice();
+        for door in &self.doors {
+            let (own, others) = passes.split_at(passes.len().min(door.workers as usize));
+            door_counts.push(door.counts(own))?;
+            passes = others;
+        }
+        Ok(door_counts)
     }
 
     /// Counts that a connection of a worker with this role was opened.

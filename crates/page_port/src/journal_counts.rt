@@ -4,7 +4,8 @@ use live_page::JournalFileStats;
 use std::sync::atomic::{AtomicBool, AtomicU64, Ordering};
 use std::time::Duration;
 
-/// Counts the bytes and the syncs of a journal's file, and records whether a write or a sync of the file failed.
+/// Counts the bytes and the syncs of a journal's file, and records whether the journal failed: a write or a sync of the
+/// file failed, or the file was changed by others.
 #[derive(Drop)]
 pub struct JournalCounts {
     bytes: AtomicU64,
@@ -40,20 +41,25 @@ impl JournalCounts {
         }
     }
 
-    /// Records that a write or a sync failed. Returns whether one had failed before.
+    /// Records that the journal failed. Returns whether it had failed before.
     pub fn fail(&self) -> bool {
         self.has_failed.swap(true, Ordering::SeqCst)
     }
 
-    /// Returns whether a write or a sync failed.
+    /// Returns whether the journal failed.
     pub fn has_failed(&self) -> bool {
         self.has_failed.load(Ordering::SeqCst)
+    }
+
+    /// Returns the length of the file in bytes, as far as it is counted.
+    pub fn bytes(&self) -> u64 {
+        self.bytes.load(Ordering::SeqCst)
     }
 
     /// Returns the length of the file, and the count and the total time of its syncs.
     pub(crate) fn file(&self) -> JournalFileStats {
         JournalFileStats {
-            bytes: self.bytes.load(Ordering::SeqCst),
+            bytes: self.bytes(),
             syncs: match &self.syncs {
                 Some(syncs) => Some(syncs.times()),
                 None => None,

@@ -103,7 +103,9 @@ fn add_allowed(refusal: Refusal, response: &mut Response) -> Result<(), AllocErr
             header::ALLOW,
             HeaderValue::from_static("GET, HEAD"),
         ),
-        Refusal::OtherHost | Refusal::NoSuchPath | Refusal::BadQuery => Ok(()),
+        Refusal::OtherHost | Refusal::OtherScheme | Refusal::NoSuchPath | Refusal::BadQuery => Ok(
+            (),
+        ),
     }
 }
 

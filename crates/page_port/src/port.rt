@@ -32,8 +32,8 @@ const MEMORY_PAGE: u64 = 4096;
 /// A port of 127.0.0.1 on which a browser or a script looks at a site while it is served.
 ///
 /// One thread serves up to 32 connections at once, and answers one request on each, so that a peer that hangs keeps
-/// nobody waiting. A connection ends if its request doesn't come within 5 seconds, or its answer isn't taken within 5
-/// seconds. What an answer shows is copied under the site's lock, a bounded amount at a time, and sent without the
+/// nobody waiting. A connection ends if its request doesn't come within 5 seconds (1 second while 32 connections are
+/// served), or its answer isn't taken within 5 seconds. What an answer shows is copied under the site's lock, a bounded amount at a time, and sent without the
 /// lock.
 #[derive(Drop)]
 pub struct PagePort<'a> {
@@ -71,13 +71,14 @@ fn listen<H: Net<Listener = TcpListener, Stream = TcpStream>>(
 /// connection. If it wasn't the last one in `clients`, the last client takes its position, and has no turn in this
 /// call. All other clients have a turn. Returns whether at least one client returned `Moved` or `Over`.
 fn take_turns<S: Service, R: Clock>(rt: &R, clients: &mut Vec<Client>, service: &mut S) -> bool {
+    let are_all_taken = clients.len() >= MOST_CLIENTS;
     let mut has_progressed = false;
     for place in 0..clients.len() {
         // Removals make `clients` shorter, so `place` can be past the end.
         let Some(client) = clients.get_mut(place) else {
             break;
         };
-        match client.turn(rt, service) {
+        match client.turn(rt, service, are_all_taken) {
             TurnOutcome::Waits => {}
             TurnOutcome::Moved => has_progressed = true,
             TurnOutcome::Over => {

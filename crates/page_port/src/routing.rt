@@ -1,10 +1,12 @@
 //! What a request on the page port asks for, or why it is refused.
 ghost use Rattle.std.specs.Prelude.{◌≡◌, option_copied};
+ghost use Rattle.std.specs.Char.{is_ascii_digit};
+ghost use Rattle.std.specs.List.{list_all};
 ghost use Rattle.http.specs.Request.{head_of};
-ghost use Rattle.http_uri.specs.Uri.{uri_query};
+ghost use Rattle.http_uri.specs.Uri.{uri_authority, uri_query};
 ghost use Rattle.till_request.specs.Grammar.{number};
 ghost use Rattle.page_port.specs.Answering.{status_of, text_refusing};
-ghost use Rattle.page_port.specs.Asking.{requested_endpoint, host_of, is_allowed_host, is_loopback_host, is_named, is_empty_or_port, is_get_or_head};
+ghost use Rattle.page_port.specs.Asking.{requested_endpoint, field_host, is_for_this_machine, is_of_http, is_allowed_host, is_loopback_host, is_named, is_empty_or_port, is_get_or_head};
 ghost use Rattle.page_port.specs.Asking.{lines_after, journal_at, endpoint_at};
 
 use bytes::Bytes;
@@ -29,6 +31,8 @@ pub enum Endpoint {
 pub enum Refusal {
     /// The request names another host than this machine, so a page of another web site could have sent it.
     OtherHost,
+    /// The request's target is a URI whose scheme isn't `http`, as in `https://localhost/`.
+    OtherScheme,
     /// The port has nothing at the request's path.
     NoSuchPath,
     /// The request's method is neither GET nor HEAD.
@@ -44,6 +48,7 @@ impl Refusal {
     {
         match self {
             Refusal::OtherHost => StatusCode::FORBIDDEN,
+            Refusal::OtherScheme => StatusCode::MISDIRECTED_REQUEST,
             Refusal::NoSuchPath => StatusCode::NOT_FOUND,
             Refusal::OtherMethod => StatusCode::METHOD_NOT_ALLOWED,
             Refusal::BadQuery => StatusCode::BAD_REQUEST,
@@ -56,6 +61,7 @@ impl Refusal {
     {
         match self {
             Refusal::OtherHost => "this page is for localhost, 127.0.0.1 and [::1] alone\n",
+            Refusal::OtherScheme => "only http is answered here\n",
             Refusal::NoSuchPath =>
                 "nothing is here: try /, /metrics, /healthz or /journal?after=N\n",
             Refusal::OtherMethod => "only GET and HEAD are answered here\n",
@@ -64,13 +70,18 @@ impl Refusal {
     }
 }
 
-/// Returns whether `rest`, which follows a host's name, is empty or begins with a colon, as a port does. The port's
-/// digits aren't checked here: they were checked when the request was read.
+fn are_digits(digits: &[u8]) -> bool
+    ensures { result ≡ list_all is_ascii_digit digits.now }
+{
+    digits.iter().all(|byte| byte.is_ascii_digit())
+}
+
+/// Returns whether `rest`, which follows a host's name, is empty or a port: a colon and decimal digits, perhaps none.
 fn is_empty_or_port(rest: &[u8]) -> bool
     ensures { result ≡ is_empty_or_port rest.now }
 {
     match rest {
-        [first, ..] => *first == b':',
+        [first, digits @ ..] => *first == b':' && are_digits(digits),
         [] => true,
     }
 }
@@ -154,22 +165,46 @@ fn is_get_or_head(method: &[u8]) -> bool
     method == b"GET".as_slice() || method == b"HEAD".as_slice()
 }
 
-/// Returns the host that a request is for, perhaps with a port: the host in the request's target, or else its field
-/// `Host`. Returns `None` if the request has neither.
-fn host_of(request: &Request<Bytes>) -> Option<&[u8]>
-    ensures { option_copied result ≡ host_of (head_of request.now) }
+/// Returns what stands before the path in a request's target: the host, and perhaps a port and a user's name. Returns
+/// `None` if the target is a path alone.
+fn target_host(request: &Request<Bytes>) -> Option<&[u8]>
+    ensures { option_copied result ≡ uri_authority (head_of request.now).uri }
 {
-    match request.uri().host() {
-        Some(host) => Some(host.as_bytes()),
-        None => match request.headers().get(header::HOST) {
-            Some(host) => Some(host.as_bytes()),
-            None => None,
-        },
+    match request.uri().authority() {
+        Some(authority) => Some(authority.as_str().as_bytes()),
+        None => None,
     }
 }
 
-/// Returns whether a request for this host is accepted: the host must be this machine. A request that names no host
-/// (`None`) is accepted too.
+/// Returns the value of a request's field `Host`, or `None` if the request has no such field.
+fn field_host(request: &Request<Bytes>) -> Option<&[u8]>
+    ensures { option_copied result ≡ field_host (head_of request.now) }
+{
+    match request.headers().get(header::HOST) {
+        Some(host) => Some(host.as_bytes()),
+        None => None,
+    }
+}
+
+/// Returns whether each host that a request names, in its target and in its field `Host`, is this machine.
+fn is_for_this_machine(request: &Request<Bytes>) -> bool
+    ensures { result ≡ is_for_this_machine (head_of request.now) }
+{
+    is_allowed_host(target_host(request)) && is_allowed_host(field_host(request))
+}
+
+/// Returns whether a request's target has the scheme `http`, or none.
+fn is_of_http(request: &Request<Bytes>) -> bool
+    ensures { result ≡ is_of_http (head_of request.now) }
+{
+    match request.uri().scheme_str() {
+        Some(scheme) => scheme.as_bytes() == b"http".as_slice(),
+        None => true,
+    }
+}
+
+/// Returns whether a request that names this host is accepted: the host must be this machine. `None`, for a request
+/// that names no host, is accepted too.
 fn is_allowed_host(host: Option<&[u8]>) -> bool
     ensures { result ≡ is_allowed_host (option_copied host.entry) }
 {
@@ -189,13 +224,16 @@ fn query_of(request: &Request<Bytes>) -> Option<&[u8]>
     }
 }
 
-/// Returns the endpoint that a request asks for. The error is why the request is refused: the request's host is checked
-/// first, then its method, then its path, and last its query.
+/// Returns the endpoint that a request asks for. The error is why the request is refused: the hosts that the request
+/// names are checked first, then its target's scheme, then its method, then its path, and last its query.
 pub fn requested_endpoint(request: &Request<Bytes>) -> Result<Endpoint, Refusal>
     ensures { result ≡ requested_endpoint (head_of request.now) }
 {
-    if !is_allowed_host(host_of(request)) {
+    if !is_for_this_machine(request) {
         return Err(Refusal::OtherHost);
+    }
+    if !is_of_http(request) {
+        return Err(Refusal::OtherScheme);
     }
     if !is_get_or_head(request.method().as_str().as_bytes()) {
         return Err(Refusal::OtherMethod);

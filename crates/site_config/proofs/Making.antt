@@ -1,27 +1,44 @@
 -- If `doors_fit` finds no flaw in the doors of a configuration, then a door of the site can be made from each of them.
 -- If the prices of the site can be made from those in the configuration, then making them takes memory.
-use Rattle.std.proofs.Common.{◌≡◌, ℕ, suc, ◌<◌, ◌==◌, ℤ, List, [], ◌∷◌, length, Bool, true, false, Result, Ok, Err, IsOk, IsOkAnd, is_ok, refl, ap, arith}
+use Rattle.std.proofs.Common.{◌≡◌, ℕ, suc, ◌<◌, ◌==◌, ℤ, List, [], ◌∷◌, length, Bool, true, false, Option, Some, None, Result, Ok, Err, IsOk, IsOkAnd, is_ok, refl, ap, arith}
 use Rattle.std.proofs.lemmas.Bool.{eqb-true}
 use Rattle.site_config.specs.declared.flaw.ConfigFlaw.{ConfigFlaw}
 use Rattle.site_config.specs.declared.doors.DoorCounts.{DoorCounts}
+use Rattle.site_config.specs.declared.flaw.Place.{Place}
 use Rattle.site_config.specs.declared.raw.RawDoor.{RawDoor}
 use Rattle.site_config.specs.Document.{◌>>=◌, demand, each_of}
-use Rattle.site_config.specs.Doors.{DoorValue, ServeValue, address_of, role_of, workers_of, door_fits, doors_fit, door_of, each_door}
+use Rattle.site_config.specs.Doors.{DoorValue, ServeValue, address_of, role_of, lines_of, workers_of, door_fits, doors_fit, door_of, each_door}
 use Rattle.site_config.specs.Ranges.{price_of, prices_of}
 use Rattle.site_config.specs.Memory.{HasDoors, MakesFirst, TakesPrices}
 use Rattle.site_config.proofs.Laws.{went_on}
 
-both : {A B C : Type 0} (a : Result A ConfigFlaw) (r : Result B ConfigFlaw) (f : A → B → C) → (a >>= (λ x. r >>= (λ y. Ok (tt {0})))) ≡ Ok (tt {0})
-    → IsOk (a >>= (λ x. r >>= (λ y. Ok (f x y))))
-both (Ok x) (Ok y) f e = refl
-both (Ok x) (Err g) f e = absurd (cc)
-both (Err g) r f e = absurd (cc)
+-- The bound on a door's lines is in its range or not, whatever the bound of `[serve]` is.
+lines_fit : (shared : ℕ) (place : Place) (own : Option ℤ) → IsOk (lines_of 0 place own) → IsOk (lines_of shared place own)
+lines_fit shared place None o = refl
+lines_fit shared place (Some z) o = o
+
+all_three : {A B C D : Type 0} (a : Result A ConfigFlaw) (r : Result B ConfigFlaw) (l m : Result C ConfigFlaw) (f : A → B → C → D)
+    → (IsOk l → IsOk m) → (a >>= (λ x. r >>= (λ y. l >>= (λ z. Ok (tt {0}))))) ≡ Ok (tt {0})
+    → IsOk (a >>= (λ x. r >>= (λ y. m >>= (λ z. Ok (f x y z)))))
+all_three (Ok x) (Ok y) (Ok z) (Ok w) f so e = refl
+all_three (Ok x) (Ok y) (Ok z) (Err g) f so e = absurd (let no = so refl in cc)
+all_three (Ok x) (Ok y) (Err g) m f so e = absurd (cc)
+all_three (Ok x) (Err g) l m f so e = absurd (cc)
+all_three (Err g) r l m f so e = absurd (cc)
 
 fits_made : (counts : DoorCounts) (d : RawDoor) → door_fits counts.tills counts.points d ≡ Ok tt → IsOk (door_of counts d)
 unfolding door_fits door_of
 fits_made counts d e =
-    both (address_of d.place d.address) (role_of counts.tills counts.points d.place d.role)
-    (λ a r. record { place = d.place; address = a; role = r; workers = workers_of counts.till_workers counts.dispenser_workers d.role }) e
+    all_three (address_of d.place d.address) (role_of counts.tills counts.points d.place d.role) (lines_of 0 d.place d.lines_per_second)
+    (lines_of counts.lines_per_second d.place d.lines_per_second)
+    (λ a r l. record {
+      place = d.place;
+      address = a;
+      role = r;
+      workers = workers_of counts.till_workers counts.dispenser_workers d.role;
+      lines_per_second = l;
+    })
+    (lines_fit counts.lines_per_second d.place d.lines_per_second) e
 
 one_more : {B : Type 0} (r : Result B ConfigFlaw) (rs : Result (List B) ConfigFlaw) (n : ℕ) → IsOk r → IsOkAnd rs (λ xs. length xs ≡ n)
     → IsOkAnd (r >>= (λ x. rs >>= (λ xs. Ok (x ∷ xs)))) (λ xs. length xs ≡ suc n)

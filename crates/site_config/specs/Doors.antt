@@ -40,17 +40,21 @@ pub data AddressValue : Type 0 where
 -- - `address`: its address
 -- - `role`: whose lines it takes
 -- - `workers`: how many workers it has
+-- - `lines_per_second`: how many lines are read at it in a second at most, from all its connections together (0 for no
+--   bound)
 pub record DoorValue : Type 0 where
   pub place : Place
   pub address : AddressValue
   pub role : Role
   pub workers : ℕ
+  pub lines_per_second : ℕ
 
--- Where and how to serve: the doors in their order, how many connections each worker serves, after how many seconds
--- without a byte a connection ends (0 for never), and the port of the page on which the site is shown, if there is one.
+-- Where and how to serve: the doors in their order, how many connections each worker serves (None for connections
+-- without end), after how many seconds without a byte a connection ends (0 for never), and the port of the page on which
+-- the site is shown, if there is one.
 pub record ServeValue : Type 0 where
   pub doors : List DoorValue
-  pub connections : ℕ
+  pub connections : Option ℕ
   pub idle_seconds : ℕ
   pub page_port : Option ℕ
 
@@ -116,12 +120,20 @@ address_fits place address = do
   a ← address_of place address
   Ok tt
 
--- Ok if neither the door's address nor its role has a flaw, or else the first flaw. The address is checked first
--- (`address_of`), and then the role (`role_of`).
+-- How many lines are read at a door in a second at most (0 for no bound): the number in the door's own table, which must
+-- be from 0 to 1,000,000, or `shared`, the number of `[serve]`, if the door has no table of its own. `place` is where the
+-- configuration has the door's address.
+abbrev pub lines_of : ℕ → Place → Option ℤ → Result ℕ ConfigFlaw
+lines_of shared place None = Ok shared
+lines_of shared place (Some z) = ranged (beside place key.LinesPerSecond) 0 1000000 z
+
+-- Ok if the door's address, its role and the bound on its lines have no flaw, or else the first flaw. They are checked
+-- in this order.
 unfoldable pub door_fits : ℕ → ℕ → RawDoor → Result (Unit {0}) ConfigFlaw
 door_fits tills points d = do
   a ← address_of d.place d.address
   r ← role_of tills points d.place d.role
+  l ← lines_of 0 d.place d.lines_per_second
   Ok tt
 
 abbrev pub doors_fit : ℕ → ℕ → List RawDoor → Result (Unit {0}) ConfigFlaw
@@ -162,6 +174,13 @@ clash_among (d ∷ ds) = first_of (clash_with d ds) (clash_among ds)
 abbrev pub page_clash : ℤ → List RawDoor → Option ConfigFlaw
 page_clash z [] = None
 page_clash z (d ∷ ds) = first_of (address_clash d.place (At OfServe key.PagePort) d.address (Port z)) (page_clash z ds)
+
+-- How many connections each worker serves, from 1 to 1,000,000, or None for connections without end.
+abbrev pub connections_of : Option ℤ → Result (Option ℕ) ConfigFlaw
+connections_of None = Ok None
+connections_of (Some z) = do
+  n ← ranged (At OfServe key.Connections) 1 1000000 z
+  Ok (Some n)
 
 -- The port of the page on which the site is shown, or None if there is no page. It must be from 1 to 65,535, which is
 -- checked first, and must not be a door's port.
@@ -230,7 +249,14 @@ unfoldable pub door_of : DoorCounts → RawDoor → Result DoorValue ConfigFlaw
 door_of counts d = do
   a ← address_of d.place d.address
   r ← role_of counts.tills counts.points d.place d.role
-  Ok (record { place = d.place; address = a; role = r; workers = workers_of counts.till_workers counts.dispenser_workers d.role })
+  l ← lines_of counts.lines_per_second d.place d.lines_per_second
+  Ok (record {
+    place = d.place;
+    address = a;
+    role = r;
+    workers = workers_of counts.till_workers counts.dispenser_workers d.role;
+    lines_per_second = l;
+  })
 
 abbrev pub each_door : (RawDoor → Result DoorValue ConfigFlaw) → List RawDoor → Result (List DoorValue) ConfigFlaw
 each_door one [] = Ok []
@@ -240,7 +266,7 @@ each_door one (d ∷ ds) = do
   Ok (x ∷ xs)
 
 -- Where and how to serve a site of this many tills and points, or the first flaw. The checks come in this order:
--- - each door's address and role
+-- - each door's address, its role, and the bound on its lines in its own table
 -- - clashes among the doors
 -- - the numbers of `[serve]`
 -- - the page's port
@@ -252,12 +278,13 @@ serve_of tills points s = do
   apart ← without (clash_among s.doors)
   t ← shared_workers key.TillWorkers 64 s.till_workers
   w ← shared_workers key.DispenserWorkers 31 s.dispenser_workers
-  n ← ranged (At OfServe key.Connections) 1 1000000 s.connections
+  n ← connections_of s.connections
   i ← ranged (At OfServe key.IdleSeconds) 0 86400 s.idle_seconds
+  l ← ranged (At OfServe key.LinesPerSecond) 0 1000000 s.lines_per_second
   p ← page_of s.doors s.page_port
   of_tills ← side_fits sides.Tills t 64 tills s.doors
   of_dispensers ← side_fits sides.Dispensers w 31 points s.doors
-  doors ← each_door (door_of (record { tills = tills; points = points; till_workers = t; dispenser_workers = w })) s.doors
+  doors ← each_door (door_of (record { tills = tills; points = points; till_workers = t; dispenser_workers = w; lines_per_second = l })) s.doors
   Ok (record { doors = doors; connections = n; idle_seconds = i; page_port = p })
 
 -- The code's `Address` as an `AddressValue`. Below: the code's `Door` as a `DoorValue`, and the code's `Serve` as a
@@ -267,7 +294,13 @@ address_seen (addresses.Port n) = port n
 address_seen (addresses.Socket path) = socket (string_bytes path)
 
 abbrev pub door_seen : Door → DoorValue
-door_seen d = record { place = d.place; address = address_seen d.address; role = d.role; workers = d.workers }
+door_seen d = record {
+  place = d.place;
+  address = address_seen d.address;
+  role = d.role;
+  workers = d.workers;
+  lines_per_second = d.lines_per_second;
+}
 
 abbrev pub serve_seen : Serve → ServeValue
 serve_seen s = record {

@@ -52,17 +52,20 @@ is_socket_key k = bytes_eq k (codes "till_socket") || (bytes_eq k (codes "dispen
 unfoldable pub is_number_key : List ℕ → Bool
 is_number_key k =
     bytes_eq k (codes "till_workers")
-    || (bytes_eq k (codes "dispenser_workers") || (bytes_eq k (codes "connections") || bytes_eq k (codes "idle_seconds")))
+    || (bytes_eq k (codes "dispenser_workers")
+    || (bytes_eq k (codes "connections") || (bytes_eq k (codes "idle_seconds") || bytes_eq k (codes "lines_per_second"))))
 
 unfoldable pub is_serve_key : List ℕ → Bool
 is_serve_key k =
     is_port_key k || (is_socket_key k || (is_number_key k || (bytes_eq k (codes "till") || bytes_eq k (codes "dispenser"))))
 
 unfoldable pub is_till_key : List ℕ → Bool
-is_till_key k = bytes_eq k (codes "number") || (bytes_eq k (codes "port") || bytes_eq k (codes "socket"))
+is_till_key k =
+    bytes_eq k (codes "number") || (bytes_eq k (codes "port") || (bytes_eq k (codes "socket") || bytes_eq k (codes "lines_per_second")))
 
 unfoldable pub is_dispenser_key : List ℕ → Bool
-is_dispenser_key k = bytes_eq k (codes "points") || (bytes_eq k (codes "port") || bytes_eq k (codes "socket"))
+is_dispenser_key k =
+    bytes_eq k (codes "points") || (bytes_eq k (codes "port") || (bytes_eq k (codes "socket") || bytes_eq k (codes "lines_per_second")))
 
 -- A table of this section is allowed to have a key of this name.
 abbrev pub is_key_of : Section → List ℕ → Bool
@@ -101,12 +104,34 @@ table_of place d = or_flaw (WrongType place types.Table) (as_table d)
 abbrev pub array_of : Place → Data → Result Items ConfigFlaw
 array_of place d = or_flaw (WrongType place types.Array) (as_array d)
 
+-- The value of a key that is a whole number or "unlimited", by the value as a whole number and as a text: this number,
+-- or None if it is the text "unlimited". Any other value, also another text, is of a wrong type.
+abbrev pub limit_by : Place → Option ℤ → Option (List ℕ) → Result (Option ℤ) ConfigFlaw
+limit_by place (Some z) text = Ok (Some z)
+limit_by place None (Some text) = if bytes_eq text (codes "unlimited") then Ok None else Err (WrongType place types.IntegerOrUnlimited)
+limit_by place None None = Err (WrongType place types.IntegerOrUnlimited)
+
+abbrev pub limit_of : Place → Data → Result (Option ℤ) ConfigFlaw
+limit_of place d = limit_by place (as_integer d) (as_str d)
+
 -- The value of a key of a section, or the flaw `Missing` if the key isn't given.
 abbrev pub value_at : Section → Key → Members → Result Data ConfigFlaw
 value_at section key ms = or_flaw (Missing (At section key)) (get_member (name_of key) ms)
 
 abbrev pub integer_at : Section → Key → Members → Result ℤ ConfigFlaw
 integer_at section key ms = value_at section key ms >>= integer_of (At section key)
+
+abbrev pub limit_at : Section → Key → Members → Result (Option ℤ) ConfigFlaw
+limit_at section key ms = value_at section key ms >>= limit_of (At section key)
+
+-- A whole number that may be left out. If it is left out it is 0.
+abbrev pub integer_or_0 : Place → Option Data → Result ℤ ConfigFlaw
+integer_or_0 place None = Ok (pos 0)
+integer_or_0 place (Some d) = integer_of place d
+
+-- The value of a key that may be left out, as a whole number.
+abbrev pub optional_at : Section → Key → Members → Result ℤ ConfigFlaw
+optional_at section key ms = integer_or_0 (At section key) (get_member (name_of key) ms)
 
 abbrev pub array_at : Section → Key → Members → Result Items ConfigFlaw
 array_at section key ms = value_at section key ms >>= array_of (At section key)
@@ -159,15 +184,16 @@ counters_at ms = counters_from (get_member (codes "counter") ms)
 abbrev pub has_key : Key → Members → Bool
 has_key key ms = is_some (get_member (name_of key) ms)
 
--- A door that has a port or a socket. The two optional values are those of the port's key and of the socket's key, and
--- `port` and `socket` are their places. Exactly one of the two values must be given, and its place is the door's place.
+-- A door that has a port or a socket, and no bound of its own on its lines. The two optional values are those of the
+-- port's key and of the socket's key, and `port` and `socket` are their places. Exactly one of the two values must be
+-- given, and its place is the door's place.
 abbrev pub door_by : Place → Place → RawRole → Option Data → Option Data → Result RawDoor ConfigFlaw
 door_by port socket role (Some d) None = do
   z ← integer_of port d
-  Ok (record { place = port; address = Port z; role = role })
+  Ok (record { place = port; address = Port z; role = role; lines_per_second = None })
 door_by port socket role None (Some d) = do
   path ← text_of socket d
-  Ok (record { place = socket; address = Socket path; role = role })
+  Ok (record { place = socket; address = Socket path; role = role; lines_per_second = None })
 door_by port socket role None None = Err (Missing port)
 door_by port socket role (Some x) (Some y) = Err (BothThere port socket)
 
@@ -208,6 +234,13 @@ workers_if false keys key ms = do
 unfoldable pub workers_at : Key × Key → Key → Members → Result (Option ℤ) ConfigFlaw
 workers_at keys key ms = workers_if (has_shared keys ms) keys key ms
 
+-- A door in a table of its own: how many lines are read at it in a second is a key of this table.
+unfoldable pub own_door_at : Section → RawRole → Members → Result RawDoor ConfigFlaw
+own_door_at section role ms = do
+  door ← door_at section (key.Port, key.Socket) role ms
+  lines ← optional_at section key.LinesPerSecond ms
+  Ok (record { place = door.place; address = door.address; role = door.role; lines_per_second = Some lines })
+
 -- Reads a table as the door of one till (`till_in`) or of some points (`dispenser_in`). `place` is the table's place,
 -- counted from 0.
 unfoldable pub till_in : ℕ → Data → Result RawDoor ConfigFlaw
@@ -215,14 +248,14 @@ till_in place d = do
   ms ← table_of (Item Serve key.Till place) d
   known ← known_in (Till place) ms
   z ← integer_at (Till place) key.Number ms
-  door_at (Till place) (key.Port, key.Socket) (OneTill z) ms
+  own_door_at (Till place) (OneTill z) ms
 
 unfoldable pub dispenser_in : ℕ → Data → Result RawDoor ConfigFlaw
 dispenser_in place d = do
   ms ← table_of (Item Serve key.Dispenser place) d
   known ← known_in (Dispenser place) ms
   zs ← integers_at (Dispenser place) key.Points ms
-  door_at (Dispenser place) (key.Port, key.Socket) (SomePoints zs) ms
+  own_door_at (Dispenser place) (SomePoints zs) ms
 
 -- Reads a table as the door of one till, if the side is tills, or as the door of some points, if the side is
 -- dispensers.
@@ -257,11 +290,6 @@ doors_at ms = do
   dispensers ← with_front both (dispensers_at ms)
   with_front dispensers (owner_at ms)
 
--- After how many seconds without a byte a connection ends. If the key is left out it is 0, for never.
-abbrev pub idle_from : Option Data → Result ℤ ConfigFlaw
-idle_from None = Ok (pos 0)
-idle_from (Some d) = integer_of (At Serve key.IdleSeconds) d
-
 -- The port of the page on which the site is shown while it is served, or None if the key is left out.
 abbrev pub page_from : Option Data → Result (Option ℤ) ConfigFlaw
 page_from None = Ok None
@@ -270,15 +298,17 @@ page_from (Some d) = do
   Ok (Some z)
 
 -- The values of the keys of `[serve]`. `till_workers` is None if there is no shared door of all tills, and
--- `dispenser_workers` is None if there is no shared door of all dispensers. `page_port` is None if there is no page on
--- which the site is shown.
+-- `dispenser_workers` is None if there is no shared door of all dispensers. `connections` is None if it is "unlimited".
+-- `page_port` is None if there is no page on which the site is shown. `lines_per_second` is for the doors without a table
+-- of their own.
 pub record TypedServe : Type 0 where
   pub doors : List RawDoor
   pub till_workers : Option ℤ
   pub dispenser_workers : Option ℤ
-  pub connections : ℤ
+  pub connections : Option ℤ
   pub idle_seconds : ℤ
   pub page_port : Option ℤ
+  pub lines_per_second : ℤ
 
 unfoldable pub served_in : Data → Result TypedServe ConfigFlaw
 served_in d = do
@@ -287,10 +317,19 @@ served_in d = do
   doors ← doors_at ms
   t ← workers_at (key.TillPort, key.TillSocket) key.TillWorkers ms
   w ← workers_at (key.DispenserPort, key.DispenserSocket) key.DispenserWorkers ms
-  n ← integer_at Serve key.Connections ms
-  i ← idle_from (get_member (codes "idle_seconds") ms)
+  n ← limit_at Serve key.Connections ms
+  i ← optional_at Serve key.IdleSeconds ms
   p ← page_from (get_member (codes "page_port") ms)
-  Ok (record { doors = doors; till_workers = t; dispenser_workers = w; connections = n; idle_seconds = i; page_port = p })
+  lines ← optional_at Serve key.LinesPerSecond ms
+  Ok (record {
+    doors = doors;
+    till_workers = t;
+    dispenser_workers = w;
+    connections = n;
+    idle_seconds = i;
+    page_port = p;
+    lines_per_second = lines;
+  })
 
 abbrev pub served_from : Option Data → Result (Option TypedServe) ConfigFlaw
 served_from None = Ok None
@@ -331,6 +370,7 @@ seen_serve s = record {
   connections = s.connections;
   idle_seconds = s.idle_seconds;
   page_port = s.page_port;
+  lines_per_second = s.lines_per_second;
 }
 
 abbrev pub seen : Raw → Typed

@@ -13,6 +13,7 @@ use Rattle.site_config.specs.Keys.{section_text, place_text}
 
 abbrev pub type_text : ValueType → List ℕ
 type_text types.Integer = codes "a whole number"
+type_text types.IntegerOrUnlimited = codes "a whole number or \"unlimited\""
 type_text types.Text = codes "a string"
 type_text types.Array = codes "an array"
 type_text types.Table = codes "a table"

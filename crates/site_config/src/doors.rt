@@ -10,6 +10,7 @@ ghost use Rattle.site_config.specs.Doors.{door_fits, doors_fit, address_clash, t
 ghost use Rattle.site_config.specs.Doors.{clash_among, page_clash, page_of, shared_workers, workers_of, is_single};
 ghost use Rattle.site_config.specs.Doors.{count_single, takes, is_taken, first_without_door, side_fits, door_of};
 ghost use Rattle.site_config.specs.Doors.{each_door, serve_of, address_seen, address_fits, door_seen, serve_seen};
+ghost use Rattle.site_config.specs.Doors.{lines_of, connections_of};
 ghost use Rattle.site_config.specs.Memory.{HasPath, HasDoors};
 ghost use Rattle.site_config.specs.Laws.{DoorsTakeOwnLines};
 ghost use Rattle.bpf_model.specs.declared.limits.TheConstants.{POINTS};
@@ -27,6 +28,9 @@ const MOST_OF_TILLS: u32 = 64;
 
 /// The greatest number of workers that the doors of dispensers are allowed to have in all.
 const MOST_OF_DISPENSERS: u32 = 31;
+
+/// The greatest bound on how many lines are read at a door in a second.
+const MOST_LINES: u32 = 1_000_000;
 
 /// Returns the place of `key` in the same table as the key at `place`. If `place` isn't the place of a key, returns
 /// `place` itself.
@@ -175,8 +179,21 @@ fn make_role(tills: u32, points: u32, place: Place, role: &RawRole) -> Result<Ro
     }
 }
 
-/// Checks the address and then the role of a door. `points` must be at most 32. The error is the first flaw: an error
-/// of `check_address`, or else an error of `make_role`.
+/// Returns how many lines are read at a door in a second at most, or 0 if there is no bound. `own` is the number in the
+/// door's own table, or `None` if it has no such table: then the result is `shared`. `place` is where the configuration
+/// has the door's address. The error is `OutOfRange` if the number isn't from 0 to 1,000,000.
+fn lines_of(shared: u32, place: Place, own: Option<i64>) -> Result<u32, ConfigFlaw>
+    ensures read { Finds (λ x. x) result (lines_of shared place own) }
+    ensures memory { result ≢ Err ConfigFlaw.OutOfMemory }
+{
+    match own {
+        Some(lines) => in_range(beside(place, Key::LinesPerSecond), lines, 0, MOST_LINES),
+        None => Ok(shared),
+    }
+}
+
+/// Checks the address of a door, then its role, and then the bound on its lines. `points` must be at most 32. The error
+/// is the first flaw: an error of `check_address`, of `make_role`, or of `lines_of`.
 #[tactic(auto, unfolding(crate::specs::Doors::door_fits, crate::specs::Doors::address_fits))]
 fn check_door(tills: u32, points: u32, door: &RawDoor) -> Result<(), ConfigFlaw>
     requires { points ≤ POINTS }
@@ -185,6 +202,7 @@ fn check_door(tills: u32, points: u32, door: &RawDoor) -> Result<(), ConfigFlaw>
 {
     value_of!(check_address(door.place, &door.address));
     let _role = value_of!(make_role(tills, points, door.place, &door.role));
+    let _lines = value_of!(lines_of(0, door.place, door.lines_per_second));
     Ok(())
 }
 
@@ -282,6 +300,18 @@ fn page_clash(port: i64, doors: &[RawDoor]) -> Option<ConfigFlaw>
         }
     }
     None
+}
+
+/// Checks and returns how many connections each worker serves. Returns `None` if it serves connections without end. The
+/// error is `OutOfRange` if the number isn't from 1 to 1,000,000.
+fn connections_of(connections: Option<i64>) -> Result<Option<u32>, ConfigFlaw>
+    ensures read { Finds (λ x. x) result (connections_of connections) }
+    ensures memory { result ≢ Err ConfigFlaw.OutOfMemory }
+{
+    match connections {
+        Some(count) => Ok(Some(value_of!(number_of(Key::Connections, count, 1, 1_000_000)))),
+        None => Ok(None),
+    }
 }
 
 /// Checks and returns the port of the page on which the site is shown. Returns `None` if there is no page. The error is
@@ -427,13 +457,15 @@ fn workers_for(till_workers: u32, dispenser_workers: u32, role: &RawRole) -> u32
 }
 
 /// The numbers of a site's tills and points, and the numbers of workers of its shared doors: the door for all tills,
-/// and the door for all dispensers. A shared door that doesn't exist has 0 workers.
+/// and the door for all dispensers. A shared door that doesn't exist has 0 workers. `lines_per_second` is how many lines
+/// are read in a second at most, at each door without a table of its own (0 for no bound).
 #[derive(Clone, Copy)]
 struct DoorCounts {
     tills: u32,
     points: u32,
     till_workers: u32,
     dispenser_workers: u32,
+    lines_per_second: u32,
 }
 
 #[tactic(auto, unfolding(crate::specs::Doors::door_of))]
@@ -444,12 +476,15 @@ fn make_door(alloc: Global, counts: DoorCounts, door: &RawDoor) -> Result<Door, 
 {
     let address = value_of!(make_address(alloc, door.place, &door.address));
     let role = value_of!(make_role(counts.tills, counts.points, door.place, &door.role));
+    let shared_lines = counts.lines_per_second;
+    let lines_per_second = value_of!(lines_of(shared_lines, door.place, door.lines_per_second));
     let workers = workers_for(counts.till_workers, counts.dispenser_workers, &door.role);
     Ok(Door {
         place: door.place,
         address,
         role,
         workers,
+        lines_per_second,
     })
 }
 
@@ -494,8 +529,10 @@ pub(crate) fn make_serve(
     let workers = served.dispenser_workers;
     let most = MOST_OF_DISPENSERS;
     let dispenser_workers = value_of!(shared_of(Key::DispenserWorkers, workers, most));
-    let connections = value_of!(number_of(Key::Connections, served.connections, 1, 1_000_000));
+    let connections = value_of!(connections_of(served.connections));
     let idle_seconds = value_of!(number_of(Key::IdleSeconds, served.idle_seconds, 0, 86_400));
+    let lines = served.lines_per_second;
+    let lines_per_second = value_of!(number_of(Key::LinesPerSecond, lines, 0, MOST_LINES));
     let doors = &served.doors;
     let page_port = value_of!(page_of(doors, served.page_port));
     value_of!(check_side(Side::Tills, till_workers, MOST_OF_TILLS, tills, doors));
@@ -505,6 +542,7 @@ pub(crate) fn make_serve(
         points,
         till_workers,
         dispenser_workers,
+        lines_per_second,
     };
     Ok(Serve {
         doors: value_of!(make_doors(alloc, counts, doors)),

@@ -27,6 +27,7 @@ pub enum Key {
     DispenserWorkers,
     Connections,
     IdleSeconds,
+    LinesPerSecond,
     PagePort,
     TillSocket,
     DispenserSocket,
@@ -65,6 +66,7 @@ impl Key {
             Key::DispenserWorkers => "dispenser_workers",
             Key::Connections => "connections",
             Key::IdleSeconds => "idle_seconds",
+            Key::LinesPerSecond => "lines_per_second",
             Key::PagePort => "page_port",
             Key::TillSocket => "till_socket",
             Key::DispenserSocket => "dispenser_socket",
@@ -192,6 +194,7 @@ impl Side {
 #[derive(Clone, Copy)]
 pub enum Type {
     Integer,
+    IntegerOrUnlimited,
     Text,
     Array,
     Table,
@@ -206,6 +209,7 @@ impl fmt::Display for Type {
     fn fmt<W: fmt::Write>(&self, f: &mut fmt::Formatter<W>) -> fmt::Result {
         f.write_str(match self {
             Type::Integer => "a whole number",
+            Type::IntegerOrUnlimited => "a whole number or \"unlimited\"",
             Type::Text => "a string",
             Type::Array => "an array",
             Type::Table => "a table",

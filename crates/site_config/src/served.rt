@@ -7,7 +7,7 @@ ghost use Rattle.site_config.specs.Document.{Finds, with_front};
 ghost use Rattle.site_config.specs.Keys.{name_of};
 ghost use Rattle.site_config.specs.Typed.{text_of, has_shared, door_at, shared_at, workers_at, till_in};
 ghost use Rattle.site_config.specs.Typed.{dispenser_in, single_in, each_in, tables_from, owner_at, doors_at};
-ghost use Rattle.site_config.specs.Typed.{idle_from, page_from, served_in, served_at, seen_serve};
+ghost use Rattle.site_config.specs.Typed.{own_door_at, page_from, served_in, served_at, seen_serve};
 ghost use Rattle.site_config.specs.Memory.{KeepsFirst, TakesDoor, TakesShared, TakesTill, TakesDispenser};
 ghost use Rattle.site_config.specs.Memory.{TakesSingle, TakesTables, TakesDoors, TakesServed};
 
@@ -16,7 +16,7 @@ use crate::raw::{Numbers, RawAddress, RawDoor, RawRole, Served};
 use crate::text::Text;
 use crate::values::{
     array_of, check_keys, find_array, find_value, has_key, integer_of, read_integer, read_integers,
-    table_of, text_of,
+    read_limit, read_optional, table_of, text_of,
 };
 use std::alloc::Global;
 use toml::{Table, Value};
@@ -67,11 +67,13 @@ fn read_door(
             place: port,
             address: RawAddress::Port(value_of!(integer_of(value, port))),
             role,
+            lines_per_second: None,
         }),
         (None, Some(value)) => Ok(RawDoor {
             place: socket,
             address: RawAddress::Socket(value_of!(read_text(alloc, value, socket))),
             role,
+            lines_per_second: None,
         }),
         (None, None) => Err(ConfigFlaw::Missing(port)),
         (Some(_), Some(_)) => Err(ConfigFlaw::BothThere(port, socket)),
@@ -139,6 +141,27 @@ fn read_workers(table: &Table, keys: (Key, Key), key: Key) -> Result<Option<i64>
     Ok(None)
 }
 
+/// Reads a door from a table of its own, with the bound on its lines in this table. The error is `Missing` if neither a
+/// port nor a socket is given, `BothThere` if both are, `WrongType` if a number isn't one or the socket isn't a text, or
+/// that memory ran out.
+#[tactic(auto, unfolding(crate::specs::Typed::own_door_at))]
+fn read_own_door(
+    alloc: Global,
+    table: &Table,
+    section: Section,
+    role: RawRole,
+) -> Result<RawDoor, ConfigFlaw>
+    ensures read { Finds (λ x. x) result (own_door_at section role (table_view table.now)) }
+    ensures memory { result ≡ Err ConfigFlaw.OutOfMemory → TakesDoor section KEYS (table_view table.now) }
+{
+    let door = value_of!(read_door(alloc, table, section, KEYS, role));
+    let lines = value_of!(read_optional(table, section, Key::LinesPerSecond));
+    Ok(RawDoor {
+        lines_per_second: Some(lines),
+        ..door
+    })
+}
+
 /// Reads the door of one till from `value`, which is item `place`, counted from 0, of `[[serve.till]]`. The error is
 /// that memory ran out, or the first flaw (K2): `value` isn't a table, a key in it is unknown or missing, a port
 /// and a socket are both given, or a key's value has a wrong type.
@@ -151,7 +174,7 @@ fn read_till(alloc: Global, value: &Value, place: usize) -> Result<RawDoor, Conf
     let table = value_of!(table_of(value, Place::Item(Section::Serve, Key::Till, place)));
     value_of!(check_keys(alloc, table, section));
     let number = value_of!(read_integer(table, section, Key::Number));
-    read_door(alloc, table, section, KEYS, RawRole::OneTill(number))
+    read_own_door(alloc, table, section, RawRole::OneTill(number))
 }
 
 /// Reads the door of some points from `value`, which is item `place`, counted from 0, of `[[serve.dispenser]]`. The
@@ -168,7 +191,7 @@ fn read_dispenser(alloc: Global, value: &Value, place: usize) -> Result<RawDoor,
     let values = value_of!(find_array(table, section, Key::Points));
     let points = value_of!(read_integers(alloc, values, section, Key::Points));
     let role = RawRole::SomePoints(Numbers::new(points));
-    read_door(alloc, table, section, KEYS, role)
+    read_own_door(alloc, table, section, role)
 }
 
 /// Reads a door from `value`: the door of one till (`read_till`) if the side is tills, or the door of some points
@@ -271,16 +294,6 @@ fn read_doors(alloc: Global, table: &Table) -> Result<Vec<RawDoor>, ConfigFlaw>
     add_owner(alloc, table, doors)
 }
 
-fn read_idle(table: &Table) -> Result<i64, ConfigFlaw>
-    ensures read { Finds (λ x. x) result (idle_from (get_member (name_of Key.IdleSeconds) (table_view table.now))) }
-    ensures memory { result ≢ Err ConfigFlaw.OutOfMemory }
-{
-    match find_value(table, Key::IdleSeconds.name()) {
-        Some(value) => integer_of(value, Place::At(Section::Serve, Key::IdleSeconds)),
-        None => Ok(0),
-    }
-}
-
 /// Reads the port of the page on which the site is shown. Returns `None` if its key isn't given. The error is
 /// `WrongType` if the value isn't a number.
 fn read_page(table: &Table) -> Result<Option<i64>, ConfigFlaw>
@@ -306,9 +319,10 @@ fn read_served(alloc: Global, value: &Value) -> Result<Served, ConfigFlaw>
     let doors = value_of!(read_doors(alloc, table));
     let till_workers = value_of!(read_workers(table, TILL_KEYS, Key::TillWorkers));
     let dispenser_workers = value_of!(read_workers(table, DISPENSER_KEYS, Key::DispenserWorkers));
-    let connections = value_of!(read_integer(table, Section::Serve, Key::Connections));
-    let idle_seconds = value_of!(read_idle(table));
+    let connections = value_of!(read_limit(table, Section::Serve, Key::Connections));
+    let idle_seconds = value_of!(read_optional(table, Section::Serve, Key::IdleSeconds));
     let page_port = value_of!(read_page(table));
+    let lines_per_second = value_of!(read_optional(table, Section::Serve, Key::LinesPerSecond));
     Ok(Served {
         doors,
         till_workers,
@@ -316,6 +330,7 @@ fn read_served(alloc: Global, value: &Value) -> Result<Served, ConfigFlaw>
         connections,
         idle_seconds,
         page_port,
+        lines_per_second,
     })
 }
 

@@ -9,6 +9,7 @@ ghost use Rattle.site_config.specs.Typed.{is_top_key, is_point_key, is_counter_k
 ghost use Rattle.site_config.specs.Typed.{is_port_key, is_socket_key, is_number_key, is_dispenser_key};
 ghost use Rattle.site_config.specs.Typed.{is_key_of, other_key, known_in, has_key, integer_of, text_of, table_of};
 ghost use Rattle.site_config.specs.Typed.{array_of, integer_at, integer_in, array_at, each_in};
+ghost use Rattle.site_config.specs.Typed.{limit_of, limit_at, optional_at};
 ghost use Rattle.site_config.specs.Memory.{CopiesKey, KeepsFirst, TakesNone};
 
 use crate::flaw::{ConfigFlaw, Key, Place, Section, Type};
@@ -72,6 +73,21 @@ pub fn integer_of(value: &Value, place: Place) -> Result<i64, ConfigFlaw>
         .ok_or(ConfigFlaw::WrongType(place, Type::Integer))
 }
 
+/// Returns a value that is a whole number or `"unlimited"`: the number, or `None` for `"unlimited"`. The error is
+/// `WrongType` if it is anything else, also another text. `place` is the value's place.
+fn limit_of(value: &Value, place: Place) -> Result<Option<i64>, ConfigFlaw>
+    ensures read { Finds (λ x. x) result (limit_of place (view value.now)) }
+    ensures memory { result ≢ Err ConfigFlaw.OutOfMemory }
+{
+    if let Some(number) = value.as_integer() {
+        return Ok(Some(number));
+    }
+    match value.as_str() {
+        Some(text) if text == "unlimited" => Ok(None),
+        _ => Err(ConfigFlaw::WrongType(place, Type::IntegerOrUnlimited)),
+    }
+}
+
 /// Returns a value as a text. The error is `WrongType` if it isn't one. `place` is the value's place.
 pub fn text_of(value: &Value, place: Place) -> Result<&str, ConfigFlaw>
     ensures read { Finds (λ t. t.now) result (text_of place (view value.now)) }
@@ -112,6 +128,31 @@ pub fn read_integer(table: &Table, section: Section, key: Key) -> Result<i64, Co
     match find_value(table, key.name()) {
         Some(value) => integer_of(value, place),
         None => Err(ConfigFlaw::Missing(place)),
+    }
+}
+
+/// Returns the value of a key that is a whole number or `"unlimited"`: the number, or `None` for `"unlimited"`. The
+/// error is `Missing` if the key isn't given, or `WrongType` if the value is anything else.
+pub fn read_limit(table: &Table, section: Section, key: Key) -> Result<Option<i64>, ConfigFlaw>
+    ensures read { Finds (λ x. x) result (limit_at section key (table_view table.now)) }
+    ensures memory { result ≢ Err ConfigFlaw.OutOfMemory }
+{
+    let place = Place::At(section, key);
+    match find_value(table, key.name()) {
+        Some(value) => limit_of(value, place),
+        None => Err(ConfigFlaw::Missing(place)),
+    }
+}
+
+/// Returns the value of a key as a whole number, or 0 if the key isn't given. The error is `WrongType` if the value
+/// isn't a whole number.
+pub fn read_optional(table: &Table, section: Section, key: Key) -> Result<i64, ConfigFlaw>
+    ensures read { Finds (λ x. x) result (optional_at section key (table_view table.now)) }
+    ensures memory { result ≢ Err ConfigFlaw.OutOfMemory }
+{
+    match find_value(table, key.name()) {
+        Some(value) => integer_of(value, Place::At(section, key)),
+        None => Ok(0),
     }
 }
 
@@ -163,6 +204,7 @@ fn is_number(key: &str) -> bool
         || key == "dispenser_workers"
         || key == "connections"
         || key == "idle_seconds"
+        || key == "lines_per_second"
 }
 
 #[tactic(auto, unfolding(crate::specs::Typed::is_serve_key))]
@@ -176,14 +218,14 @@ fn is_serve(key: &str) -> bool
 fn is_till(key: &str) -> bool
     ensures { result ≡ is_till_key key.now }
 {
-    key == "number" || key == "port" || key == "socket"
+    key == "number" || key == "port" || key == "socket" || key == "lines_per_second"
 }
 
 #[tactic(auto, unfolding(crate::specs::Typed::is_dispenser_key))]
 fn is_dispenser(key: &str) -> bool
     ensures { result ≡ is_dispenser_key key.now }
 {
-    key == "points" || key == "port" || key == "socket"
+    key == "points" || key == "port" || key == "socket" || key == "lines_per_second"
 }
 
 /// Checks that a table of this section is allowed to have each key of `table`. The error is `UnknownKey` with the first

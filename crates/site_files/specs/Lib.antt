@@ -3,3 +3,4 @@ pub mod Codes
 pub mod Asked
 pub mod Days
 pub mod Lines
+pub mod KeptFile

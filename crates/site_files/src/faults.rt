@@ -1,5 +1,7 @@
 //! Prints messages about refusals and failures on standard error, and texts and fault numbers on standard output. The
 //! exit status is `FAILED` if standard output can't be written. A failed write to standard error is ignored.
+//!
+//! A message is one line. Control characters in it, which can come from a file's name or content, are escaped.
 ghost use Rattle.std.specs.Prelude.{◌≡◌, ◌≢◌, None, Some, IfSome, IfNone, option_map, codes};
 ghost use Rattle.site_files.specs.Statuses.{once_printed, EndsWith};
 ghost use Rattle.site_files.specs.Asked.{name_of};
@@ -9,6 +11,7 @@ use crate::files::name_of;
 use crate::statuses::{FAILED, REFUSED};
 use bpf_asm::ProgramFileFault;
 use decision_journal::JournalFault;
+use escaped_text::Printable;
 use job_texts::JournalFlaw;
 use site_config::{ConfigFault, ConfigFlaw};
 use std::fmt::{self, Display};
@@ -87,17 +90,20 @@ impl Display for Place<'_> {
 
 /// Prints the message `words` on standard error, after the name of the program.
 pub fn print_message<D: Display>(rt: &HostRuntime, words: &D) {
+    let words = Printable(words);
     let _ = eprintln!(rt; "fc: {words}");
 }
 
 /// Prints the message `words` on standard error, after the name of the program and the place.
 pub fn print_message_at<D: Display>(rt: &HostRuntime, place: Place<'_>, words: &D) {
+    let (place, words) = (Printable(&place), Printable(words));
     let _ = eprintln!(rt; "fc: {place}: {words}");
 }
 
 /// Prints a message about a fault on standard error: the place, the message `words`, and the fault's number `code`, as
 /// in `K1`.
 pub fn print_fault<D: Display>(rt: &HostRuntime, place: Place<'_>, words: &D, code: &str) {
+    let (place, words) = (Printable(&place), Printable(words));
     let _ = eprintln!(rt; "fc: {place}: {words} ({code})");
 }
 

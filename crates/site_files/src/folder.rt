@@ -1,13 +1,13 @@
 //! The folder of a station's days. A day has up to three files there: its journal, the opening that it begins with, and
 //! the configuration of its site. Their names begin with the day's number, as in `000002.journal`.
-ghost use Rattle.std.specs.Prelude.{◌≡◌, true, false, IfOk, IfErr, string_bytes};
+ghost use Rattle.std.specs.Prelude.{◌≡◌, ◌++◌, true, false, IfOk, IfErr, codes, string_bytes};
 ghost use Rattle.site_files.specs.Asked.{is_input};
 ghost use Rattle.site_files.specs.Statuses.{Fails};
 ghost use Rattle.site_files.specs.Days.{ending_of, path_of, without_zeros, day_of, shows_day, day_named, with_day};
 ghost use Rattle.site_files.specs.Days.{with_found, day_after};
 
 use crate::faults::{print_message, report_file_error};
-use crate::files::is_input;
+use crate::files::{Source, is_input, open_regular, read_all};
 use crate::job_error::JobError;
 use crate::statuses::USAGE;
 use std::alloc::AllocError;
@@ -110,43 +110,150 @@ impl<'a> Folder<'a> {
         }
     }
 
-    /// Writes `bytes` as the file `part` of this day: writes and syncs them under another name, renames that file, and
-    /// syncs the folder. Even if the program is stopped meanwhile, the folder has either the whole new file or what was
-    /// there before.
+    /// Writes files of days: writes and syncs all of them under other names, and then renames one after another in this
+    /// order. So if there is no room for one of them, the folder stays as it was. Even if the program is stopped
+    /// meanwhile, the folder has of each file the whole new one or what was there before, and a new one only if those
+    /// before it are new too. What has one of the other names is removed first, so nothing is written through a link.
     /// Errors:
     ///
     /// - `AlreadyReported`, with the exit status: a step failed, which is printed
     /// - `Failed`: memory ran out, which isn't printed yet
-    pub fn put(self, rt: &HostRuntime, day: u32, part: Part, bytes: &[u8]) -> Result<(), JobError>
+    pub fn put(self, rt: &HostRuntime, files: &[DayFile<'_>]) -> Result<(), JobError>
         ensures { IfErr result Fails }
     {
-        let path = self.file(rt, day, part)?;
-        let beside = format!(in rt.alloc(); "{path}.new")?;
-        match put_synced(rt, self.path, &beside, &path, bytes) {
+        match self.write_and_rename(rt, files) {
             Ok(()) => Ok(()),
-            Err(error) => {
-                // The file `beside` is of no use. If it can't be removed, the next `put` of this file overwrites it.
-                let _ = fs::remove_file(rt, &beside);
-                Err(JobError::AlreadyReported(report_file_error(rt, &path, &error)))
+            Err(job_error) => {
+                self.remove_asides(rt, files);
+                Err(job_error)
             }
+        }
+    }
+
+    /// Writes `file` like `put`, unless the folder has it with these very bytes: then syncs it, for which no room is
+    /// needed. The errors are those of `put`.
+    pub fn put_if_other(self, rt: &HostRuntime, file: DayFile<'_>) -> Result<(), JobError>
+        ensures { IfErr result Fails }
+    {
+        let path = self.file(rt, file.day, file.part)?;
+        match is_synced_as(rt, &path, file.bytes) {
+            Ok(true) => self.sync(rt),
+            Ok(false) | Err(_) => self.put(rt, &[file]),
+        }
+    }
+
+    fn write_and_rename(self, rt: &HostRuntime, files: &[DayFile<'_>]) -> Result<(), JobError>
+        ensures { IfErr result Fails }
+    {
+        for file in files {
+            self.write_aside(rt, *file)?;
+        }
+        for file in files {
+            self.put_in_place(rt, *file)?;
+        }
+        Ok(())
+    }
+
+    /// Writes `file` under its other name, and syncs it.
+    fn write_aside(self, rt: &HostRuntime, file: DayFile<'_>) -> Result<(), JobError>
+        ensures { IfErr result Fails }
+    {
+        let path = self.file(rt, file.day, file.part)?;
+        let aside = other_name(rt, &path)?;
+        if let Err(error) = remove(rt, &aside) {
+            return Err(JobError::AlreadyReported(report_file_error(rt, &aside, &error)));
+        }
+        match write_new(rt, &aside, file.bytes) {
+            Ok(()) => Ok(()),
+            Err(error) => Err(JobError::AlreadyReported(report_file_error(rt, &path, &error))),
+        }
+    }
+
+    /// Gives a file that `write_aside` wrote its own name, and syncs the folder.
+    fn put_in_place(self, rt: &HostRuntime, file: DayFile<'_>) -> Result<(), JobError>
+        ensures { IfErr result Fails }
+    {
+        let path = self.file(rt, file.day, file.part)?;
+        let aside = other_name(rt, &path)?;
+        match fs::rename(rt, &aside, &path) {
+            Ok(()) => self.sync(rt),
+            Err(error) => Err(JobError::AlreadyReported(report_file_error(rt, &path, &error))),
+        }
+    }
+
+    /// Removes what `write_aside` wrote of these files. What can't be removed is removed by the next `put` of that
+    /// file.
+    fn remove_asides(self, rt: &HostRuntime, files: &[DayFile<'_>]) {
+        for file in files {
+            if let Ok(path) = self.file(rt, file.day, file.part) {
+                if let Ok(aside) = other_name(rt, &path) {
+                    let _ = fs::remove_file(rt, &aside);
+                }
+            }
+        }
+    }
+
+    fn sync(self, rt: &HostRuntime) -> Result<(), JobError>
+        ensures { IfErr result Fails }
+    {
+        match synced(rt, self.path) {
+            Ok(()) => Ok(()),
+            Err(error) => Err(JobError::AlreadyReported(report_file_error(rt, self.path, &error))),
         }
     }
 }
 
-/// Writes `bytes` to the file `beside`, syncs this file, renames it to `path`, and syncs `folder`. The error is the
-/// error of the first step that fails.
-fn put_synced(
-    rt: &HostRuntime,
-    folder: &str,
-    beside: &str,
-    path: &str,
-    bytes: &[u8],
-) -> io::Result<()> {
-    let mut file = File::create(rt, beside)?;
+/// A file of a day that is to be written: which of the day's files it is, and its bytes.
+#[derive(Clone, Copy)]
+pub struct DayFile<'a> {
+    pub day: u32,
+    pub part: Part,
+    pub bytes: &'a [u8],
+}
+
+/// Returns the name under which a file is written before it is renamed to `path`. The error is that memory ran out.
+fn other_name(rt: &HostRuntime, path: &str) -> Result<String, AllocError>
+    ensures { IfOk result (λ name. string_bytes name ≡ path.now ++ codes ".new") }
+{
+    format!(in rt.alloc(); "{path}.new")
+}
+
+/// Removes what is at `path`, but follows no link. Does nothing if nothing is there. The error is the system's; a
+/// folder isn't removed.
+fn remove(rt: &HostRuntime, path: &str) -> io::Result<()> {
+    match fs::remove_file(rt, path) {
+        Err(error) if error.kind() != ErrorKind::NotFound => Err(error),
+        Ok(()) | Err(_) => Ok(()),
+    }
+}
+
+/// Writes `bytes` to a new file at `path`, and syncs it. The error is the error of the first step that fails, also if
+/// anything is at `path` already.
+fn write_new(rt: &HostRuntime, path: &str, bytes: &[u8]) -> io::Result<()> {
+    let mut file = File::create_new(rt, path)?;
     file.write_all(bytes)?;
-    file.sync_all()?;
-    fs::rename(rt, beside, path)?;
+    file.sync_all()
+}
+
+fn synced(rt: &HostRuntime, folder: &str) -> io::Result<()> {
     File::open(rt, folder)?.sync_all()
+}
+
+/// Returns whether a regular file with these very bytes is at `path`, and no link. If so, has synced it. The error is
+/// that it can't be read or synced, or that memory ran out.
+fn is_synced_as(rt: &HostRuntime, path: &str, bytes: &[u8]) -> io::Result<bool> {
+    if !fs::symlink_metadata(rt, path)?.is_file() {
+        return Ok(false);
+    }
+    let mut options = File::options();
+    let file = open_regular(rt, path, options.read(true))?;
+    let mut kept = Vec::new(rt.alloc());
+    read_all(&mut Source::of(file.try_clone()?), &mut kept, bytes.len())?;
+    if kept.as_slice() != bytes {
+        return Ok(false);
+    }
+    file.sync_all()?;
+    Ok(true)
 }
 
 /// Returns the oldest and the newest of the days that have a journal or an opening in a folder, or `None` if there is

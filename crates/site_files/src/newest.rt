@@ -3,9 +3,9 @@ ghost use Rattle.std.specs.Prelude.{◌≡◌, ◌≢◌, ◌⊎◌, ◌+◌, Ok
 ghost use Rattle.site_files.specs.Statuses.{EndsWith, IsFailed, Fails, IsReportedOrFailed, uncarried_status};
 ghost use Rattle.site_files.specs.Days.{path_of, day_to_serve, BeginsDay};
 
-use crate::faults::{Place, once_printed, print_fault, report_file_error};
-use crate::files::text_of;
-use crate::folder::{Folder, Part, Span, day_after};
+use crate::faults::{Place, once_printed, print_fault, print_message, report_file_error};
+use crate::files::{regular_source_of, text_in, text_of};
+use crate::folder::{DayFile, Folder, Part, Span, day_after};
 use crate::job_error::JobError;
 use crate::kept::{LockedClose, close_journal};
 use crate::opening::{Day, begin_with, refuse_fault, refuse_words};
@@ -117,8 +117,11 @@ fn print_other_config(
     };
     if !kept.is_same(&given.settings.config) {
         let (path, word) = (folder.file(rt, day, Part::Config)?, given.word);
-        let _ = eprintln!(rt;
-            "fc: day {day} goes on with {path}: tills, slots and bounds of {word} count from the next day on"
+        print_message(
+            rt,
+            &format_args!(
+                "day {day} goes on with {path}: tills, slots and bounds of {word} count from the next day on"
+            ),
         );
     }
     Ok(())
@@ -173,12 +176,30 @@ fn number_of(
         DayToServe::After(newest) => newest,
     };
     match fixed_config(rt, folder, newest)? {
-        Some(kept) => close_day(rt, folder, newest, kept, None),
+        Some(kept) => {
+            let texts = ConfigTexts {
+                day: None,
+                next: &given.text,
+            };
+            close_day(rt, folder, newest, kept, texts)
+        }
         None => {
             let config = given.settings.config.copied(rt.alloc())?;
-            close_day(rt, folder, newest, config, Some(&given.text))
+            let texts = ConfigTexts {
+                day: Some(&given.text),
+                next: &given.text,
+            };
+            close_day(rt, folder, newest, config, texts)
         }
     }
+}
+
+/// The texts of the configurations that are written into the folder as a day is closed: that of the day itself, unless
+/// the folder has it already, and that of the next day.
+#[derive(Clone, Copy)]
+struct ConfigTexts<'a> {
+    day: Option<&'a [u8]>,
+    next: &'a [u8],
 }
 
 /// Returns the configuration that a folder has for a day, or `None` if it has none. If the file can't be read or is
@@ -195,7 +216,7 @@ pub fn kept_config(
         return Ok(None);
     }
     let path = folder.file(rt, day, Part::Config)?;
-    let text = text_of(rt, &path)?;
+    let text = text_in(rt, &path, regular_source_of(rt, &path)?)?;
     match settings_in(rt, &path, &text) {
         Ok(settings) => Ok(Some(settings.config)),
         Err(job_error) => Err(job_error),
@@ -242,7 +263,7 @@ fn begin_day(
     if !folder.has(rt, number, Part::Opening)? {
         return Err(JobError::AlreadyReported(refuse_link(rt, Place::of(&path), number, &UNOPENED)));
     }
-    let begun = begin_with(rt, &path, config)?;
+    let begun = begin_with(rt, &path, regular_source_of(rt, &path)?, config)?;
     if begun.number != number {
         let status = refuse_link(rt, Place::of(&path), number, &OfDay(begun.number));
         return Err(JobError::AlreadyReported(status));
@@ -279,8 +300,8 @@ impl Display for OfDay {
 }
 
 /// Closes day `number`, unless it has no entry. Returns the number of the day that is then the newest. `config` is the
-/// configuration of the day's site, without an opening. `config_to_write` is the configuration's text, if closing the
-/// day must also write it into the folder.
+/// configuration of the day's site, without an opening. `texts` are the configurations that closing the day also writes
+/// into the folder.
 /// Errors:
 ///
 /// - `AlreadyReported`, with the exit status: a file can't be used or is refused, or the next day has begun already.
@@ -291,7 +312,7 @@ fn close_day(
     folder: Folder<'_>,
     number: u32,
     config: Config,
-    config_to_write: Option<&[u8]>,
+    texts: ConfigTexts<'_>,
 ) -> Result<u32, JobError>
     ensures newest { IfOk result (λ newest. (newest ≡ number) ⊎ (newest ≡ number + 1)) }
     ensures refused { IfErr result (IsReportedOrFailed 1) }
@@ -300,16 +321,15 @@ fn close_day(
     let config = begin_day(rt, folder, number, config)?;
     // The day's journal stays locked until the opening of the next day is written.
     let closing = close_journal(rt, &config, &path)?;
-    put_close(rt, folder, number, &path, &closing, config_to_write)
+    put_close(rt, folder, number, &path, &closing, texts)
 }
 
 /// Finishes the close of day `number`, unless it has no entry. Returns the number of the day that is then the newest.
 /// The steps:
 ///
 /// - checks that the next day hasn't begun
-/// - writes `config_to_write`, the text of the day's configuration, if it isn't `None`
 /// - syncs the day's journal, whose path is `journal`
-/// - writes the opening of the next day
+/// - writes the configurations in `texts`, and the opening of the next day
 ///
 /// If a step fails, prints why; the error `AlreadyReported` has the exit status. The error `Failed` means that memory
 /// ran out, which isn't printed yet.
@@ -319,7 +339,7 @@ fn put_close(
     number: u32,
     journal: &str,
     closing: &LockedClose,
-    config_to_write: Option<&[u8]>,
+    texts: ConfigTexts<'_>,
 ) -> Result<u32, JobError>
     ensures empty { closing.now.closed.site.history ≡ [] → result ≡ Ok number }
     ensures closed { closing.now.closed.site.history ≢ [] → IfOk result (λ newest. newest ≡ number + 1) }
@@ -330,22 +350,21 @@ fn put_close(
         return Ok(number);
     }
     check_newest(rt, folder, number)?;
-    if let Some(text) = config_to_write {
-        folder.put(rt, number, Part::Config, text)?;
-    }
     if let Err(error) = closing.file.sync_all() {
         return Err(JobError::AlreadyReported(report_file_error(rt, journal, &error)));
     }
-    write_next_opening(rt, folder, number, &closing.closed)
+    begin_next_day(rt, folder, number, &closing.closed, texts)
 }
 
-/// Writes the opening of the day after day `number`, and returns that next day's number. If this fails, prints why; the
-/// error `AlreadyReported` has the exit status. The error `Failed` means that memory ran out, which isn't printed yet.
-fn write_next_opening(
+/// Writes the opening of the day after day `number`, and the configurations in `texts`. Returns that next day's number.
+/// If this fails, prints why; the error `AlreadyReported` has the exit status. The error `Failed` means that memory ran
+/// out, which isn't printed yet. After either error the next day hasn't begun, unless only a sync of the folder failed.
+fn begin_next_day(
     rt: &HostRuntime,
     folder: Folder<'_>,
     number: u32,
     closed: &Closed,
+    texts: ConfigTexts<'_>,
 ) -> Result<u32, JobError>
     ensures next { IfOk result (λ next. next ≡ number + 1) }
     ensures refused { IfErr result (IsReportedOrFailed 1) }
@@ -358,8 +377,42 @@ fn write_next_opening(
         }
     };
     let text = opening_text(rt.alloc(), &opening)?;
-    folder.put(rt, opening.day, Part::Opening, text.as_bytes())?;
+    let file = DayFile {
+        day: opening.day,
+        part: Part::Opening,
+        bytes: text.as_bytes(),
+    };
+    put_next_day(rt, folder, number, file, texts)?;
     Ok(opening.day)
+}
+
+/// Writes the configurations in `texts` into the folder, that of day `number` and that of the next day, and last
+/// `opening`, the next day's opening, by which that day begins. The errors are those of `Folder::put`.
+fn put_next_day(
+    rt: &HostRuntime,
+    folder: Folder<'_>,
+    number: u32,
+    opening: DayFile<'_>,
+    texts: ConfigTexts<'_>,
+) -> Result<(), JobError>
+    ensures { IfErr result Fails }
+{
+    let next = DayFile {
+        day: opening.day,
+        part: Part::Config,
+        bytes: texts.next,
+    };
+    match texts.day {
+        Some(bytes) => {
+            let closed = DayFile {
+                day: number,
+                part: Part::Config,
+                bytes,
+            };
+            folder.put(rt, &[closed, next, opening])
+        }
+        None => folder.put(rt, &[next, opening]),
+    }
 }
 
 /// Checks that the day after day `number` hasn't begun: that it has no opening. If the caller has locked the journal of
@@ -378,7 +431,7 @@ pub fn check_newest(rt: &HostRuntime, folder: Folder<'_>, number: u32) -> Result
         return Ok(());
     }
     let path = folder.file(rt, number, Part::Journal)?;
-    let _ = eprintln!(rt; "fc: {path}: day {next} has begun");
+    print_message(rt, &format_args!("{path}: day {next} has begun"));
     Err(JobError::AlreadyReported(FAILED))
 }
 

@@ -12,7 +12,7 @@ use crate::faults::{
     Place, once_printed, print_fault, print_journal_flaw, print_message_at, print_output,
     refuse_with, report_out_of_memory,
 };
-use crate::files::{bytes_of, lines_in};
+use crate::files::{Source, bytes_in, lines_in};
 use crate::job_error::JobError;
 use crate::statuses::REFUSED;
 use days::beginning::begun;
@@ -49,18 +49,23 @@ pub(crate) struct Begun {
     pub number: u32,
 }
 
-/// Reads the opening in the file that `word` names. Returns `config` with this opening in it, and the number of the
-/// opening's day.
+/// Reads the opening that `source` gives, which reads the file that `word` names. Returns `config` with this opening in
+/// it, and the number of the opening's day.
 /// Errors:
 ///
 /// - `AlreadyReported`, with the exit status: the opening can't be read, is refused or doesn't fit `config`, which is
 ///   printed
 /// - `Failed`: memory ran out, which isn't printed yet
-pub(crate) fn begin_with(rt: &HostRuntime, word: &str, config: Config) -> Result<Begun, JobError>
+pub(crate) fn begin_with(
+    rt: &HostRuntime,
+    word: &str,
+    source: Source,
+    config: Config,
+) -> Result<Begun, JobError>
     ensures begun { IfOk result (λ begun. BeginsDay config begun.number begun.config) }
     ensures refused { IfErr result (IsReportedOrFailed 1) }
 {
-    let file = opening_in(rt, word)?;
+    let file = opening_in(rt, word, source)?;
     let number = file.day;
     match opened(rt, word, config, file.opening) {
         Ok(config) => Ok(Begun { config, number }),
@@ -68,13 +73,13 @@ pub(crate) fn begin_with(rt: &HostRuntime, word: &str, config: Config) -> Result
     }
 }
 
-/// Returns the bytes of an opening in the file that `word` names. If they can't be read or are more than
-/// `MOST_OPENING`, prints why; the error has the exit status.
-pub fn opening_bytes(rt: &HostRuntime, word: &str) -> Result<Vec<u8>, JobError>
+/// Returns the bytes of the opening that `source` gives, which reads the file that `word` names. If they can't be read
+/// or are more than `MOST_OPENING`, prints why; the error has the exit status.
+pub fn opening_bytes(rt: &HostRuntime, word: &str, source: Source) -> Result<Vec<u8>, JobError>
     ensures few { IfOk result (λ bytes. vec_len bytes ≤ MOST_OPENING) }
     ensures refused { IfErr result (IsReportedOrFailed 1) }
 {
-    match bytes_of(rt, word, MOST_OPENING) {
+    match bytes_in(rt, word, source, MOST_OPENING) {
         Ok(Some(bytes)) => Ok(bytes),
         Ok(None) => {
             let place = Place::of(word);
@@ -84,13 +89,14 @@ pub fn opening_bytes(rt: &HostRuntime, word: &str) -> Result<Vec<u8>, JobError>
     }
 }
 
-/// Reads the opening in the file that `word` names. If it can't be read or is refused, prints why; the error
-/// `AlreadyReported` has the exit status. The error `Failed` means that memory ran out, which isn't printed yet.
-fn opening_in(rt: &HostRuntime, word: &str) -> Result<OpeningFile, JobError>
+/// Reads the opening that `source` gives, which reads the file that `word` names. If it can't be read or is refused,
+/// prints why; the error `AlreadyReported` has the exit status. The error `Failed` means that memory ran out, which
+/// isn't printed yet.
+fn opening_in(rt: &HostRuntime, word: &str, source: Source) -> Result<OpeningFile, JobError>
     ensures good { IfOk result IsOpeningFile }
     ensures refused { IfErr result (IsReportedOrFailed 1) }
 {
-    let bytes = opening_bytes(rt, word)?;
+    let bytes = opening_bytes(rt, word, source)?;
     match read_opening(rt.alloc(), &bytes) {
         Ok(file) => Ok(file),
         Err(flaw) => Err(refuse_opening(rt, word, &bytes, flaw)),

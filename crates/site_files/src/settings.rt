@@ -88,7 +88,7 @@ fn begun_by(rt: &HostRuntime, site: SiteFiles<'_>, config: Config) -> Result<Beg
     ensures refused { IfErr result (IsReportedOrFailed 1) }
 {
     match site.opening {
-        Some(opening) => begin_with(rt, opening, config),
+        Some(opening) => begin_with(rt, opening, source_of(rt, opening)?, config),
         None => Ok(Begun { config, number: 1 }),
     }
 }

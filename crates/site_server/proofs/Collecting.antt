@@ -5,7 +5,9 @@ use Rattle.std.proofs.Common.{◌*◌, ◌≤◌, Ok, Err, arith, zero, suc}
 use Rattle.std.proofs.lemmas.List.{length-map}
 use Rattle.std.proofs.lemmas.Slice.Zip.{length-zip}
 use Rattle.std.specs.List.{zip}
+use Rattle.std.specs.Prelude.{IfSome}
 use Rattle.std.specs.Option.{option_map}
+use Rattle.till_request.specs.declared.act.Role.{Role}
 use Rattle.line_session.specs.Serving.{Outcome, good}
 use Rattle.site_lock.specs.Merge.{AreAll}
 use Rattle.site_lock.specs.Passes.{PassView, Opened, new_pass, AreNew}
@@ -15,7 +17,7 @@ use Rattle.site_server.specs.Crews.{roles_of}
 use Rattle.site_server.specs.Plans.{Plan}
 use Rattle.site_server.specs.Ending.{IsReturned, AreReturned, HaveWorked, all_clean}
 use Rattle.site_server.specs.Collecting.{AreWaiting, RunsWorker, collected, clean_in}
-use Rattle.site_server.specs.Tasks.{Worked}
+use Rattle.site_server.specs.Tasks.{WorkedAll}
 use Rattle.site_server.proofs.Numbering.{all_worked}
 
 -- the results of the finished tasks, in the order of the tasks; an unfinished task is None and has no result
@@ -41,6 +43,12 @@ good_few (None ∷ outcomes) = omega (arith, good_few outcomes)
 good_few (Some (Ok ended) ∷ outcomes) = omega (arith, good_few outcomes)
 good_few (Some (Err fault) ∷ outcomes) = omega (arith, good_few outcomes)
 
+-- a worker that served fewer than 2^32 connections counts fewer that ended without a SessionFault
+all_few : (config : ConfigValue) (may_fail : Type 0) (role : Role) (connections : Option ℕ) (clean : ℕ) (before now : PassView)
+    → IfSome connections (λ (n : ℕ). n < 4294967296) → WorkedAll config may_fail role connections clean before now → clean < 4294967296
+all_few config may_fail role (Some connections) clean before now few h = omega (arith, h.counted, h.all_asked, good_few h.outcomes, few)
+all_few config may_fail role None clean before now few h = absurd h
+
 abbrev IsNone : {A : Type 0} → Option A → Type 0
 IsNone None = Unit {0}
 IsNone (Some p) = ⊥
@@ -53,7 +61,7 @@ role_at [] k worker is = absurd (none_is k worker is)
 role_at (first ∷ workers) zero worker is = ap (λ (o : Option Worker). option_map (λ (w : Worker). w.role) o) is
 role_at (first ∷ workers) (suc k) worker is = role_at workers k worker is
 
-module _ (may_fail : Type 0) (workers : List Worker) (connections : ℕ) (from : Opened) (own : ConfigValue) (same : from.config ≡ own) where
+module _ (may_fail : Type 0) (workers : List Worker) (connections : Option ℕ) (from : Opened) (own : ConfigValue) (same : from.config ≡ own) where
   -- the plan by which the site is served
   abbrev pub plan : Plan
   plan = record { from = from; may_fail = may_fail; roles = roles_of workers; connections = connections }
@@ -73,7 +81,7 @@ module _ (may_fail : Type 0) (workers : List Worker) (connections : ℕ) (from :
       h.0,
       worker.role,
       role_at workers b worker at,
-      subst (λ (c : ConfigValue). Worked c may_fail worker.role connections r.1 (new_pass (b + 1)) r.0) (sym same) h.1,
+      subst (λ (c : ConfigValue). WorkedAll c may_fail worker.role connections r.1 (new_pass (b + 1)) r.0) (sym same) h.1,
     ),
     more,
   )
@@ -112,15 +120,15 @@ module _ (may_fail : Type 0) (workers : List Worker) (connections : ℕ) (from :
         length-map ys d ∙ as_many ∙ sym (length-map xs w) ∙ there.0,
       )
 
-  one_few : (b : ℕ) (r : PassView × ℕ) → IsReturned plan b r → r.1 ≤ connections
-  one_few b r h = omega (arith, h.3.counted, h.3.all_asked, good_few h.3.outcomes)
+  one_few : (b : ℕ) (r : PassView × ℕ) → IfSome connections (λ (n : ℕ). n < 4294967296) → IsReturned plan b r → r.1 < 4294967296
+  one_few b r few h = all_few own may_fail h.1 connections r.1 (new_pass (b + 1)) r.0 few (subst (λ (c : ConfigValue). WorkedAll c may_fail h.1 connections r.1 (new_pass (b + 1)) r.0) same h.3)
 
   -- If each worker serves fewer than 2^32 connections, then in n tasks at most 2^32 * n connections ended without a
   -- SessionFault.
-  pub well_few : (b : ℕ) (tasks : List (Option (PassView × ℕ))) → AllBack b tasks → connections < 4294967296 → clean_in tasks ≤ 4294967296 * length tasks
+  pub well_few : (b : ℕ) (tasks : List (Option (PassView × ℕ))) → AllBack b tasks → IfSome connections (λ (n : ℕ). n < 4294967296) → clean_in tasks ≤ 4294967296 * length tasks
   well_few b [] h few = omega arith
   well_few b (None ∷ tasks) h few = absurd h
-  well_few b (Some r ∷ tasks) h few = omega (arith, well_few (b + 1) tasks h.1 few, one_few b r h.0, few)
+  well_few b (Some r ∷ tasks) h few = omega (arith, well_few (b + 1) tasks h.1 few, one_few b r few h.0)
 
   back_at : (b : ℕ) (tasks : List (Option (PassView × ℕ))) → AllBack b tasks → (k n : ℕ) (d : PassView × ℕ) → n ≡ b + k → k < length (results tasks)
       → IsReturned plan n (slice_index_or (results tasks) k d)
@@ -154,7 +162,7 @@ module _ (may_fail : Type 0) (workers : List Worker) (connections : ℕ) (from :
   are_all n tasks room passes clean back many none are worked =
       all_worked plan passes n clean (ap length (are ∙ ap (λ (ps : List PassView). ps ++ collected tasks) none) ∙ handed_length 0 tasks back ∙ many) worked
 
-module _ (config : ConfigValue) (may_fail : Type 0) (connections : ℕ) {P : Type 0} (w : P → Option (PassView × Worker)) (d : P
+module _ (config : ConfigValue) (may_fail : Type 0) (connections : Option ℕ) {P : Type 0} (w : P → Option (PassView × Worker)) (d : P
     → Option (PassView × ℕ)) where
   pub manned_so : (x y a b : P) → a ≡ x → b ≡ y → RunsWorker config may_fail connections (w a) (d b)
       → RunsWorker config may_fail connections (w x) (d y)

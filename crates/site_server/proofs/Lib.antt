@@ -1,7 +1,11 @@
+pub mod Ahead
 pub mod Closing
 pub mod Collecting
+pub mod Credit
+pub mod FirstWords
 pub mod Keeping
 pub mod Numbering
+pub mod Paths
 pub mod Posting
 pub mod Posts
 pub mod Working

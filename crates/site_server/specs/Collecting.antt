@@ -5,7 +5,7 @@ use Rattle.site_core.specs.Limits.{ConfigValue}
 use Rattle.site_lock.specs.Passes.{PassView, new_pass}
 use Rattle.site_server.specs.declared.crew.Worker.{Worker}
 use Rattle.site_server.specs.Crews.{IsCrew}
-use Rattle.site_server.specs.Tasks.{Worked}
+use Rattle.site_server.specs.Tasks.{WorkedAll}
 
 -- There is one task for each worker. The task at place k, counted from 0, holds the worker at place k, and a new pass
 -- with the number k + 1.
@@ -20,12 +20,12 @@ abbrev pub HasCrew : List (Option (PassView × Worker)) → Type 0
 HasCrew tasks = (workers : List Worker) × IsCrew (length workers) × AreWaiting workers tasks
 
 -- A task ran. If it held a pass and a worker before:
--- - `connections` connections were served with the pass, in the worker's role.
+-- - All connections were served with the pass, in the worker's role: as many as `connections` says (`WorkedAll`).
 -- - The task now holds the pass, and the number of these connections that ended without a SessionFault.
-abbrev pub RunsWorker : ConfigValue → Type 0 → ℕ → Option (PassView × Worker) → Option (PassView × ℕ) → Type 0
+abbrev pub RunsWorker : ConfigValue → Type 0 → Option ℕ → Option (PassView × Worker) → Option (PassView × ℕ) → Type 0
 RunsWorker config may_fail connections None after = Unit {0}
 RunsWorker config may_fail connections (Some w) None = ⊥
-RunsWorker config may_fail connections (Some w) (Some d) = (d.0.id ≡ w.0.id) × Worked config may_fail w.1.role connections d.1 w.0 d.0
+RunsWorker config may_fail connections (Some w) (Some d) = (d.0.id ≡ w.0.id) × WorkedAll config may_fail w.1.role connections d.1 w.0 d.0
 
 -- the passes of the finished tasks, in the order of the tasks
 abbrev pub collected : List (Option (PassView × ℕ)) → List PassView

@@ -1,7 +1,12 @@
 pub mod Crews
 pub mod Ending
 pub mod Collecting
+pub mod Draining
+pub mod Guard
+pub mod Guarding
 pub mod Limits
+pub mod Pace
+pub mod Pacing
 pub mod Pauses
 pub mod Plans
 pub mod Tasks

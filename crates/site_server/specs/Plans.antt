@@ -7,12 +7,13 @@ use Rattle.site_server.specs.Crews.{roles_of}
 use Rattle.site_server.specs.declared.serving.Serving.{Serving}
 
 -- How a site is served: what its forecourt starts with (`from`), and whether its journal can fail (`may_fail`). `roles`
--- are the workers' roles, in the order of their passes. Each worker serves `connections` connections.
+-- are the workers' roles, in the order of their passes. Each worker serves `connections` connections, or, if that is
+-- None, one after another without end.
 pub record Plan : Type 1 where
   pub from : Opened
   pub may_fail : Type 0
   pub roles : List Role
-  pub connections : ℕ
+  pub connections : Option ℕ
 
 -- The plan by which a site is served. The forecourt starts with the site's history, with the bytes that the journal has
 -- taken, and with one pass for each worker of the crew.

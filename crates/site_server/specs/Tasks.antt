@@ -1,6 +1,6 @@
 -- Definitions: what a worker does, described by its pass and the moment that its clock gave last (source: this
 -- project).
-use Rattle.std.specs.Prelude.{◌≡◌, ◌⊎◌, ℕ, List, [], ◌∷◌, length, Some, None, Err}
+use Rattle.std.specs.Prelude.{◌≡◌, ◌⊎◌, ℕ, List, [], ◌∷◌, length, Option, Some, None, Err}
 use Rattle.std.specs.List.{AllByRecursion}
 use Rattle.till_request.specs.Line.{IsLine}
 use Rattle.till_request.specs.declared.act.Act.{Act}
@@ -57,3 +57,9 @@ pub record Worked (config : ConfigValue) (may_fail : Type 0) (role : Role) (conn
   pub each : AnswersConnections config may_fail role outcomes (0, before) (moment, now)
   pub all_asked : length outcomes ≡ connections
   pub counted : clean ≡ good outcomes
+
+-- The pass served all connections that it was to serve: as many as `Some` says, or without end (None). A worker that
+-- serves without end never gets there.
+abbrev pub WorkedAll : ConfigValue → Type 0 → Role → Option ℕ → ℕ → PassView → PassView → Type 0
+WorkedAll config may_fail role (Some connections) clean before now = Worked config may_fail role connections clean before now
+WorkedAll config may_fail role None clean before now = ⊥

@@ -3,6 +3,7 @@ ghost use Rattle.std.specs.Prelude.{◌≡◌, ◌++◌, ◌-◌, ◌^◌, ◌<�
 ghost use Rattle.site_server.specs.Crews.{IsCrew, all_posts, posts_at, posts_of};
 
 use crate::listener::Listener;
+use crate::shared_door::SharedDoor;
 use std::alloc::{AllocError, Global};
 use std::sync::Arc;
 use till_request::Role;
@@ -13,14 +14,16 @@ pub struct OpenDoor {
     pub role: Role,
     pub listener: Listener,
     pub workers: u32,
+    /// How many lines a second of all its connections together are read at most; 0 is no bound.
+    pub lines_per_second: u32,
 }
 
-/// A worker of a site: whose lines it takes, and where its connections come in. All workers of a door share one
-/// listener, which is closed when the last of them is dropped.
+/// A worker of a site: whose lines it takes, and at which door. All workers of a door share its listener, which is
+/// closed when the last of them is dropped, and its bound of lines a second.
 #[derive(Drop)]
 pub(crate) struct Worker {
     pub role: Role,
-    pub listener: Arc<Listener>,
+    pub door: Arc<SharedDoor>,
 }
 
 /// The workers of a site, 1 to 96. The one at place k, counted from 0, has the pass with the number k + 1.
@@ -49,11 +52,12 @@ fn push_workers(alloc: Global, workers: &mut Vec<Worker>, door: OpenDoor) -> Res
         role,
         listener,
         workers: count,
+        lines_per_second,
     } = door;
-    let listener = Arc::new(alloc, listener)?;
+    let door = Arc::new(alloc, SharedDoor::new(listener, lines_per_second))?;
     for _turn in 0..count {
-        let listener = Arc::try_clone(&listener)?;
-        workers.push(Worker { role, listener })?;
+        let door = Arc::try_clone(&door)?;
+        workers.push(Worker { role, door })?;
     }
     Ok(())
 }

@@ -1,31 +1,48 @@
 //! The connections of a listener, which a worker opens one after another.
-ghost use Rattle.std.specs.Prelude.{◌≡◌, IfSome};
+ghost use Rattle.std.specs.Prelude.{◌≡◌, IfOk, IfSome};
 ghost use Rattle.till_request.specs.Count.{RoseBy};
 ghost use Rattle.site_server.specs.Pauses.{longer_pause, reported_failure};
 
-use crate::listener::Listener;
+use crate::draining::{drain, is_drained};
+use crate::guard::GuardedReader;
 use crate::notices::{Notices, SessionFailure};
+use crate::paced::PacedIn;
+use crate::shared_door::SharedDoor;
 use crate::silence::IdleLimitedReader;
 use crate::stream::Stream;
 use line_session::{Doors, Ended, SessionFault};
+use std::sync::Wait;
 use std::time::{Clock, Duration};
 use std::{io, thread};
 use till_request::devices::{Ahead, StreamIn, StreamOut};
 use till_request::{DeviceFault, Role};
 
-type Connection<'a, N> = (Ahead<StreamIn<IdleLimitedReader<'a, N>>>, StreamOut<Stream>);
+/// The input of a connection, as a session reads it. From the socket on: its end if the peer is silent, the guard, the
+/// block that is read ahead, and the pace.
+type Input<'a, R, N> = PacedIn<
+    'a,
+    R,
+    N,
+    Ahead<StreamIn<GuardedReader<'a, N, IdleLimitedReader<'a, N>>>>,
+>;
 
-/// Opens the connections of a listener one after another, for one worker. Other workers can use the same listener.
+type Connection<'a, R, N> = (Input<'a, R, N>, StreamOut<Stream>);
+
+/// Opens the connections of a door one after another, for one worker. Other workers can use the same door.
 ///
 /// - Input is read ahead, in blocks of 4,096 bytes. Output is sent at once; a port's connections have `TCP_NODELAY`.
+/// - If a peer speaks another protocol, that is reported to an operator, and its session sees an empty input.
+/// - A line is read only once the door allows it.
+/// - If a session ends while its peer may still be sending, what comes is read and thrown away before the connection is
+///   closed, so that the peer gets all answers.
 /// - If a connection can't be opened, the worker waits before it tries again: at first 10 milliseconds, then twice as
 ///   long each time, and at most 1 second. Of several failures in a row only the first is reported to an operator.
 /// - If a peer sends nothing for `idle_seconds`, that is reported to an operator, and the input ends. If a peer takes
 ///   no bytes of an answer for `idle_seconds`, the write fails. If `idle_seconds` is 0, there are no such limits.
 #[derive(Drop)]
-pub struct SocketDoors<'a, R: Clock, N: Notices> {
+pub struct SocketDoors<'a, R: Wait + Clock, N: Notices> {
     rt: &'a R,
-    listener: &'a Listener,
+    door: &'a SharedDoor,
     notices: &'a N,
     role: Role,
     pass: u32,
@@ -34,6 +51,8 @@ pub struct SocketDoors<'a, R: Clock, N: Notices> {
     /// How many milliseconds the worker waited after the last failure to open a connection. 0 if a connection was
     /// opened since then, or if there was no failure.
     pause: u64,
+    /// A further handle of the connection that was opened last.
+    current: Option<Stream>,
 }
 
 /// Returns how long to wait next, in milliseconds, after a wait of `pause` milliseconds: 10 if `pause` is 0, or else
@@ -61,18 +80,18 @@ fn failure_of(outcome: &Result<Ended, SessionFault>) -> Option<SessionFailure>
     }
 }
 
-impl<'a, R: Clock, N: Notices> SocketDoors<'a, R, N> {
-    /// Prepares to open connections of `listener`, for the worker with this role and the pass with the number `pass`. A
+impl<'a, R: Wait + Clock, N: Notices> SocketDoors<'a, R, N> {
+    /// Prepares to open connections of `door`, for the worker with this role and the pass with the number `pass`. A
     /// peer is allowed to send nothing, or to take no bytes of an answer, for at most `idle_seconds`; 0 is no limit.
     pub fn new(
         rt: &'a R,
-        listener: &'a Listener,
+        door: &'a SharedDoor,
         notices: &'a N,
         role: Role,
         pass: u32,
         idle_seconds: u32,
     ) -> SocketDoors<'a, R, N>
-        ensures listener { result.listener.now ≡ listener.now }
+        ensures door { result.door.now ≡ door.now }
         ensures role { result.role ≡ role }
         ensures pass { result.pass ≡ pass }
         ensures idle { result.idle_seconds ≡ idle_seconds }
@@ -81,39 +100,63 @@ impl<'a, R: Clock, N: Notices> SocketDoors<'a, R, N> {
     {
         SocketDoors {
             rt,
-            listener,
+            door,
             notices,
             role,
             pass,
             idle_seconds,
             asked: 0,
             pause: 0,
+            current: None,
         }
     }
 
-    fn connect(&self) -> io::Result<Connection<'a, N>> {
-        let writer = self.listener.accept()?;
-        if self.idle_seconds > 0 {
-            writer.limit_waits(Duration::from_secs(u64::from(self.idle_seconds)))?;
-        }
-        let stream = writer.try_clone()?;
-        let input = Ahead::new(StreamIn {
-            reader: IdleLimitedReader {
-                stream,
-                notices: self.notices,
-                role: self.role,
-                pass: self.pass,
-                idle_seconds: self.idle_seconds,
-            },
+    /// Makes the input of a connection from its reading half.
+    fn input_of(&self, stream: Stream) -> Input<'a, R, N>
+        ensures door { result.door.now ≡ self.now.door.now }
+        ensures role { result.role ≡ self.now.role }
+        ensures pass { result.pass ≡ self.now.pass }
+    {
+        let reader = IdleLimitedReader {
+            stream,
+            notices: self.notices,
+            role: self.role,
+            pass: self.pass,
+            idle_seconds: self.idle_seconds,
+            is_over: false,
+        };
+        let ahead = Ahead::new(StreamIn {
+            reader: GuardedReader::new(reader, self.notices, self.role, self.pass),
             reads: 0,
             failures: 0,
             asked: 0,
         });
+        PacedIn::new(
+            self.rt,
+            self.door,
+            self.notices,
+            self.role,
+            self.pass,
+            ahead,
+        )
+    }
+
+    /// Opens the next connection. Returns also a further handle of it.
+    fn connect(&self) -> io::Result<(Connection<'a, R, N>, Stream)>
+        ensures { IfOk result (λ made. (made.0.0.door.now ≡ self.now.door.now) × (made.0.0.role ≡ self.now.role)
+            × (made.0.0.pass ≡ self.now.pass)) }
+    {
+        let writer = self.door.listener.accept()?;
+        if self.idle_seconds > 0 {
+            writer.limit_waits(Duration::from_secs(u64::from(self.idle_seconds)))?;
+        }
+        let stream = writer.try_clone()?;
+        let handle = writer.try_clone()?;
         let output = StreamOut {
             writer,
             failures: 0,
         };
-        Ok((input, output))
+        Ok(((self.input_of(stream), output), handle))
     }
 
     /// Waits after a connection couldn't be opened: 10 milliseconds after the first of several failures in a row, then
@@ -125,7 +168,7 @@ impl<'a, R: Clock, N: Notices> SocketDoors<'a, R, N> {
         ensures role { self.new.role ≡ self.old.role }
         ensures pass { self.new.pass ≡ self.old.pass }
         ensures idle { self.new.idle_seconds ≡ self.old.idle_seconds }
-        ensures listener { self.new.listener.now ≡ self.old.listener.now }
+        ensures door { self.new.door.now ≡ self.old.door.now }
     {
         if self.pause == 0 {
             self.notices.accept_failed(self.role, self.pass, error);
@@ -144,20 +187,31 @@ impl<'a, R: Clock, N: Notices> SocketDoors<'a, R, N> {
             self.notices.session_failed(self.role, self.pass, failure);
         }
     }
+
+    /// Reads and throws away what the peer still sends, if the session ended while it may be sending.
+    fn drain_if_needed(&self, outcome: &Result<Ended, SessionFault>) {
+        if let Some(stream) = &self.current {
+            if is_drained(outcome) {
+                let _ = drain(self.rt, stream);
+            }
+        }
+    }
 }
 
-impl<'a, R: Clock, N: Notices> Doors for SocketDoors<'a, R, N> {
-    type In = Ahead<StreamIn<IdleLimitedReader<'a, N>>>;
+impl<'a, R: Wait + Clock, N: Notices> Doors for SocketDoors<'a, R, N> {
+    type In = PacedIn<'a, R, N, Ahead<StreamIn<GuardedReader<'a, N, IdleLimitedReader<'a, N>>>>>;
 
     type Out = StreamOut<Stream>;
 
-    ghost opens = { λ before _ _ after. RoseBy 1 before.asked after.asked × (after.pause ≡ 0)
+    // A connection is paced and reported as one of this worker's door.
+    ghost opens = { λ before input _ after. RoseBy 1 before.asked after.asked × (after.pause ≡ 0)
+        × (input.door.now ≡ before.door.now) × (input.role ≡ before.role) × (input.pass ≡ before.pass)
         × (after.role ≡ before.role) × (after.pass ≡ before.pass) × (after.idle_seconds ≡ before.idle_seconds)
-        × (after.listener.now ≡ before.listener.now) };
+        × (after.door.now ≡ before.door.now) };
 
     ghost fails = { λ before after. RoseBy 1 before.asked after.asked × (after.pause ≡ longer_pause before.pause)
         × (after.role ≡ before.role) × (after.pass ≡ before.pass) × (after.idle_seconds ≡ before.idle_seconds)
-        × (after.listener.now ≡ before.listener.now) };
+        × (after.door.now ≡ before.door.now) };
 
     ghost reported = { λ doors outcome. IfSome (reported_failure outcome) (λ failure. N.failure_reported doors.role
         doors.pass failure)
@@ -165,8 +219,10 @@ impl<'a, R: Clock, N: Notices> Doors for SocketDoors<'a, R, N> {
 
     fn next(&mut self) -> Result<(Self::In, Self::Out), DeviceFault> {
         self.asked = self.asked.wrapping_add(1);
+        self.current = None;
         match self.connect() {
-            Ok(connection) => {
+            Ok((connection, handle)) => {
+                self.current = Some(handle);
                 self.pause = 0;
                 self.notices.connected(self.role, self.pass);
                 Ok(connection)
@@ -179,13 +235,15 @@ impl<'a, R: Clock, N: Notices> Doors for SocketDoors<'a, R, N> {
     }
 
     // Returns whether the next line is in memory already. It can be, since input is read in blocks, and the last block
-    // can have this line too.
+    // can have this line too. False if the door has a bound, since the line may have to wait, and no answer is to wait
+    // with it.
     fn has_buffered_line(&self, input: &Self::In) -> bool {
-        input.holds_line()
+        self.door.lines_per_second == 0 && input.input.holds_line()
     }
 
     fn ended(&self, outcome: &Result<Ended, SessionFault>) {
         self.report(outcome);
+        self.drain_if_needed(outcome);
         self.notices.disconnected(self.role, self.pass);
     }
 }

@@ -2,12 +2,19 @@
 //! site), and the site has one journal.
 #![tactic(auto)]
 
+mod beginning;
 mod crew;
 mod doors;
+mod draining;
+mod guard;
+mod judging;
 mod limiter;
 mod listener;
 mod notices;
+pub mod pace;
+mod paced;
 mod serving;
+mod shared_door;
 mod silence;
 mod stream;
 mod tasks;
@@ -17,11 +24,14 @@ mod workers;
 pub use crew::{Crew, OpenDoor};
 pub use doors::SocketDoors;
 pub use group_sync::{AtOnce, Claim, CountedOut, Durable, GroupSync, MemoryDisk, Release, Shared};
+pub use guard::GuardedReader;
 pub use limiter::Limiter;
 pub use line_session::SessionFault;
 pub use listener::Listener;
 pub use notices::{Notices, SessionFailure};
+pub use paced::PacedIn;
 pub use serving::{ServeFault, Served, Serving, ServingHooks, Unclosed};
+pub use shared_door::SharedDoor;
 pub use silence::IdleLimitedReader;
 pub use site_lock::{CloseRefusal, Forecourt, Journal, LineJournal, Look, NoJournal, SiteLedger};
 pub use stream::Stream;

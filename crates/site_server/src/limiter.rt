@@ -1,13 +1,14 @@
-//! A limit on how many lines are printed for an operator in a second.
+//! A limit on how many lines are printed for an operator in a period, such as a second.
 ghost use Rattle.std.specs.Prelude.{◌≡◌};
-ghost use Rattle.site_server.specs.Limits.{admitted, after_line};
+ghost use Rattle.site_server.specs.Limits.{after_line, may_print};
 
 use std::marker::Model;
 
-/// A limiter of lines. It lets at most ten lines a second through, and counts those that it holds back.
+/// A limiter of lines. It lets at most so many lines of a period through, and counts those that it holds back.
 #[derive(Drop)]
 pub struct Limiter {
-    second: u64,
+    most: u32,
+    period: u64,
     allowed: u32,
     held: u64,
 }
@@ -18,44 +19,44 @@ impl Model for Limiter {
 
     ghost Value = { LimiterValue };
 
-    ghost view = { λ l. record { second = l.second; allowed = l.allowed; held = l.held } };
+    ghost view = { λ l. record { most = l.most; period = l.period; allowed = l.allowed; held = l.held } };
 
-    ghost invariant = { λ l. l.allowed ≤ 10 };
+    ghost invariant = { λ l. l.allowed ≤ l.most };
 }
 
 impl Limiter {
-    /// Makes a limiter that has seen no line yet.
-    pub fn new() -> Limiter
-        ensures second { result.second ≡ 0 }
+    /// Makes a limiter that has seen no line yet. It lets at most `most` lines of a period through.
+    pub fn new(most: u32) -> Limiter
+        ensures most { result.most ≡ most }
+        ensures period { result.period ≡ 0 }
         ensures allowed { result.allowed ≡ 0 }
         ensures held { result.held ≡ 0 }
     {
         Limiter {
-            second: 0,
+            most,
+            period: 0,
             allowed: 0,
             held: 0,
         }
     }
 
-    /// Decides whether a line that comes in this second is let through. Of the lines that come one after another with
-    /// the same `second`, the first ten are let through, and the others are held back. Returns how many lines were held
-    /// back since the last one that was let through, at most 2^64 - 1, or `None` if this line is held back.
-    pub fn admit(&mut self, second: u64) -> Option<u64>
-        ensures admitted { result ≡ admitted self.old second }
-        ensures after { self.new ≡ after_line self.old second }
+    /// Decides whether a line that comes in this period is let through. `period` is its number, for example whole
+    /// seconds or minutes since a start. Of the lines that come one after another with the same `period`, the first
+    /// `most` are let through, and the others are held back. Returns how many lines were held back since the last one
+    /// that was let through, at most 2^64 - 1, or `None` if this line is held back.
+    pub fn admit(&mut self, period: u64) -> Option<u64>
+        ensures admitted { result ≡ may_print self.old period }
+        ensures after { self.new ≡ after_line self.old period }
     {
-        if second != self.second {
-            let held = self.held;
-            *self = Limiter {
-                second,
-                allowed: 1,
-                held: 0,
-            };
-            return Some(held);
+        if period != self.period {
+            self.period = period;
+            self.allowed = 0;
         }
-        if self.allowed < 10 {
+        if self.allowed < self.most {
+            let held = self.held;
             self.allowed += 1;
-            Some(0)
+            self.held = 0;
+            Some(held)
         } else {
             self.held = self.held.saturating_add(1);
             None

@@ -30,8 +30,8 @@ impl fmt::Display for SessionFailure {
     }
 }
 
-/// Receives the reports of a site's workers: on failures, for an operator to read, and on the start and end of
-/// connections, so that they can be counted. All workers share one receiver. In each report, `role` says whose lines
+/// Receives the reports of a site's workers: on failures, for an operator to read, and on lines
+/// and the start and end of connections, so that they can be counted. All workers share one receiver. In each report, `role` says whose lines
 /// the worker takes. `pass` is the number of the worker's pass, which is its right to call the forecourt (the site
 /// under its lock).
 pub trait Notices {
@@ -47,6 +47,14 @@ pub trait Notices {
     /// without a fault.
     ghost end_reported: { Role → ℕ → Type 0 };
 
+    /// For proofs: it was reported that a connection of the worker with this role and this pass number spoke another
+    /// protocol.
+    ghost stranger_reported: { Role → ℕ → Type 0 };
+
+    /// For proofs: it was reported that a line of a connection of the worker with this role and this pass number was
+    /// read.
+    ghost line_reported: { Role → ℕ → Type 0 };
+
     /// Reports that a connection couldn't be opened for the worker with this role and this pass number.
     fn accept_failed(&self, role: Role, pass: u32, error: &io::Error);
 
@@ -57,6 +65,15 @@ pub trait Notices {
     /// Reports that a peer of the worker with this role and this pass number sent nothing for this many seconds, so its
     /// input ended.
     fn fell_silent(&self, role: Role, pass: u32, seconds: u32);
+
+    /// Reports that a connection of the worker with this role and this pass number spoke another protocol, so it's
+    /// closed without an answer.
+    fn turned_away(&self, role: Role, pass: u32)
+        ensures { stranger_reported role pass };
+
+    /// Reports that a line of a connection of the worker with this role and this pass number was read.
+    fn line_read(&self, role: Role, pass: u32)
+        ensures { line_reported role pass };
 
     /// Reports that a connection was opened for the worker with this role and this pass number.
     fn connected(&self, role: Role, pass: u32);

@@ -1,5 +1,5 @@
 //! Serves a site: runs the workers of its crew on threads, and closes the site when all of them have ended.
-ghost use Rattle.std.specs.Prelude.{◌≡◌, ◌<◌, ◌≤◌, ◌^◌, [], IfErr, IfOk, Some, length, map, vec_capacity};
+ghost use Rattle.std.specs.Prelude.{◌≡◌, ◌<◌, ◌≤◌, ◌^◌, [], IfErr, IfOk, IfSome, IsErrAnd, None, Some, length, map, vec_capacity};
 ghost use Rattle.site_lock.specs.Closing.{ClosesSince};
 ghost use Rattle.site_server.specs.Plans.{plan_of};
 ghost use Rattle.site_server.specs.Ending.{IsServed, RefusesWithFault, ServingFails, RunsAllTasks, fault_of_close};
@@ -28,8 +28,8 @@ pub struct Serving<J: Journal = NoJournal> {
     pub journal: J,
     pub crew: Crew,
     /// The number of connections that each worker serves, one after another. A connection that can't be opened counts
-    /// too.
-    pub connections: u32,
+    /// too. `None` is without end: then the site is never closed.
+    pub connections: Option<u32>,
     /// How many seconds at most a peer is allowed to send nothing, or to take no bytes of an answer. 0 is no limit.
     pub idle_seconds: u32,
 }
@@ -159,10 +159,12 @@ fn close<L: SiteLedger, J: Journal, R: Wait>(
     }
 }
 
-/// Does nothing. Its contract is a law: the number `connections` is below 2^32.
-fn prove_few(connections: u32)
-    ensures { connections < 2 ^ 32 }
-{}
+/// Does nothing. Its contract is a law: the number `connections`, if there is one, is below 2^32.
+fn prove_few(connections: Option<u32>)
+    ensures { IfSome connections (λ number. number < 2 ^ 32) }
+{
+    if let Some(_number) = connections {}
+}
 
 /// What all workers gave back: their passes, and the number of connections whose sessions ended without a
 /// `SessionFault`.
@@ -225,6 +227,8 @@ impl<J: Journal + Send> Serving<J> {
     /// - `OutOfMemory`: nothing was served, and the site and the journal are given back.
     /// - `Journal`: the journal failed.
     /// - `NotClosed`: the close was refused.
+    ///
+    /// If `connections` is `None`, the only result is the error `OutOfMemory`; else this doesn't return.
     pub fn run<
         N: Notices + Sync,
         A: Release + Sync,
@@ -242,6 +246,8 @@ impl<J: Journal + Send> Serving<J> {
         ensures err { IfErr result (λ unclosed. ServingFails (plan_of J.written J.may_fail self) unclosed.why) }
         ensures memory { IfErr result
             (λ unclosed. unclosed.why ≡ ServeFault.OutOfMemory → unclosed.back ≡ Some (self.site, self.journal)) }
+        ensures endless { self.connections ≡ None
+            → IsErrAnd result (λ unclosed. unclosed.why ≡ ServeFault.OutOfMemory) }
     {
         let blank = Blank::new(u64::from(self.crew.passes()));
         self.run_on::<Brand, N, A, W, R>(rt, alloc, blank, outside)
@@ -275,6 +281,8 @@ impl<J: Journal + Send> Serving<J> {
         ensures err { IfErr result (λ unclosed. ServingFails (plan_of J.written J.may_fail self) unclosed.why) }
         ensures memory { IfErr result
             (λ unclosed. unclosed.why ≡ ServeFault.OutOfMemory → unclosed.back ≡ Some (self.site, self.journal)) }
+        ensures endless { self.connections ≡ None
+            → IsErrAnd result (λ unclosed. unclosed.why ≡ ServeFault.OutOfMemory) }
     {
         let Serving {
             site,

@@ -16,6 +16,8 @@ pub struct IdleLimitedReader<'a, N: Notices> {
     pub(crate) role: Role,
     pub(crate) pass: u32,
     pub(crate) idle_seconds: u32,
+    /// Whether the input has ended because the peer was silent. No further read waits then.
+    pub(crate) is_over: bool,
 }
 
 /// Returns whether a read failed because nothing came for `idle_seconds`. If `idle_seconds` is 0, there is no limit,
@@ -42,8 +44,12 @@ fn end_if_silent(read: io::Result<usize>, idle_seconds: u32) -> (io::Result<usiz
 
 impl<N: Notices> Read for IdleLimitedReader<'_, N> {
     fn read(&mut self, buf: &mut [u8]) -> io::Result<usize> {
+        if self.is_over {
+            return Ok(0);
+        }
         let (read, is_silent) = end_if_silent(self.stream.read(buf), self.idle_seconds);
         if is_silent {
+            self.is_over = true;
             self.notices
                 .fell_silent(self.role, self.pass, self.idle_seconds);
         }

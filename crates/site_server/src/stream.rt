@@ -1,6 +1,6 @@
 //! A connection, over a port or a local socket.
 use std::io::{self, Read, Write};
-use std::net::TcpStream;
+use std::net::{Shutdown, TcpStream};
 use std::os::unix::net::UnixStream;
 use std::time::Duration;
 
@@ -33,6 +33,38 @@ impl Stream {
             Stream::Socket(stream) => {
                 stream.set_read_timeout(Some(limit))?;
                 stream.set_write_timeout(Some(limit))
+            }
+        }
+    }
+
+    /// Limits how long a read is allowed to wait, through any handle of the connection. A read that waits longer fails
+    /// with `WouldBlock`. `limit` must not be 0. The error is that the limit couldn't be set.
+    pub(crate) fn limit_reads(&self, limit: Duration) -> io::Result<()> {
+        match self {
+            Stream::Port(stream) => stream.set_read_timeout(Some(limit)),
+            Stream::Socket(stream) => stream.set_read_timeout(Some(limit)),
+        }
+    }
+
+    /// Tells the peer that nothing more will be written, behind what was written so far. The error is that the
+    /// connection failed.
+    pub(crate) fn end_output(&self) -> io::Result<()> {
+        match self {
+            Stream::Port(stream) => stream.shutdown(Shutdown::Write),
+            Stream::Socket(stream) => stream.shutdown(Shutdown::Write),
+        }
+    }
+
+    /// Reads like `Read::read`, through a shared reference.
+    pub(crate) fn read_shared(&self, buf: &mut [u8]) -> io::Result<usize> {
+        match self {
+            Stream::Port(stream) => {
+                let mut reader: &TcpStream = stream;
+                reader.read(buf)
+            }
+            Stream::Socket(stream) => {
+                let mut reader: &UnixStream = stream;
+                reader.read(buf)
             }
         }
     }

@@ -24,8 +24,8 @@ pub struct Workers<'a, L: SiteLedger, J: Journal, N: Notices, A: Release, R: Wai
     pub notices: &'a N,
     /// Decides when an answer is allowed to be sent.
     pub release: &'a A,
-    /// The number of connections that each worker serves.
-    pub connections: u32,
+    /// The number of connections that each worker serves, one after another. `None` is without end.
+    pub connections: Option<u32>,
     /// How many seconds at most a peer is allowed to send nothing, or to take no bytes of an answer. 0 is no limit.
     pub idle_seconds: u32,
 }
@@ -39,7 +39,7 @@ impl<L: SiteLedger, J: Journal, N: Notices, A: Release, R: Wait + Clock> Workers
     R,
 > {
     /// Runs a task: serves the worker's connections with the pass in `waiting`, and then puts the pass into `done`.
-    /// Does nothing if `waiting` is `None`.
+    /// Does nothing if `waiting` is `None`. If connections are served without end, doesn't return.
     pub fn work(&self, task: &mut WorkerTask<L>)
         ensures { RunsWorker L.config J.may_fail self.now.connections task.old.waiting task.new.done }
     {
@@ -49,20 +49,29 @@ impl<L: SiteLedger, J: Journal, N: Notices, A: Release, R: Wait + Clock> Workers
         let (role, number) = (worker.role, pass.id());
         let doors = SocketDoors::new(
             self.rt,
-            &worker.listener,
+            &worker.door,
             self.notices,
             role,
             number,
             self.idle_seconds,
         );
-        task.done = Some(self.serve(pass, role, doors));
+        let Some(connections) = self.connections else {
+            self.serve_without_end(pass, role, doors)
+        };
+        task.done = Some(self.serve(pass, role, doors, connections));
         self.notices.left(role, number);
     }
 
-    /// Serves the connections of `doors` with this pass and role. Each answer is sent once `release` allows it. Returns
-    /// the pass, with the receipts that it gained, and how many connections ended without a `SessionFault`.
-    fn serve<S: Doors + Drop>(&self, pass: Pass<L>, role: Role, doors: S) -> (Pass<L>, u64)
-        ensures worked { Worked L.config J.may_fail role self.now.connections result.1 pass result.0 }
+    /// Serves `connections` connections of `doors` with this pass and role. Each answer is sent once `release` allows
+    /// it. Returns the pass, with the receipts that it gained, and how many connections ended without a `SessionFault`.
+    fn serve<S: Doors + Drop>(
+        &self,
+        pass: Pass<L>,
+        role: Role,
+        doors: S,
+        connections: u32,
+    ) -> (Pass<L>, u64)
+        ensures worked { Worked L.config J.may_fail role connections result.1 pass result.0 }
         ensures id { result.0.id ≡ pass.id }
     {
         let mut doors = HeldDoors {
@@ -78,8 +87,31 @@ impl<L: SiteLedger, J: Journal, N: Notices, A: Release, R: Wait + Clock> Workers
             &mut doors,
             &mut clock,
             &mut desk,
-            self.connections,
+            connections,
         );
         (desk.into_pass(), clean)
+    }
+
+    /// Serves one connection of `doors` after another with this pass and role, without end. Each answer is sent once
+    /// `release` allows it.
+    fn serve_without_end<S: Doors + Drop>(&self, pass: Pass<L>, role: Role, doors: S) -> ! {
+        let mut doors = HeldDoors {
+            doors,
+            release: self.release,
+        };
+        let mut clock = MachineClock::new(self.rt);
+        let gate = Straight { calls: 0 };
+        let mut desk = PassDesk::new(self.rt, self.alloc, &self.forecourt, pass, gate);
+        for _round in self.rt.forever() {
+            let _clean = worker(
+                self.alloc,
+                role,
+                &mut doors,
+                &mut clock,
+                &mut desk,
+                u32::MAX,
+            );
+        }
+        unreachable!()
     }
 }

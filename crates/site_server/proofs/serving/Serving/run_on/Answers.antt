@@ -1,8 +1,8 @@
-use Rattle.std.proofs.Common.{rules, ◌≡◌, map, subst}
+use Rattle.std.proofs.Common.{rules, ◌≡◌, length, map, subst}
 use Rattle.site_lock.specs.Passes.{Opened}
 use Rattle.site_server.specs.Plans.{plan_of}
 use Rattle.site_server.specs.Ending.{RunsAllTasks}
-use Rattle.site_server.proofs.Closing.{if_err_more, if_ok_both, leaves_so, spoils_so}
+use Rattle.site_server.proofs.Closing.{if_err_more, if_ok_both, leaves_so, never_return, spoils_so}
 use Rattle.site_server.proofs.serving.Serving.run_on.Goals as goal
 
 pub returns-clause-ok : goal.returns-clause-ok
@@ -30,3 +30,14 @@ returns-clause-err g c =
     if_err_more _ _ c.close.result
     (λ unclosed h. spoils_so plan c.open.result opened back.passes.items back.clean all.0 unclosed.why all.1 h)
     c.close.ensures.err
+
+pub returns-clause-endless : goal.returns-clause-endless
+returns-clause-endless g c = λ endless.
+    let s = c.args.self in
+    let plan = plan_of g.J.Journal.written g.J.Journal.may_fail s in
+    let back = c.join-returned.result.1 in
+    let opened : c.open.result ≡ plan.from = search rules in
+    let off : RunsAllTasks c.open.result plan.may_fail s.connections (map (λ p. p.waiting) c.in-Ok.prepared.tasks.items) back.passes.items back.clean = c.join-returned.ensures.second in
+    let all = subst (λ (o : Opened). RunsAllTasks o plan.may_fail s.connections (map (λ p. p.waiting) c.in-Ok.prepared.tasks.items) back.passes.items back.clean) opened off
+    s.crew.workers.items c.in-Ok.ensures.tasks in
+    absurd (never_return plan (length s.crew.workers.items) back.passes.items back.clean endless s.crew.few.0 all.0 all.1)

@@ -1,0 +1,47 @@
+//! The watch over the file in which a served site keeps its journal.
+use crate::journal_file::JournalRecord;
+use std::sync::{Condvar, Mutex, Wait};
+use std::time::{Clock, Duration};
+
+/// How many seconds lie between two checks of the file.
+const INTERVAL_SECONDS: u64 = 1;
+
+/// Compares the file of a journal with what was written to it, once a second while the site is served, so that a file
+/// which goes away is noticed even if no event comes.
+#[derive(Drop)]
+pub struct JournalWatch<'a, 'b> {
+    record: &'b JournalRecord<'a>,
+    is_over: Mutex<bool>,
+    ended: Condvar,
+}
+
+impl<'a, 'b> JournalWatch<'a, 'b> {
+    pub fn new(record: &'b JournalRecord<'a>) -> JournalWatch<'a, 'b> {
+        JournalWatch {
+            record,
+            is_over: Mutex::new(false),
+            ended: Condvar::new(),
+        }
+    }
+
+    /// Checks the file at once, and then once a second until `end` is called.
+    pub fn run<H: Wait + Clock>(&self, host: &H) {
+        let interval = Duration::from_secs(INTERVAL_SECONDS);
+        for _ in host.forever() {
+            self.record.check();
+            let is_over = self.is_over.lock(host);
+            let (is_over, _) = self
+                .ended
+                .wait_timeout_while(host, is_over, interval, |is_over| !*is_over);
+            if *is_over {
+                return;
+            }
+        }
+    }
+
+    /// Asks `run` to return, even if `run` begins only later.
+    pub fn end<H: Wait>(&self, host: &H) {
+        *self.is_over.lock(host) = true;
+        self.ended.notify_all();
+    }
+}
