@@ -1,5 +1,5 @@
--- Definitions: the workers of a site, their roles, their listeners and their bounds (source: this project). The worker at place k,
--- counted from 0, has the pass with the number k + 1.
+-- Definitions: the workers of a site, their roles, their listeners and their bounds (source: this project). The worker
+-- at place k, counted from 0, has the pass with the number k + 1.
 use Rattle.std.specs.Prelude.{ℕ, ◌<◌, ◌≤◌, ◌++◌, List, [], ◌∷◌, map, replicate}
 use Rattle.std.specs.Arc.{arc_value}
 use Rattle.till_request.specs.declared.act.Role.{Role}
