@@ -32,6 +32,7 @@ import subprocess
 import sys
 import tempfile
 import time
+import traceback
 from concurrent.futures import ThreadPoolExecutor
 
 from shared import AS_ASKED, HERE
@@ -542,6 +543,22 @@ def calls_of_sites(shim, taken):
     yield Served("served day with a page", has_page=True)
 
 
+def cut_ill(call, shim, plain):
+    """What is wrong with a call whose reads and writes are cut."""
+    cut = call.run(shim, CUT)
+    is_same = cut.answers == plain.answers if plain.answers else cut.seen() == plain.seen()
+    return None if is_same else f"it isn't as unhindered: {cut.seen()}"
+
+
+def words_of(look, *words):
+    """What a look at a run finds wrong, or the words of its exception, so that the other runs are tried all the same."""
+    try:
+        return look(*words)
+    except Exception as error:  # whatever it is
+        at = traceback.extract_tb(error.__traceback__)[-1]
+        return f"no look at this run: {error!r}, in line {at.lineno} of {os.path.basename(at.filename)}"
+
+
 def look(shim, call):
     """Tries a call with each fault. Returns the number of runs, and what is wrong, by kind and way of refusing."""
     plain = call.run(shim)
@@ -549,12 +566,11 @@ def look(shim, call):
     with ThreadPoolExecutor(RUNS_AT_ONCE) as pool:
         for kind, how in itertools.product(KINDS, ("once", "on")):
             faults = [(kind, at, how) for at in range(1, plain.calls[kind] + 2)]
-            ill = pool.map(lambda fault: (fault, call.ill(shim, call.run(shim, fault), plain)), faults)
-            wrong[kind, how] = [(fault, what) for fault, what in ill if what]
+            look_at = functools.partial(words_of, lambda fault: call.ill(shim, call.run(shim, fault), plain))
+            wrong[kind, how] = [(fault, what) for fault, what in zip(faults, pool.map(look_at, faults)) if what]
             runs += len(faults)
-    cut = call.run(shim, CUT)
-    is_same = cut.answers == plain.answers if plain.answers else cut.seen() == plain.seen()
-    wrong["cut", "on"] = [] if is_same else [(CUT, f"it isn't as unhindered: {cut.seen()}")]
+    what = words_of(cut_ill, call, shim, plain)
+    wrong["cut", "on"] = [(CUT, what)] if what else []
     return runs, wrong
 
 

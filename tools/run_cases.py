@@ -11,8 +11,10 @@ usage: tools/run_cases.py PROGRAM [WORD]    WORD: only the cases whose path has 
 """
 import difflib
 import os
+import signal
 import subprocess
 import sys
+import time
 from concurrent.futures import ThreadPoolExecutor
 
 from shared import HERE, Count
@@ -21,6 +23,7 @@ PATIENCE = 120  # seconds that a case may take
 AT_ONCE = 2 * (os.cpu_count() or 1)  # most cases wait more than they compute
 PARTS = ("args", "stdin", "run", "status", "stderr")  # the files of a case beside stdout
 SHOWN = 20  # lines of what differs
+SAID = 5  # last lines of standard error
 
 
 class Folder:
@@ -46,25 +49,43 @@ class Folder:
         is_script = os.access(os.path.join(self.path, "run"), os.X_OK)
         return ["./run", program, *args] if is_script else [program, *args]
 
-    def faults(self, program):
-        """Runs the case, and returns what is wrong with it, as lines."""
+    def run(self, program):
+        """Runs the case. Returns its status, and what it printed and said. Processes that it leaves are killed."""
         ran = subprocess.Popen(
             self.words(program), cwd=self.path, stdin=subprocess.PIPE, stdout=subprocess.PIPE, stderr=subprocess.PIPE,
+            start_new_session=True,
         )
         try:
             printed, said = ran.communicate(self.bytes_of("stdin"), timeout=PATIENCE)
             status = ran.returncode
+            kill_all(ran.pid)
         except subprocess.TimeoutExpired:
-            ran.kill()
+            kill_all(ran.pid)  # or what the case began would keep its output open
             printed, said = ran.communicate()
             status = f"none within {PATIENCE} seconds"
+        return status, printed, said
+
+    def faults(self, program):
+        """Runs the case, and returns what is wrong with it, as lines."""
+        begun = time.monotonic()
+        status, printed, said = self.run(program)
+        took = time.monotonic() - begun
         wanted = int(self.bytes_of("status", b"0"))
         differs = [*differing("stdout", printed, self.bytes_of("stdout"))]
         if "stderr" in self.names:
             differs += differing("stderr", said, self.bytes_of("stderr"))
         if status == wanted and not differs:
             return []
-        return [f"{self.path}: status {status}, wanted {wanted}", *differs, *said.decode(errors="replace").splitlines()[:5]]
+        lines = said.decode(errors="replace").splitlines()
+        return [f"{self.path}: status {status}, wanted {wanted}, {took:.0f} s", *differs, *lines[-SAID:]]
+
+
+def kill_all(session):
+    """Kills the processes of a session, if there are any."""
+    try:
+        os.killpg(session, signal.SIGKILL)
+    except ProcessLookupError:
+        pass
 
 
 def differing(name, printed, wanted):
