@@ -24,6 +24,7 @@ import itertools
 import multiprocessing
 import os
 import re
+import select
 import shlex
 import shutil
 import socket
@@ -41,9 +42,10 @@ KINDS = ("memory", "read", "write", "sync")
 UNHINDERED = ("none", 0, "once")
 CUT = ("cut", 0, "on")
 COUNTS = struct.Struct("5Q")
-PATIENCE = 60  # seconds that a call may take
+PATIENCE = 120  # seconds that a call may take
+CALLS_AT_ONCE = 8  # at most: each runs in a process of its own, and there may be few processes
 RUNS_AT_ONCE = 16  # of one call: those of a served site wait more than they compute
-SILENCE = 5  # seconds after which a peer that isn't answered hangs up
+SILENCE = 1  # seconds after which a peer that isn't answered hangs up, if the whole program sleeps
 DEBUG = re.compile(r"::|\w+Fault\b|\w+Error\b|\b(Os|Custom|Error) \{|\bKind\(|panicked")
 
 SITE = """tills = 2
@@ -282,38 +284,63 @@ class NewDay(Call):
         return super().ill(shim, told, plain)
 
 
-class Peer:
-    """A connection of a served site, to a port or to a path, until it isn't answered any more."""
+def is_asleep(process):
+    """Whether each thread of a process waits for something other than a processor or a device."""
+    try:
+        threads = [text_of(f"/proc/{process}/task/{one}/stat") for one in os.listdir(f"/proc/{process}/task")]
+    except OSError:  # a thread has just ended
+        return False
+    return all(thread.rpartition(")")[2].split()[0] == "S" for thread in threads)
 
-    def __init__(self, where):
+
+class Peer:
+    """A connection to a process that serves a site, by a port or a path, until it isn't answered any more."""
+
+    def __init__(self, process, where):
+        self.process, self.came = process, b""
+        self.socket = socket.socket(socket.AF_UNIX if isinstance(where, str) else socket.AF_INET)
+        self.socket.settimeout(PATIENCE)
         try:
-            if isinstance(where, str):
-                self.socket = socket.socket(socket.AF_UNIX)
-                self.socket.settimeout(SILENCE)
-                self.socket.connect(where)
-            else:
-                self.socket = socket.create_connection(("127.0.0.1", where), timeout=SILENCE)
-            self.reader = self.socket.makefile("rb")
+            self.socket.connect(where if isinstance(where, str) else ("127.0.0.1", where))
         except OSError:
-            self.socket = self.reader = None
+            self.close()
+
+    def send(self, text):
+        """Sends a text, and returns whether it was sent."""
+        if self.socket is None:
+            return False
+        try:
+            self.socket.sendall(text.encode())
+        except OSError:
+            return False
+        return True
+
+    def has_more(self):
+        """Whether more comes, which is added to what came. Nothing will come if the process sleeps meanwhile."""
+        until = time.monotonic() + PATIENCE
+        try:
+            while not select.select([self.socket], [], [], SILENCE)[0]:
+                if is_asleep(self.process) or time.monotonic() > until:
+                    return False
+            piece = self.socket.recv(65536)
+        except OSError:
+            return False
+        self.came += piece
+        return piece != b""
 
     def ask(self, line):
         """The answer to a line, or None if there is none."""
-        if self.socket is None:
-            return None
-        try:
-            self.socket.sendall(f"{line}\n".encode())
-            answer = self.reader.readline().decode()
-        except OSError:
-            answer = ""
-        if answer.endswith("\n"):
-            return answer[:-1]
+        is_sent = self.send(f"{line}\n")
+        while is_sent and b"\n" not in self.came and self.has_more():
+            pass
+        answer, end, self.came = self.came.partition(b"\n")
+        if end:
+            return answer.decode(errors="replace")
         self.close()
         return None
 
     def close(self):
         if self.socket is not None:
-            self.reader.close()
             self.socket.close()
             self.socket = None
 
@@ -329,15 +356,14 @@ def free_ports(count):
 LOOKS = ("/", "/metrics", "/healthz", "/journal")
 
 
-def looked(port, target):
+def looked(process, port, target):
     """The status with which a look is answered, or None if it isn't answered."""
-    try:
-        with socket.create_connection(("127.0.0.1", port), timeout=SILENCE) as peer:
-            peer.sendall(f"GET {target} HTTP/1.1\r\nhost: localhost\r\nconnection: close\r\n\r\n".encode())
-            with peer.makefile("rb") as answer:
-                return answer.read()[9:12].decode() or None
-    except OSError:
-        return None
+    peer = Peer(process, port)
+    if peer.send(f"GET {target} HTTP/1.1\r\nhost: localhost\r\nconnection: close\r\n\r\n"):
+        while peer.has_more():
+            pass
+    peer.close()
+    return peer.came[9:12].decode(errors="replace") or None
 
 
 class Served(Call):
@@ -360,7 +386,7 @@ class Served(Call):
         folder, counts = shim.path("served"), shim.path("counts")
         os.makedirs(os.path.join(folder, "days"))
         journal, said = (os.path.join(folder, name) for name in (self.kept or "printed", "said"))
-        for _ in range(5):
+        for _ in range(20):
             serve, doors = self.doors(folder)
             write(os.path.join(folder, "site.toml"), SITE + serve)
             with open(os.path.join(folder, "printed"), "wb") as out, open(said, "wb") as errors:
@@ -394,27 +420,27 @@ class Served(Call):
             time.sleep(0.005)
         if program.poll() is not None:
             return [], []
-        peers = dict(zip(("till", "disp", "load"), map(Peer, doors[:3])))
+        peers = {name: Peer(program.pid, door) for name, door in zip(("till", "disp", "load"), doors)}
         answers, looks = [], []
         for turn, line in enumerate(SCRIPT.splitlines()):
             answer = peers.get(line[:4], peers["till"]).ask(line)
             if answer is not None:
                 answers.append((line, answer))
             if turn % 3 == 0:
-                looks += [looked(page, LOOKS[turn // 3 % len(LOOKS)]) for page in doors[3:]]
+                looks += [looked(program.pid, page, LOOKS[turn // 3 % len(LOOKS)]) for page in doors[3:]]
         for peer in peers.values():
             peer.close()
         return answers, looks
 
     def ill(self, shim, told, plain):
         whole = told.journal[: told.journal.rfind("\n") + 1]
-        if (self.kept or told.status == 0) and (ill := self.missing(told, whole)):
-            return ill
         audited = shim.run(("audit", "site.toml", "-"), whole)
         if audited.status != 0 or (told.status == 0 and whole != told.journal):
-            return f"an audit of its journal says {audited.printed!r}"
+            return f"status {audited.status}: an audit says {audited.printed!r} of its journal, {told.journal[-300:]!r}"
+        if (self.kept or told.status == 0) and (ill := self.missing(told, whole)):
+            return ill
         if not told.is_refused and told.answers != plain.answers:
-            return f"it was refused nothing, and answers {told.answers}"
+            return f"it was refused nothing, says {told.said[-300:]!r}, and answers {told.answers}"
         if told.left:
             return f"it leaves {told.left}"
         if not set(told.looks) <= {"200", "503", None} or not told.is_refused and set(told.looks) - {"200"}:
@@ -423,7 +449,7 @@ class Served(Call):
 
     @staticmethod
     def missing(told, whole):
-        """The first answer that isn't in the journal as it was given."""
+        """The first answer that isn't in the journal, which is legal, as it was given."""
         entries = {}
         for line in whole.splitlines():
             number, _, _, rest = line.split(" ", 3)
@@ -589,7 +615,7 @@ def main():
         all_calls = [*calls_of_files(shim), *calls_of_sites(shim, taken.getsockname()[1])]
         # The last ones take longest, so they begin first.
         calls = [call for call in reversed(all_calls) if word in call.name]
-        with processes.Pool(os.cpu_count() or 1) as pool:
+        with processes.Pool(min(os.cpu_count() or 1, CALLS_AT_ONCE)) as pool:
             for call, (count, wrong) in zip(calls, pool.imap(functools.partial(look, shim), calls)):
                 runs += count
                 for (kind, how), found in wrong.items():
