@@ -17,7 +17,7 @@ refused. This has to hold:
 - a look at a served site is answered 200, or 503 because memory ran out, or not at all;
 - if each read and write is cut to one byte, all is as in the unhindered run.
 If there is no C compiler (CC, or cc), nothing is tried, and that is printed. The last line is 'N passed, M failed': it
-counts the calls, each with one kind and one way of refusing.
+counts the calls, each with one kind and one way of refusing. A run at which this script fails is a fault too.
 """
 import functools
 import itertools
@@ -569,34 +569,34 @@ def calls_of_sites(shim, taken):
     yield Served("served day with a page", has_page=True)
 
 
-def cut_ill(call, shim, plain):
-    """What is wrong with a call whose reads and writes are cut."""
-    cut = call.run(shim, CUT)
-    is_same = cut.answers == plain.answers if plain.answers else cut.seen() == plain.seen()
-    return None if is_same else f"it isn't as unhindered: {cut.seen()}"
+def words_of(error):
+    """The words of an exception in a look at a run: it is a fault, and the other runs are tried all the same."""
+    at = traceback.extract_tb(error.__traceback__)[-1]
+    return f"no look at this run: {error!r}, in line {at.lineno} of {os.path.basename(at.filename)}"
 
 
-def words_of(look, *words):
-    """What a look at a run finds wrong, or the words of its exception, so that the other runs are tried all the same."""
+def ill_of(shim, call, plain, fault):
+    """What is wrong with a call with this fault."""
     try:
-        return look(*words)
+        return call.ill(shim, call.run(shim, fault), plain)
     except Exception as error:  # whatever it is
-        at = traceback.extract_tb(error.__traceback__)[-1]
-        return f"no look at this run: {error!r}, in line {at.lineno} of {os.path.basename(at.filename)}"
+        return words_of(error)
 
 
 def look(shim, call):
     """Tries a call with each fault. Returns the number of runs, and what is wrong, by kind and way of refusing."""
-    plain = call.run(shim)
-    wrong, runs = {}, 2
+    try:
+        plain, cut = call.run(shim), call.run(shim, CUT)
+    except Exception as error:  # whatever it is
+        return 0, {("cut", "on"): [(CUT, words_of(error))]}
+    is_same = cut.answers == plain.answers if plain.answers else cut.seen() == plain.seen()
+    wrong, runs = {("cut", "on"): [] if is_same else [(CUT, f"it isn't as unhindered: {cut.seen()}")]}, 2
     with ThreadPoolExecutor(RUNS_AT_ONCE) as pool:
         for kind, how in itertools.product(KINDS, ("once", "on")):
             faults = [(kind, at, how) for at in range(1, plain.calls[kind] + 2)]
-            look_at = functools.partial(words_of, lambda fault: call.ill(shim, call.run(shim, fault), plain))
-            wrong[kind, how] = [(fault, what) for fault, what in zip(faults, pool.map(look_at, faults)) if what]
+            ill = pool.map(functools.partial(ill_of, shim, call, plain), faults)
+            wrong[kind, how] = [(fault, what) for fault, what in zip(faults, ill) if what]
             runs += len(faults)
-    what = words_of(cut_ill, call, shim, plain)
-    wrong["cut", "on"] = [(CUT, what)] if what else []
     return runs, wrong
 
 
