@@ -1,6 +1,7 @@
-"""A site that keeps its journal is killed so many times at moments chosen by a seed, under eight tills, two dispensers
-and an owner who replaces the rule, and started again on the same file each time. In the end each answered line stands
-in the journal at the number that it was answered with, in the order of its connection, and the audit is legal."""
+"""A site that keeps its journal is killed so many times, each time as long after the first answer as a seed chooses,
+under eight tills, two dispensers and an owner who replaces the rule, and started again on the same file each time. In
+the end each answered line stands in the journal at the number that it was answered with, in the order of its
+connection, and the audit is legal."""
 
 import os
 import random
@@ -60,6 +61,8 @@ def serve_and_kill(fc, kept, synced, wait):
     threads = [threading.Thread(target=until_killed, args=one, daemon=True) for one in work]
     for thread in threads:
         thread.start()
+    while not any(peer.heard for peer, _ in work):
+        time.sleep(0.001)
     time.sleep(wait)
     site.program.send_signal(signal.SIGKILL)
     site.program.wait()
