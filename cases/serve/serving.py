@@ -9,7 +9,7 @@ import subprocess
 import tempfile
 import time
 
-PATIENCE = 30  # seconds that any one wait may take
+PATIENCE = 60  # seconds that any one wait may take, also on a machine that does much else
 
 # Programs of rules: what is asked; 5000; and 1, where that can be added to counter 0.
 AS_ASKED = "79101800000000009500000000000000"
