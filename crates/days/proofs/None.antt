@@ -1,25 +1,24 @@
 -- A text with a flaw isn't that of an opening.
-use Rattle.std.proofs.Common.{◌≡◌, ℕ, ◌<◌, List, [], ◌∷◌, ◌++◌, length, map, eqb, Option, Some, None, Result, Ok, refl}
+use Rattle.std.proofs.Common.{◌≡◌, ℕ, ◌<◌, List, [], ◌∷◌, ◌++◌, length, map, eqb, Some, None, Result, Ok, refl}
 use Rattle.std.proofs.Common.{sym, ◌∙◌, ap, subst, append-nil, length-append, arith, zero, suc, ◌≤◌, ◌⊎◌, inl, inr, lit≤, replicate, min, ◌+◌}
 use Rattle.std.specs.List.{AllByRecursion, join_with_byte, slice_split}
 use Rattle.std.proofs.lemmas.Bool.{cases_lt}
 use Rattle.std.proofs.lemmas.List.Splits.{join_with_byte-slice_split, length-slice_split}
 use Rattle.till_request.specs.declared.act.LineFault.{LineFault}
 use Rattle.reg_types.specs.declared.refusal.Refusal.{Refusal}
-use Rattle.reg_types.specs.RefusedPrograms.{refusal_of}
-use Rattle.bpf_model.specs.Program.{ProgramText}
+use Rattle.bpf_model.specs.Program.{as_loaded}
+use Rattle.bpf_model.specs.declared.context.Layout.{Layout}
 use Rattle.days.specs.declared.file.OpeningFile.{OpeningFile}
 use Rattle.days.specs.declared.file.OpeningFlaw.{OpeningFlaw}
 use Rattle.days.specs.declared.file.OpeningFlaw.TheVariants as flaws
 use Rattle.days.specs.declared.line.Line.{Line}
 use Rattle.days.specs.declared.line.Line.TheVariants as lines
 use Rattle.days.specs.File.{IsOpeningFile}
-use Rattle.days.specs.Ranges.{FileFits}
-use Rattle.days.specs.Flaws.{BeginOne, CannotFollow, HasNoOpening, IsCut, IsFlaw, IsPiece, IsRefusedLine}
+use Rattle.days.specs.Ranges.{FileFits, VersionFits}
+use Rattle.days.specs.Flaws.{BeginOne, CannotFollow, HasNoOpening, HasNoVersion, IsBad, IsCut, IsFlaw, IsPiece, IsRefusedLine}
 use Rattle.days.specs.Parsing.{line_read}
-use Rattle.days.specs.Reading.{AreAllowedInOrder, BadBehind, IsAllowedNext, CutBehind, Flawed, HasRead, IsRefusedIn}
-use Rattle.days.specs.Reading.{ReadingValue, ReadsBack, RefusedBehind, after_line, after_lines, nothing_read}
-use Rattle.days.specs.Reading.{program_in}
+use Rattle.days.specs.Reading.{AreAllowedInOrder, BadBehind, IsAllowedNext, CutBehind, Flawed, HasPlace, HasRead}
+use Rattle.days.specs.Reading.{IsRefusedVersion, ReadingValue, ReadsBack, RefusedBehind, after_line, after_lines, nothing_read}
 use Rattle.days.specs.Text.{line_spelling, opening_lines, opening_text}
 use Rattle.days.proofs.OneLine.{opening_fits, split_text}
 use Rattle.days.proofs.ReadBack.{LineFits, reads_back}
@@ -95,16 +94,39 @@ begins text rest n r has f good fits is =
       spelled = p.2;
     }
 
-bad_none : (text : List ℕ) (n : ℕ) → BadBehind text n → HasNoOpening text
-bad_none text n bad f good fits is =
-    let b : Begins f bad.read.taken bad.rest = begins text bad.rest n bad.r bad.read f good fits is in
-    by_more b.more (subst (λ x. AreAllowedInOrder x b.more) (sym bad.read.is) b.allowed) b.back (b.spelled ∙ bad.next)
+-- no line that can come next after `r` has this spelling and is read back from it
+abbrev IsNoNext : ReadingValue → List ℕ → Type 0
+IsNoNext r piece = (l : Line) → ReadsBack l → line_spelling l ≡ piece → IsAllowedNext r l → ⊥
+
+stuck_none : (text rest line behind : List ℕ) (n : ℕ) (r : ReadingValue) → HasRead text rest n r
+    → slice_split (λ b. eqb b 10) rest ≡ line ∷ slice_split (λ b. eqb b 10) behind → IsNoNext r line → HasNoOpening text
+stuck_none text rest line behind n r has next bad f good fits is =
+    let b : Begins f has.taken rest = begins text rest n r has f good fits is in
+    by_more b.more (subst (λ x. AreAllowedInOrder x b.more) (sym has.is) b.allowed) b.back (b.spelled ∙ next)
   where
-    by_more : (more : List Line) → AreAllowedInOrder bad.r more → AllByRecursion ReadsBack more
-        → map line_spelling more ++ [] ∷ [] ≡ bad.line ∷ slice_split (λ b. eqb b 10) bad.behind → ⊥
-    by_more [] allowed back e = not_none (slice_split (λ b. eqb b 10) bad.behind) [] (pieces bad.behind) (same_tail [] bad.line [] (slice_split (λ b. eqb b 10) bad.behind) e)
+    by_more : (more : List Line) → AreAllowedInOrder r more → AllByRecursion ReadsBack more
+        → map line_spelling more ++ [] ∷ [] ≡ line ∷ slice_split (λ b. eqb b 10) behind → ⊥
+    by_more [] allowed back e = not_none (slice_split (λ b. eqb b 10) behind) [] (pieces behind) (same_tail [] line [] (slice_split (λ b. eqb b 10) behind) e)
     by_more (l ∷ ls) allowed back e =
-        bad.bad l back.0 (same_head (line_spelling l) bad.line (map line_spelling ls ++ [] ∷ []) (slice_split (λ b. eqb b 10) bad.behind) e) allowed.0
+        bad l back.0 (same_head (line_spelling l) line (map line_spelling ls ++ [] ∷ []) (slice_split (λ b. eqb b 10) behind) e) allowed.0
+
+-- if a line can come next, then it has its place there
+placed : (r : ReadingValue) (l : Line) → IsAllowedNext r l → HasPlace r l
+placed r (lines.Day n) c = c
+placed r (lines.Cleared total count) c = c
+placed r (lines.Versions n) c = c
+placed r (lines.Version slot number mask layout bytes) c = (c.0, c.1, c.2, c.3.0, c.3.1, c.4)
+placed r (lines.Price product price) c = c
+placed r (lines.Counter n value bound) c = c
+placed r (lines.Point n s) c = c
+placed r (lines.Unpaid n t) c = c
+placed r (lines.Journal entries digest) c = c
+
+bad_next : (text : List ℕ) (n : ℕ) (it : BadBehind text n) → IsNoNext it.r it.line
+bad_next text n it l back is stands = it.bad l back is (placed it.r l stands)
+
+bad_none : (text : List ℕ) (n : ℕ) → BadBehind text n → HasNoOpening text
+bad_none text n it = stuck_none text it.rest it.line it.behind n it.r it.read it.next (bad_next text n it)
 
 cut_none : (text : List ℕ) (n : ℕ) → CutBehind text n → HasNoOpening text
 cut_none text n cut f good fits is =
@@ -119,28 +141,22 @@ cut_none text n cut f good fits is =
         not_none ([] ∷ []) (map line_spelling ls) (omega arith) (sym (same_tail (line_spelling l) cut.line (map line_spelling ls ++ [] ∷ []) [] e))
 
 -- if the verifier refuses a line's program, then the line can't come next
-refused_stands : (r : ReadingValue) (l : Line) (refusal : Refusal) → IsRefusedIn (program_in l) refusal → IsAllowedNext r l → ⊥
-refused_stands r (lines.Day n) refusal h c = h
-refused_stands r (lines.Cleared total count) refusal h c = h
-refused_stands r (lines.Versions n) refusal h c = h
-refused_stands r (lines.Version slot number mask layout bytes) refusal h c = let none : None ≡ Some refusal = sym c.3.3 ∙ h in absurd (cc)
-refused_stands r (lines.Price product price) refusal h c = h
-refused_stands r (lines.Counter n value bound) refusal h c = h
-refused_stands r (lines.Point n s) refusal h c = h
-refused_stands r (lines.Unpaid n t) refusal h c = h
-refused_stands r (lines.Journal entries digest) refusal h c = h
+refused_stands : (slot : ℕ) (program : List ℕ) (refusal : Refusal) (r : ReadingValue) (l : Line) → IsRefusedVersion slot program refusal l
+    → IsAllowedNext r l → ⊥
+refused_stands slot program refusal r (lines.Day n) h c = h
+refused_stands slot program refusal r (lines.Cleared total count) h c = h
+refused_stands slot program refusal r (lines.Versions n) h c = h
+refused_stands slot program refusal r (lines.Version s number mask layout bytes) h c = let none : None ≡ Some refusal = sym c.3.3 ∙ h.2 in absurd (cc)
+refused_stands slot program refusal r (lines.Price product price) h c = h
+refused_stands slot program refusal r (lines.Counter n value bound) h c = h
+refused_stands slot program refusal r (lines.Point n s) h c = h
+refused_stands slot program refusal r (lines.Unpaid n t) h c = h
+refused_stands slot program refusal r (lines.Journal entries digest) h c = h
 
-refused_none : (text : List ℕ) (n : ℕ) (refusal : Refusal) → RefusedBehind text n refusal → HasNoOpening text
-refused_none text n refusal it =
-    bad_none text n (record {
-      rest = it.rest;
-      r = it.r;
-      read = it.read;
-      line = line_spelling it.line;
-      behind = it.behind;
-      next = it.next;
-      bad = λ l back is stands. refused_stands it.r it.line refusal it.refused (subst (λ x. IsAllowedNext it.r x) (one_line it.line l it.back back is) stands);
-    })
+refused_none : (text : List ℕ) (n slot : ℕ) (program : List ℕ) (refusal : Refusal) → RefusedBehind text n slot program refusal → HasNoOpening text
+refused_none text n slot program refusal it =
+    stuck_none text it.rest (line_spelling it.line) it.behind n it.r it.read it.next
+    (λ l back is stands. refused_stands slot program refusal it.r it.line it.refused (subst (λ x. IsAllowedNext it.r x) (one_line it.line l it.back back is) stands))
 
 -- if the whole text was read, then an opening with this text is the one that was read
 pub one_file : (text : List ℕ) (n : ℕ) (r : ReadingValue) → HasRead text [] n r → (f : OpeningFile) → IsOpeningFile f → FileFits f
@@ -219,7 +235,7 @@ begin_one ls h =
 -- if the piece is no line that can come after the lines `ls`, then no opening's text begins with these lines and has
 -- the piece as its next line
 follows : (ls : List Line) → AllByRecursion ReadsBack ls → (r : ReadingValue) → r ≡ after_lines nothing_read ls → (piece : List ℕ)
-    → ((l : Line) → ReadsBack l → line_spelling l ≡ piece → IsAllowedNext r l → ⊥) → (behind : List (List ℕ)) → CannotFollow ls piece behind
+    → IsNoNext r piece → (behind : List (List ℕ)) → CannotFollow ls piece behind
 follows ls hl r is piece bad behind f good fits next rest e =
     let back : AllByRecursion ReadsBack (opening_lines f) = all_back (opening_lines f) (opening_fits f good fits) in
     let p : (more : List Line) × (opening_lines f ≡ ls ++ more) × (map line_spelling more ++ [] ∷ [] ≡ piece ∷ next ∷ rest) =
@@ -231,32 +247,50 @@ follows ls hl r is piece bad behind f good fits next rest e =
     by_more [] allowed back e = not_none (next ∷ rest) [] (omega arith) (same_tail [] piece [] (next ∷ rest) e)
     by_more (l ∷ ms) allowed back e = bad l back.0 (same_head (line_spelling l) piece (map line_spelling ms ++ [] ∷ []) (next ∷ rest) e) allowed.0
 
-bad_piece : (text : List ℕ) (n : ℕ) → BadBehind text n → IsPiece text n CannotFollow
+-- if the piece is no line that can come next, even with another program in it, then no opening has, after the lines that
+-- were read, a version with the number and the slot of the piece
+version_free : (text rest : List ℕ) (n : ℕ) (r : ReadingValue) (has : HasRead text rest n r) (piece : List ℕ)
+    → ((l : Line) → ReadsBack l → line_spelling l ≡ piece → HasPlace r l → ⊥) → (slot number mask : ℕ) (layout : Layout) (program : List ℕ)
+    → VersionFits (Some (record { number = number; program = as_loaded program mask layout }))
+    → line_spelling (lines.Version slot number mask layout program) ≡ piece → HasNoVersion has.taken slot number
+version_free text rest n r has piece bad slot number mask layout program fits spelled f good mask' layout' program' more e =
+    let line : Line = lines.Version slot number mask layout program in
+    let other : Line = lines.Version slot number mask' layout' program' in
+    let allowed : AreAllowedInOrder (after_lines nothing_read has.taken) (other ∷ more) =
+    stand_rest nothing_read has.taken (other ∷ more) (subst (λ ls. AreAllowedInOrder nothing_read ls) e (opening_leads f good).allowed) in
+    let place : HasPlace r line = subst (λ x. HasPlace x line) (sym has.is) (placed (after_lines nothing_read has.taken) other allowed.0) in
+    let few : r.file.opening.versions ≤ 4290000000 =
+    subst (λ (x : ReadingValue). x.file.opening.versions ≤ 4290000000) (sym has.is) (all_gone nothing_read has.taken nothing_is has.allowed).is.versions in
+    bad line (reads_back line (omega (arith, place.2), omega (arith, place.4, few), fits.0, fits.1)) spelled place
+
+bad_piece : (text : List ℕ) (n : ℕ) → BadBehind text n → IsPiece text n IsBad
 bad_piece text n bad = record {
   before = bad.read.taken;
   begin_one = begin_one bad.read.taken bad.read.allowed;
+  back = bad.read.back;
   piece = bad.line;
   behind = slice_split (λ b. eqb b 10) bad.behind;
   pieces_are = bad.read.split ∙ ap (λ ws. map line_spelling bad.read.taken ++ ws) bad.next;
   number_is = bad.read.number_is;
-  so = follows bad.read.taken bad.read.back bad.r bad.read.is bad.line bad.bad (slice_split (λ b. eqb b 10) bad.behind);
+  so = (
+    pieces bad.behind,
+    follows bad.read.taken bad.read.back bad.r bad.read.is bad.line (bad_next text n bad) (slice_split (λ b. eqb b 10) bad.behind),
+    version_free text bad.rest n bad.r bad.read bad.line bad.bad,
+  );
 }
 
--- if a line is read back from its spelling, then its spelling isn't empty
-empty_line : (l : Line) → ReadsBack l → line_spelling l ≡ [] → ⊥
-empty_line l back is = let e : line_read [] ≡ Ok l = ap line_read (sym is) ∙ back in absurd (cc)
-
-pub short_is : (text : List ℕ) (n : ℕ) (r : ReadingValue) → HasRead text [] n r → ¬ (r.next ≡ 61) → IsFlaw text (flaws.BadLine n)
+pub short_is : (text : List ℕ) (n : ℕ) (r : ReadingValue) → HasRead text [] n r → ¬ (r.next ≡ 61) → IsFlaw text (flaws.Ends n)
 short_is text n r has open_yet = (
   short_none text n r has open_yet,
   record {
     before = has.taken;
     begin_one = begin_one has.taken has.allowed;
+    back = has.back;
     piece = [];
     behind = [];
     pieces_are = has.split;
     number_is = has.number_is;
-    so = follows has.taken has.back r has.is [] (λ l back is stands. empty_line l back is) [];
+    so = (refl, refl);
   },
 )
 
@@ -265,6 +299,7 @@ cut_piece text n cut =
     let whole : cut.rest ≡ cut.line = sym (join_with_byte-slice_split 10 cut.rest) ∙ ap (join_with_byte 10) cut.cut in record {
       before = cut.read.taken;
       begin_one = begin_one cut.read.taken cut.read.allowed;
+      back = cut.read.back;
       piece = cut.line;
       behind = [];
       pieces_are = cut.read.split ∙ ap (λ ws. map line_spelling cut.read.taken ++ ws) cut.cut;
@@ -272,23 +307,23 @@ cut_piece text n cut =
       so = (refl, subst (λ w. 0 < length w) whole cut.some);
     }
 
-program_refused : (p : Option ProgramText) (refusal : Refusal) → IsRefusedIn p refusal → (q : ProgramText) × (p ≡ Some q) × (refusal_of q ≡ Some refusal)
-program_refused None refusal h = absurd h
-program_refused (Some p) refusal h = (p, refl, h)
-
-refused_piece : (text : List ℕ) (n : ℕ) (refusal : Refusal) → RefusedBehind text n refusal → IsPiece text n (IsRefusedLine refusal)
-refused_piece text n refusal it = record {
+refused_piece : (text : List ℕ) (n slot : ℕ) (program : List ℕ) (refusal : Refusal) → RefusedBehind text n slot program refusal
+    → IsPiece text n (IsRefusedLine slot program refusal)
+refused_piece text n slot program refusal it = record {
   before = it.read.taken;
   begin_one = begin_one it.read.taken it.read.allowed;
+  back = it.read.back;
   piece = line_spelling it.line;
   behind = slice_split (λ b. eqb b 10) it.behind;
   pieces_are = it.read.split ∙ ap (λ ws. map line_spelling it.read.taken ++ ws) it.next;
   number_is = it.read.number_is;
-  so = (it.line, refl, program_refused (program_in it.line) refusal it.refused);
+  so = (pieces it.behind, (it.line, refl, it.refused));
 }
 
 pub flaw_is : (text : List ℕ) (flaw : OpeningFlaw) → Flawed text flaw → IsFlaw text flaw
 flaw_is text (flaws.BadLine n) h = (bad_none text n h, bad_piece text n h)
+flaw_is text (flaws.Ends n) h = absurd h
 flaw_is text (flaws.CutLine n) h = (cut_none text n h, cut_piece text n h)
-flaw_is text (flaws.BadProgram n refusal) h = (refused_none text n refusal h, refused_piece text n refusal h)
+flaw_is text (flaws.BadProgram n slot program refusal) h =
+    (refused_none text n slot program.items refusal h, refused_piece text n slot program.items refusal h)
 flaw_is text flaws.OutOfMemory h = tt

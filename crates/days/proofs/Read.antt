@@ -7,8 +7,8 @@ use Rattle.std.proofs.lemmas.List.{map-append}
 use Rattle.days.specs.declared.line.Line.{Line}
 use Rattle.days.specs.declared.file.OpeningFlaw.{OpeningFlaw}
 use Rattle.days.specs.declared.file.OpeningFlaw.TheVariants as flaws
-use Rattle.days.specs.Reading.{AreAllowedInOrder, IsAllowedNext, Flawed, HasRead, IsRefusedIn, Takes}
-use Rattle.days.specs.Reading.{program_in, ReadingValue, ReadsBack, after_line, after_lines, nothing_read}
+use Rattle.days.specs.Reading.{AreAllowedInOrder, IsAllowedNext, Flawed, HasRead, IsRefusedVersion, Takes}
+use Rattle.days.specs.Reading.{ReadingValue, ReadsBack, after_line, after_lines, nothing_read}
 use Rattle.days.specs.Text.{line_spelling}
 
 stand_more : (r : ReadingValue) (ls : List Line) (l : Line) → AreAllowedInOrder r ls → IsAllowedNext (after_lines r ls) l → AreAllowedInOrder r (ls ++ l ∷ [])
@@ -61,9 +61,10 @@ line_flawed (flaws.BadLine m) text rest behind bytes n r new has next h = record
   next = next;
   bad = h.1;
 }
+line_flawed (flaws.Ends m) text rest behind bytes n r new has next h = absurd h
 line_flawed (flaws.CutLine m) text rest behind bytes n r new has next h = absurd h
-line_flawed (flaws.BadProgram m refusal) text rest behind bytes n r new has next h =
-    let found : (line : Line) × (line_spelling line ≡ bytes) × ReadsBack line × IsRefusedIn (program_in line) refusal = h.1 in record {
+line_flawed (flaws.BadProgram m slot program refusal) text rest behind bytes n r new has next h =
+    let found : (line : Line) × (line_spelling line ≡ bytes) × ReadsBack line × IsRefusedVersion slot program.items refusal line = h.1 in record {
       rest = rest;
       r = r;
       read = subst (λ k. HasRead text rest k r) (sym h.0) has;

@@ -1,6 +1,6 @@
 -- Promises: how an opening is read line by line: which line can come next, and what has been read once it is taken.
 use Rattle.std.specs.Prelude.{◌≡◌, ◌==◌, ℕ, ◌+◌, ◌-◌, ◌≤◌, ◌<◌, ◌^◌, List, [], ◌∷◌, ◌++◌}
-use Rattle.std.specs.Prelude.{length, map, min, replicate, slice_set, slice_index_or, Option, Some, None, Result, Ok, Err}
+use Rattle.std.specs.Prelude.{length, map, min, replicate, slice_set, slice_index_or, Some, None, Result, Ok, Err}
 use Rattle.std.specs.List.{AllByRecursion, slice_split}
 use Rattle.bpf_model.specs.Program.{ProgramText, as_loaded, IsGood}
 use Rattle.fuelling_point.specs.declared.kinds.Transaction.{Transaction}
@@ -95,46 +95,49 @@ after_line r (lines.Unpaid n t) =
     (record r.file.opening { points = slice_set r.file.opening.points (n - 1) (with_unpaid (point_at r.file.opening.points n) t) })
 after_line r (lines.Journal entries digest) = record { next = 61; file = record r.file { entries = entries; digest = digest } }
 
--- The program in a line, or None if the line has no program.
-abbrev pub program_in : Line → Option ProgramText
-program_in (lines.Version slot number mask layout bytes) = Some (as_loaded bytes mask layout)
-program_in line = None
+-- The line is that of a version in this slot, with a program of these bytes, which the verifier refuses for this reason.
+abbrev pub IsRefusedVersion : ℕ → List ℕ → Refusal → Line → Type 0
+IsRefusedVersion slot program refusal (lines.Version s number mask layout bytes) =
+    (s ≡ slot) × (bytes ≡ program) × (refusal_of (as_loaded bytes mask layout) ≡ Some refusal)
+IsRefusedVersion slot program refusal line = ⊥
 
--- There is a program, and the verifier refuses it for this reason.
-abbrev pub IsRefusedIn : Option ProgramText → Refusal → Type 0
-IsRefusedIn None refusal = ⊥
-IsRefusedIn (Some p) refusal = refusal_of p ≡ Some refusal
-
--- Taking the line needs memory. Either it is a point's line that can come next. Or it is a version's line that meets
--- all conditions to come next, except perhaps the condition that the verifier accepts its program.
-abbrev pub TakesMemory : ReadingValue → Line → Type 0
-TakesMemory r (lines.Version slot number mask layout bytes) =
+-- The line can come next, except perhaps that the verifier refuses its program.
+abbrev pub HasPlace : ReadingValue → Line → Type 0
+HasPlace r (lines.Version slot number mask layout bytes) =
     (3 ≤ r.next) × (r.next ≤ 3 + slot) × (slot < 16) × (1 ≤ number) × (number ≤ r.file.opening.versions) × IsNewNumber r.file.opening.rules number
-TakesMemory r (lines.Point n s) = IsAllowedNext r (lines.Point n s)
+HasPlace r line = IsAllowedNext r line
+
+-- Taking the line needs memory: it is that of a version or of a point, and has its place here.
+abbrev pub TakesMemory : ReadingValue → Line → Type 0
+TakesMemory r (lines.Version slot number mask layout bytes) = HasPlace r (lines.Version slot number mask layout bytes)
+TakesMemory r (lines.Point n s) = HasPlace r (lines.Point n s)
 TakesMemory r line = ⊥
 
 -- What the result of taking a line means. After an error nothing is claimed of `new`.
 -- - Ok: the line could come next, and `new` is what has been read once the line is taken.
--- - `Misplaced`: the line couldn't come next.
+-- - `Misplaced`: the line couldn't come next, even if it had another program.
 -- - `Refused`: the line could come next if the verifier accepted its program, but the verifier refuses it.
 -- - `OutOfMemory`: taking the line needs memory (`TakesMemory`).
 abbrev pub Steps : ReadingValue → Line → Result (Unit {0}) StepFault → ReadingValue → Type 0
 Steps old line (Ok u) new = IsAllowedNext old line × (new ≡ after_line old line)
-Steps old line (Err Misplaced) new = IsAllowedNext old line → ⊥
-Steps old line (Err (Refused refusal)) new = TakesMemory old line × IsRefusedIn (program_in line) refusal
+Steps old line (Err Misplaced) new = HasPlace old line → ⊥
+Steps old line (Err (Refused slot program refusal)) new = TakesMemory old line × IsRefusedVersion slot program.items refusal line
 Steps old line (Err OutOfMemory) new = TakesMemory old line
 
--- What the result of verifying the program `p` means.
+-- The fault is right for the line of a version in this slot with the program `p`: the verifier refuses `p` for the
+-- reason in the fault, or memory ran out.
+abbrev pub RefusesVersion : ℕ → ProgramText → StepFault → Type 0
+RefusesVersion slot p Misplaced = ⊥
+RefusesVersion slot p (Refused s program refusal) = (slot ≡ s) × (p.bytes ≡ program.items) × (refusal_of p ≡ Some refusal)
+RefusesVersion slot p OutOfMemory = Unit {0}
+
+-- What the result of verifying the program `p` for this slot means.
 -- - Ok: the result is the version with this number and `p`. The verifier accepts `p`. The runs of `p` end and are never
 --   stuck, as `IsGood` says.
--- - `Refused`: the verifier refuses `p` for this reason.
--- - `OutOfMemory`: nothing is claimed.
--- The result is never `Misplaced`.
-abbrev pub Verified : ℕ → ProgramText → Result Version StepFault → Type 0
-Verified number p (Ok v) = (v ≡ record { number = number; program = p }) × IsGood p × (refusal_of p ≡ None)
-Verified number p (Err Misplaced) = ⊥
-Verified number p (Err (Refused refusal)) = refusal_of p ≡ Some refusal
-Verified number p (Err OutOfMemory) = Unit {0}
+-- - Err: the fault is right (`RefusesVersion`).
+abbrev pub Verified : ℕ → ℕ → ProgramText → Result Version StepFault → Type 0
+Verified slot number p (Ok v) = (v ≡ record { number = number; program = p }) × IsGood p × (refusal_of p ≡ None)
+Verified slot number p (Err fault) = RefusesVersion slot p fault
 
 -- Each of the lines can come next after what has been read and the lines before it.
 abbrev pub AreAllowedInOrder : ReadingValue → List Line → Type 0
@@ -156,21 +159,24 @@ ReadsBack line = line_read (line_spelling line) ≡ Ok line
 abbrev pub LineFound : List ℕ → Result Line StepFault → Type 0
 LineFound bytes (Ok line) = (line_spelling line ≡ bytes) × ReadsBack line
 LineFound bytes (Err Misplaced) = (line : Line) → ReadsBack line → line_spelling line ≡ bytes → ⊥
-LineFound bytes (Err (Refused refusal)) = ⊥
+LineFound bytes (Err (Refused slot program refusal)) = ⊥
 LineFound bytes (Err OutOfMemory) = Unit {0}
 
--- What the result of taking line `number` of a text means. `bytes` is the line's bytes. The result is never `CutLine`.
+-- What the result of taking line `number` of a text means. `bytes` is the line's bytes. The result is never `Ends` or
+-- `CutLine`.
 -- - Ok: the line was taken, and `new` is what has then been read.
--- - `BadLine` with `number`: these bytes aren't the spelling of a line that can come next and is read back from them.
+-- - `BadLine` with `number`: these bytes aren't the spelling of a line that can come next (even if it had another
+--   program) and is read back from them.
 -- - `BadProgram` with `number`: the verifier refuses the line's program.
 -- - `OutOfMemory`: nothing is claimed.
 abbrev pub Takes : ℕ → List ℕ → ReadingValue → Result (Unit {0}) OpeningFlaw → ReadingValue → Type 0
 Takes number bytes old (Ok u) new = (line : Line) × (line_spelling line ≡ bytes) × ReadsBack line × IsAllowedNext old line × (new ≡ after_line old line)
 Takes number bytes old (Err (flaws.BadLine n)) new =
-    (n ≡ number) × ((line : Line) → ReadsBack line → line_spelling line ≡ bytes → IsAllowedNext old line → ⊥)
+    (n ≡ number) × ((line : Line) → ReadsBack line → line_spelling line ≡ bytes → HasPlace old line → ⊥)
+Takes number bytes old (Err (flaws.Ends n)) new = ⊥
 Takes number bytes old (Err (flaws.CutLine n)) new = ⊥
-Takes number bytes old (Err (flaws.BadProgram n refusal)) new =
-    (n ≡ number) × ((line : Line) × (line_spelling line ≡ bytes) × ReadsBack line × IsRefusedIn (program_in line) refusal)
+Takes number bytes old (Err (flaws.BadProgram n slot program refusal)) new =
+    (n ≡ number) × ((line : Line) × (line_spelling line ≡ bytes) × ReadsBack line × IsRefusedVersion slot program.items refusal line)
 Takes number bytes old (Err flaws.OutOfMemory) new = Unit {0}
 
 -- The text was read line by line, up to `rest`. Reading the spelling of each of these lines gives that line back, and
@@ -185,7 +191,7 @@ pub record HasRead (text rest : List ℕ) (number : ℕ) (r : ReadingValue) : Ty
   pub number_is : number ≡ min (length taken + 1) 4294967295
 
 -- The lines before line `number` of the text were read, and the bytes of that line aren't the spelling of a line that
--- can come next. A number above 4,294,967,295 is given as 4,294,967,295.
+-- can come next, even if it had another program. A number above 4,294,967,295 is given as 4,294,967,295.
 pub record BadBehind (text : List ℕ) (number : ℕ) : Type 0 where
   pub rest : List ℕ
   pub r : ReadingValue
@@ -193,7 +199,7 @@ pub record BadBehind (text : List ℕ) (number : ℕ) : Type 0 where
   pub line : List ℕ
   pub behind : List ℕ
   pub next : slice_split (λ b. b == 10) rest ≡ line ∷ slice_split (λ b. b == 10) behind
-  pub bad : (l : Line) → ReadsBack l → line_spelling l ≡ line → IsAllowedNext r l → ⊥
+  pub bad : (l : Line) → ReadsBack l → line_spelling l ≡ line → HasPlace r l → ⊥
 
 -- Line `number` of the text is cut off: the lines before it were read, and after them there are bytes without an LF. A
 -- number above 4,294,967,295 is given as 4,294,967,295.
@@ -205,9 +211,9 @@ pub record CutBehind (text : List ℕ) (number : ℕ) : Type 0 where
   pub line : List ℕ
   pub cut : slice_split (λ b. b == 10) rest ≡ line ∷ []
 
--- The lines before line `number` of the text were read, and the verifier refuses the program of that line for this
--- reason. A number above 4,294,967,295 is given as 4,294,967,295.
-pub record RefusedBehind (text : List ℕ) (number : ℕ) (refusal : Refusal) : Type 0 where
+-- The lines before line `number` of the text were read, and that line is that of a version in this slot, with a program
+-- of these bytes, which the verifier refuses for this reason. A number above 4,294,967,295 is given as 4,294,967,295.
+pub record RefusedBehind (text : List ℕ) (number slot : ℕ) (program : List ℕ) (refusal : Refusal) : Type 0 where
   pub rest : List ℕ
   pub r : ReadingValue
   pub read : HasRead text rest number r
@@ -215,11 +221,13 @@ pub record RefusedBehind (text : List ℕ) (number : ℕ) (refusal : Refusal) : 
   pub behind : List ℕ
   pub next : slice_split (λ b. b == 10) rest ≡ line_spelling line ∷ slice_split (λ b. b == 10) behind
   pub back : ReadsBack line
-  pub refused : IsRefusedIn (program_in line) refusal
+  pub refused : IsRefusedVersion slot program refusal line
 
--- The text has this flaw in the line that the flaw names. If memory ran out, nothing is claimed.
+-- The text has this flaw in the line that the flaw names. The flaw isn't `Ends`, of which no line of the text shows
+-- anything. If memory ran out, nothing is claimed.
 abbrev pub Flawed : List ℕ → OpeningFlaw → Type 0
 Flawed text (flaws.BadLine n) = BadBehind text n
+Flawed text (flaws.Ends n) = ⊥
 Flawed text (flaws.CutLine n) = CutBehind text n
-Flawed text (flaws.BadProgram n refusal) = RefusedBehind text n refusal
+Flawed text (flaws.BadProgram n slot program refusal) = RefusedBehind text n slot program.items refusal
 Flawed text flaws.OutOfMemory = Unit {0}

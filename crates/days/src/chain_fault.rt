@@ -2,7 +2,7 @@
 use crate::beginning::Unfit;
 use crate::file::{OpeningFlaw, Uncarried};
 use decision_journal::JournalFault;
-use site_core::{AuditFault, Config};
+use site_core::EntryFlaw;
 
 /// Why a day leaves no opening for the next day.
 #[derive(Clone, Copy)]
@@ -29,9 +29,8 @@ pub enum Unbegun {
     NoOpening,
     /// The day is day 1, and yet it has an opening: one is given for it, or its configuration has one.
     HasOpening,
-    /// The bytes that are given as the opening, and why they couldn't be read: they aren't the text of an opening, or
-    /// memory ran out.
-    Flawed(Vec<u8>, OpeningFlaw),
+    /// Why the opening couldn't be read: its bytes aren't the text of an opening, or memory ran out.
+    Flawed(OpeningFlaw),
     /// The opening is one for another day, which has this number.
     OtherDay(u32),
     /// No site of the configuration begins with the opening, or memory ran out.
@@ -43,11 +42,10 @@ pub enum Unbegun {
 pub enum Unclosed<J> {
     /// The device of the journal, and why no journal could be read from it.
     Text(J, JournalFault),
-    /// The configuration that the day's site begins with, and why this site can't have the entries of the journal.
-    History(Config, AuditFault),
-    /// Memory ran out before anything of the journal was read. The value is the device of the journal, if the day has a
-    /// journal.
-    OutOfMemory(Option<J>),
+    /// What is wrong with the first entry of the journal that the day's site can't have.
+    History(EntryFlaw),
+    /// Memory ran out for a day without a journal.
+    OutOfMemory,
 }
 
 /// Why days don't follow one another, or why it isn't known whether they do: a day couldn't be read (`Unread`), the

@@ -16,17 +16,24 @@ pub struct OpeningFile {
     pub digest: [u8; 32],
 }
 
-/// Why bytes couldn't be read as the text of an opening. If a case has a number, it is that of a line, counted from 1;
-/// a number above 4,294,967,295 is given as 4,294,967,295.
-#[derive(Clone, Copy)]
+/// Why bytes couldn't be read as the text of an opening. Lines are counted from 1; a line's number above 4,294,967,295
+/// is given as 4,294,967,295.
+#[derive(Drop)]
 pub enum OpeningFlaw {
-    /// The lines before this line are the beginning of some opening's text, but no opening's text goes on with this
-    /// line. If the text ends too early, the number is that of the last line plus 1.
+    /// J1: the lines before this line are the beginning of some opening's text, but no opening's text goes on with this
+    /// line.
     BadLine(u32),
-    /// The last line has no LF.
+    /// J1: the text ends before this line, which an opening would have.
+    Ends(u32),
+    /// J2: the last line, which has this number, has no LF.
     CutLine(u32),
-    /// The verifier refuses the program of this line.
-    BadProgram(u32, Refusal),
+    /// F2: the verifier refuses the program in this line: the slot, the program's bytes, and the refusal.
+    BadProgram {
+        line: u32,
+        slot: u32,
+        program: Vec<u8>,
+        refusal: Refusal,
+    },
     OutOfMemory,
 }
 

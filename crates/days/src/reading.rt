@@ -64,12 +64,23 @@ fn take_line(
         Ok(line) => line,
         Err(StepFault::OutOfMemory) => return Err(OpeningFlaw::OutOfMemory),
         Err(StepFault::Misplaced) => return Err(OpeningFlaw::BadLine(number)),
-        Err(StepFault::Refused(_)) => unreachable!(),
+        Err(StepFault::Refused { .. }) => unreachable!(),
     };
     match reading.take(&line) {
         Ok(()) => Ok(()),
         Err(StepFault::Misplaced) => Err(OpeningFlaw::BadLine(number)),
-        Err(StepFault::Refused(refusal)) => Err(OpeningFlaw::BadProgram(number, refusal)),
+        Err(
+            StepFault::Refused {
+                slot,
+                program,
+                refusal,
+            },
+        ) => Err(OpeningFlaw::BadProgram {
+            line: number,
+            slot,
+            program,
+            refusal,
+        }),
         Err(StepFault::OutOfMemory) => Err(OpeningFlaw::OutOfMemory),
     }
 }
@@ -105,8 +116,8 @@ fn read_lines(alloc: Global, reading: &mut Reading, text: &[u8]) -> Result<u32, 
 /// The error is the first flaw in the text, or that memory ran out:
 ///
 /// - `BadLine`, with the number of the first wrong line: the lines before it are the beginning of some opening's text,
-///   but no opening's text goes on with this line. If the text ends too early, the number is that of the last line
-///   plus 1.
+///   but no opening's text goes on with this line, not even with another program in it
+/// - `Ends`, with the number of the last line plus 1: the text ends too early
 /// - `CutLine`: the last line has no LF
 /// - `BadProgram`: the verifier refuses the program of a line
 /// - `OutOfMemory`: memory ran out
@@ -125,7 +136,7 @@ pub fn read_opening(alloc: Global, text: &[u8]) -> Result<OpeningFile, OpeningFl
         Err(flaw) => return Err(flaw),
     };
     if !reading.is_complete() {
-        return Err(OpeningFlaw::BadLine(number));
+        return Err(OpeningFlaw::Ends(number));
     }
     let file = reading.finish();
     // This call tells the prover that the numbers in `file` are in the ranges of their types.

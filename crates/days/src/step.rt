@@ -2,9 +2,10 @@
 
 ghost use Rattle.std.specs.Prelude.{◌≡◌, ◌↔◌, ◌≤◌, ◌∷◌, [], All};
 ghost use Rattle.std.specs.Prelude.{IfOk, IfSome, IsTrue, None, is_some, replicate};
-ghost use Rattle.bpf_model.specs.Program.{as_loaded};
+ghost use Rattle.bpf_model.specs.Program.{ProgramText, as_loaded};
 ghost use Rattle.fuelling_point.specs.Snapshot.{IsPointState};
-ghost use Rattle.days.specs.Reading.{Steps, Verified, nothing_read, with_unpaid};
+ghost use Rattle.reg_types.specs.RefusedPrograms.{IsRefusal, refusal_of};
+ghost use Rattle.days.specs.Reading.{RefusesVersion, Steps, Verified, nothing_read, with_unpaid};
 
 use crate::file::OpeningFile;
 use crate::line::Line;
@@ -50,13 +51,17 @@ const POINTS_AT: u32 = 59;
 const END_AT: u32 = 60;
 
 /// Why a line isn't added to a `Reading`.
-#[derive(Clone, Copy)]
+#[derive(Drop)]
 pub(crate) enum StepFault {
     /// The bytes that were read spell no line, the line can't come next, or one of its values isn't allowed after the
     /// lines before it.
     Misplaced,
-    /// The verifier refuses the line's program.
-    Refused(Refusal),
+    /// The verifier refuses the line's program: the slot, the program's bytes, and the refusal.
+    Refused {
+        slot: u32,
+        program: Vec<u8>,
+        refusal: Refusal,
+    },
     OutOfMemory,
 }
 
@@ -220,7 +225,7 @@ impl Reading {
         if number < 1 || number > self.versions || !is_new_number(&self.rules, number) {
             return Err(StepFault::Misplaced);
         }
-        let version = verified(self.alloc, number, mask, layout, bytes)?;
+        let version = verified(self.alloc, slot as u32, number, mask, layout, bytes)?;
         self.rules[slot as usize] = Some(version);
         self.next = SLOTS_AT + slot as u32 + 1;
         Ok(())
@@ -344,26 +349,42 @@ fn has_none(unpaid: &[Option<Transaction>; 2]) -> bool
 
 /// Verifies the program in `bytes`, and returns it as the version with this number. `mask` is the set of the counters
 /// that the program declares, and `layout` is the form of the record that it starts with. The error is that the
-/// verifier refuses the program, or that memory ran out.
+/// verifier refuses the program, which is for `slot`, or that memory ran out.
 fn verified(
     alloc: Global,
+    slot: u32,
     number: u32,
     mask: u32,
     layout: Layout,
     bytes: &[u8],
 ) -> Result<Version, StepFault>
-    ensures { Verified number (as_loaded bytes.now mask layout) result }
+    ensures { Verified slot number (as_loaded bytes.now mask layout) result }
 {
     let program = match verify(alloc, bytes, mask, layout) {
         Ok(program) => program,
-        Err(Refusal::OutOfMemory) => return Err(StepFault::OutOfMemory),
-        Err(Refusal::Decode(fault)) => return Err(StepFault::Refused(Refusal::Decode(fault))),
-        Err(Refusal::Flow(fault)) => return Err(StepFault::Refused(Refusal::Flow(fault))),
-        Err(Refusal::Type(fault)) => return Err(StepFault::Refused(Refusal::Type(fault))),
+        Err(refusal) => return Err(refused(alloc, slot, bytes, refusal)),
     };
     match Arc::new(alloc, program) {
         Ok(program) => Ok(Version { number, program }),
         Err(_) => Err(StepFault::OutOfMemory),
+    }
+}
+
+/// Returns the fault that the verifier refuses the program in these bytes, or that memory ran out.
+fn refused(alloc: Global, slot: u32, bytes: &[u8], refusal: Refusal) -> StepFault
+    ensures { (p : ProgramText) → p.bytes ≡ bytes.now → IsRefusal (refusal_of p) refusal
+        → RefusesVersion slot p result }
+{
+    match refusal {
+        Refusal::OutOfMemory => StepFault::OutOfMemory,
+        Refusal::Decode(_) | Refusal::Flow(_) | Refusal::Type(_) => match bytes.to_vec(alloc) {
+            Ok(program) => StepFault::Refused {
+                slot,
+                program,
+                refusal,
+            },
+            Err(_) => StepFault::OutOfMemory,
+        },
     }
 }
 

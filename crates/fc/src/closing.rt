@@ -1,34 +1,28 @@
-//! Messages about a served site that couldn't be closed.
-use site_files::faults::{once_printed, print_fault, refuse, report_out_of_memory};
-use site_files::{FAILED, Place, REFUSED};
+//! Why a served site couldn't be closed.
+use site_files::{FAILED, JobError, Place};
 use site_server::{CloseRefusal, ServeFault};
+use std::alloc::Global;
 
-/// Prints why a site can't be closed, and returns the exit status. `config_name` names the configuration's file.
-fn refuse_close(rt: &HostRuntime, config_name: &str, why: CloseRefusal) -> u8 {
+/// Makes the error for a site that can't be closed. `config_name` names the configuration's file.
+fn refuse_close(alloc: Global, config_name: &str, why: CloseRefusal) -> JobError {
     let place = Place::of(config_name);
     match why {
-        CloseRefusal::PassMissing => {
-            print_fault(rt, place, &why, "C1");
-            refuse(rt, "C1")
-        }
+        CloseRefusal::PassMissing => JobError::refused(alloc, place, &why, "C1"),
         CloseRefusal::NotInHistory(pass, number) => {
-            print_fault(rt, place, &why, "C2");
-            once_printed(rt, println!(rt; "C2 {pass} {number}"), REFUSED)
+            let line = format_args!("C2 {pass} {number}");
+            JobError::refused_as(alloc, place, &why, "C2", &line)
         }
-        CloseRefusal::OtherConfig => {
-            print_fault(rt, place, &why, "C3");
-            refuse(rt, "C3")
-        }
+        CloseRefusal::OtherConfig => JobError::refused(alloc, place, &why, "C3"),
     }
 }
 
-/// Prints why a served site wasn't closed, and returns the exit status. `config_name` names the configuration's file.
-pub fn report_unclosed(rt: &HostRuntime, config_name: &str, why: ServeFault) -> u8 {
+/// Makes the error for a served site that wasn't closed. `config_name` names the configuration's file.
+pub fn unclosed(alloc: Global, config_name: &str, why: ServeFault) -> JobError {
     match why {
-        ServeFault::NotClosed(why) => refuse_close(rt, config_name, why),
-        ServeFault::OutOfMemory => report_out_of_memory(rt),
+        ServeFault::NotClosed(why) => refuse_close(alloc, config_name, why),
+        ServeFault::OutOfMemory => JobError::OutOfMemory,
         // This case never happens: the journal `NoJournal` can't fail, and with another journal the caller handles this
         // fault itself.
-        ServeFault::Journal => FAILED,
+        ServeFault::Journal => JobError::silent(alloc, FAILED),
     }
 }

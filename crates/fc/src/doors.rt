@@ -1,10 +1,9 @@
 //! The doors of a served site: the ports and sockets where its tills, its dispensers and the owner connect.
 use crate::sockets::{Listening, SocketFile, StagingFolder, listen_at};
 use site_config::{Address, Door};
-use site_files::faults::{print_message, print_message_at};
 use site_files::{FAILED, JobError, Place};
 use site_server::{Listener, OpenDoor};
-use std::alloc::AllocError;
+use std::alloc::{AllocError, Global};
 use std::fmt::{self, Display};
 use std::fs::Files;
 use std::io::{self, ErrorKind};
@@ -119,48 +118,30 @@ fn mode_of(role: Role) -> u32 {
     }
 }
 
-/// Prints why the socket of `door` can't be opened, and returns `AlreadyReported` with the exit status. If memory ran
-/// out in this program (not in the system), prints nothing, and returns `Failed`. `config_name` names the
-/// configuration's file.
-fn refuse_socket(rt: &HostRuntime, config_name: &str, door: &Door, error: io::Error) -> JobError {
+/// Makes the error for a socket of `door` that can't be opened. `config_name` names the configuration's file.
+fn refuse_socket(alloc: Global, config_name: &str, door: &Door, error: io::Error) -> JobError {
     if error.kind() == ErrorKind::OutOfMemory && error.raw_os_error().is_none() {
-        return JobError::Failed(error);
+        return JobError::OutOfMemory;
     }
-    let key = &door.place;
-    print_message_at(rt, Place::of(config_name), &format_args!("{key}: {error}"));
-    JobError::AlreadyReported(FAILED)
+    let words = format_args!("{}: {error}", door.place);
+    JobError::at(alloc, Place::of(config_name), &words, FAILED)
 }
 
-/// Prints that `folder`, in which the socket of `door` is to be bound, can't be made, since something else is there.
-/// Returns `AlreadyReported` with the exit status. `config_name` names the configuration's file.
+/// Makes the error for a socket of `door` which is to be bound in a folder that can't be made, since something else is
+/// there. `config_name` names the configuration's file.
 fn refuse_folder(
-    rt: &HostRuntime,
+    alloc: Global,
     config_name: &str,
     door: &Door,
     folder: StagingFolder<'_>,
 ) -> JobError {
-    let key = &door.place;
-    let words = format_args!("{key}: {folder} is in the way");
-    print_message_at(rt, Place::of(config_name), &words);
-    JobError::AlreadyReported(FAILED)
+    let words = format_args!("{}: {folder} is in the way", door.place);
+    JobError::at(alloc, Place::of(config_name), &words, FAILED)
 }
 
-/// Prints why a port can't be opened. Returns `AlreadyReported` with the exit status.
-pub fn refuse_port(rt: &HostRuntime, port: u32, error: io::Error) -> JobError {
-    print_message(rt, &format_args!("port {port}: {error}"));
-    JobError::AlreadyReported(FAILED)
-}
-
-/// Opens a port. If it can't be opened, prints why; the error has the exit status.
-fn open_port<H: Net<Listener = TcpListener, Stream = TcpStream>>(
-    rt: &HostRuntime,
-    host: &H,
-    port: u32,
-) -> Result<Listener, JobError> {
-    match Listener::on_port(host, port) {
-        Ok(listener) => Ok(listener),
-        Err(error) => Err(refuse_port(rt, port, error)),
-    }
+/// Makes the error for a port that can't be opened.
+pub fn refuse_port(alloc: Global, port: u32, error: io::Error) -> JobError {
+    JobError::message(alloc, &format_args!("port {port}: {error}"), FAILED)
 }
 
 impl<'a> BoundDoors<'a> {
@@ -180,9 +161,8 @@ impl<'a> BoundDoors<'a> {
         self.add(door, Listener::Socket(listener))
     }
 
-    /// Opens `door`, and adds it to `self.doors`. Adds a socket's file to `self.files`. If the door can't be opened,
-    /// prints why, and returns `AlreadyReported` with the exit status. The error `Failed` means that memory ran out,
-    /// which isn't printed yet.
+    /// Opens `door`, and adds it to `self.doors`. Adds a socket's file to `self.files`. The error is that the door
+    /// can't be opened.
     fn open<H: Files + Net<Listener = TcpListener, Stream = TcpStream>>(
         &mut self,
         rt: &'a HostRuntime,
@@ -191,18 +171,20 @@ impl<'a> BoundDoors<'a> {
         door: &'a Door,
     ) -> Result<(), JobError> {
         match &door.address {
-            Address::Port(port) => Ok(self.add(door, open_port(rt, host, *port)?)?),
+            Address::Port(port) => match Listener::on_port(host, *port) {
+                Ok(listener) => Ok(self.add(door, listener)?),
+                Err(error) => Err(refuse_port(rt.alloc(), *port, error)),
+            },
             Address::Socket(path) => match listen_at(rt, host, path, mode_of(door.role)) {
                 Ok(Some(listening)) => Ok(self.add_socket(door, listening)?),
-                Ok(None) => Err(refuse_folder(rt, config_name, door, StagingFolder(path))),
-                Err(error) => Err(refuse_socket(rt, config_name, door, error)),
+                Ok(None) => Err(refuse_folder(rt.alloc(), config_name, door, StagingFolder(path))),
+                Err(error) => Err(refuse_socket(rt.alloc(), config_name, door, error)),
             },
         }
     }
 
-    /// Opens `doors` in their order, adds each to `self.doors`, and adds a socket's file to `self.files`. If a door
-    /// can't be opened, prints why, opens no further one, and returns `AlreadyReported` with the exit status. The error
-    /// `Failed` means that memory ran out, which isn't printed yet.
+    /// Opens `doors` in their order, adds each to `self.doors`, and adds a socket's file to `self.files`. The error is
+    /// that a door can't be opened; then no further one is.
     fn open_all<H: Files + Net<Listener = TcpListener, Stream = TcpStream>>(
         &mut self,
         rt: &'a HostRuntime,
@@ -217,9 +199,8 @@ impl<'a> BoundDoors<'a> {
     }
 }
 
-/// Opens `doors` in their order. If one can't be opened, prints why, and returns `AlreadyReported` with the exit
-/// status. The error `Failed` means that memory ran out, which isn't printed yet. After either error, none of these
-/// doors stays open. `config_name` names the configuration's file.
+/// Opens `doors` in their order. The error is that one can't be opened; then none of these doors stays open.
+/// `config_name` names the configuration's file.
 pub fn open_doors<'a, H: Files + Net<Listener = TcpListener, Stream = TcpStream>>(
     rt: &'a HostRuntime,
     host: &H,

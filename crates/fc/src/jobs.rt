@@ -10,26 +10,24 @@ use file_jobs::export::export_files;
 use file_jobs::plays::{play_files, play_input};
 use file_jobs::programs::print_file;
 use file_jobs::report::report_files;
-use site_files::faults::print_output;
-use site_files::{DONE, Folder, JobError, SiteFiles};
+use site_files::job_error::print_text;
+use site_files::{Folder, JobError, SiteFiles};
 use std::fs::Files;
 use std::net::{Net, TcpListener, TcpStream};
 use std::sync::Wait;
 use std::thread::Threads;
 use std::time::Clock;
 
-/// Does a job, and returns the exit status. Faults of files and devices are printed on standard error. An error means
-/// that the job ended before it was done: `AlreadyReported` has the exit status, and the reason is printed already;
-/// `Failed` has the reason, which isn't printed yet.
+/// Does a job.
 ///
 /// `host` must be the same runtime as `rt`, with a type that can start threads and open sockets. Only `main` can borrow
 /// the runtime with this type.
 pub fn do_job<
     H: Files + Net<Listener = TcpListener, Stream = TcpStream> + Threads + Wait + Clock + Sync,
->(rt: &HostRuntime, host: &H, job: &Job) -> Result<u8, JobError> {
+>(rt: &HostRuntime, host: &H, job: &Job) -> Result<(), JobError> {
     match job {
         Job::NoWords => play_input(rt),
-        Job::Show(text) => Ok(print_output(rt, text, DONE)),
+        Job::Show(text) => print_text(rt, text),
         Job::Asm(file) => print_file(rt, file, PrintRequest::Asm),
         Job::Dis(file) => print_file(rt, file, PrintRequest::Dis),
         Job::DisUnits(file) => print_file(rt, file, PrintRequest::DisUnits),
@@ -70,11 +68,10 @@ pub fn do_job<
     }
 }
 
-/// Serves a site, and returns the exit status. An error means that the site couldn't be served: `AlreadyReported` has
-/// the exit status, and the reason is printed already; `Failed` has the reason, which isn't printed yet.
+/// Serves a site.
 fn serve<
     H: Files + Net<Listener = TcpListener, Stream = TcpStream> + Threads + Wait + Clock + Sync,
->(rt: &HostRuntime, host: &H, job: &ServeJob) -> Result<u8, JobError> {
+>(rt: &HostRuntime, host: &H, job: &ServeJob) -> Result<(), JobError> {
     match job {
         ServeJob::Printed { opening, config } => {
             serve_printed(rt, host, site_files(config, opening))

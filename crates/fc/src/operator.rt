@@ -4,7 +4,7 @@ ghost use Rattle.std.specs.Prelude.{◌≡◌, is_some};
 use crate::doors::DoorAddress;
 use page_port::ConnectionCounts;
 use site_config::Door;
-use site_files::faults::print_message;
+use site_files::messages::print_message;
 use site_server::{Limiter, Notices, SessionFailure, SessionFault};
 use std::fmt::{self, Display};
 use std::io;

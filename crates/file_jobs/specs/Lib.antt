@@ -1,4 +1,3 @@
-pub mod Statuses
-pub mod Codes
+pub mod Refusals
 pub mod Asked
 pub mod Chained

@@ -1,10 +1,11 @@
 //! The answers of a play, in a buffer. All of them are written before more of the script is read.
-ghost use Rattle.std.specs.Prelude.{◌≡◌, ◌⊎◌, ◌≤◌, Ok, Err, IfOk, MatchResult, length};
+ghost use Rattle.std.specs.Prelude.{◌≡◌, ◌⊎◌, ◌≤◌, [], Ok, Err, IfOk, MatchResult, length};
+ghost use Rattle.site_files.specs.JobErrors.{Ends};
 
 use crate::progress::Progress;
 use line_session::{Ended, SessionFault};
-use site_files::faults::print_write_error;
-use site_files::{Outlet, Source};
+use site_files::{JobError, Outlet, Source};
+use std::alloc::{AllocError, Global};
 use std::cell::RefCell;
 use std::io::{self, BufWriter, Error, ErrorKind, Printer, Read, Write};
 
@@ -21,11 +22,13 @@ pub struct Answers<'a> {
 
 impl<'a> Answers<'a> {
     /// Makes an empty buffer on standard output. The error is that memory ran out.
-    pub fn new(rt: &'a HostRuntime) -> io::Result<Answers<'a>> {
-        let waiting = BufWriter::new(rt.alloc(), Outlet::new(io::writer(rt)))?;
-        Ok(Answers {
-            waiting: RefCell::new(waiting),
-        })
+    pub fn new(rt: &'a HostRuntime) -> Result<Answers<'a>, AllocError> {
+        match BufWriter::new(rt.alloc(), Outlet::new(io::writer(rt))) {
+            Ok(waiting) => Ok(Answers {
+                waiting: RefCell::new(waiting),
+            }),
+            Err(_) => Err(AllocError),
+        }
     }
 
     /// Writes all buffered answers. Writes nothing if an earlier write failed. The error is that the answers can't be
@@ -71,12 +74,13 @@ impl<'a> Answers<'a> {
         }
     }
 
-    /// Prints on standard error why the answers couldn't be written. Prints nothing if the reader of standard output
-    /// closed the pipe.
-    pub fn print_failure(&self, rt: &HostRuntime) {
+    /// Makes the error of a play whose answers couldn't be written.
+    pub fn failure(&self, alloc: Global) -> JobError
+        ensures { Ends 3 [] result }
+    {
         match self.waiting.try_borrow() {
-            Ok(waiting) => print_write_error(rt, waiting.get_ref().failure()),
-            Err(_) => print_write_error(rt, None),
+            Ok(waiting) => JobError::unwritten(alloc, waiting.get_ref().failure()),
+            Err(_) => JobError::unwritten(alloc, None),
         }
     }
 }

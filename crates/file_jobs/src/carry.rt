@@ -1,30 +1,25 @@
 //! What `fc carry` does: closes a day, and prints the opening of the next one.
-ghost use Rattle.std.specs.Prelude.{◌≡◌, Err, IfOk, IfErr, IsTrue, option_map};
+ghost use Rattle.std.specs.Prelude.{[], IfErr, IsErrAnd, IsTrue, option_map};
 ghost use Rattle.site_files.specs.Asked.{reads_twice};
-ghost use Rattle.site_files.specs.Statuses.{EndsWith, IsReportedOrFailed};
+ghost use Rattle.site_files.specs.JobErrors.{Ends, Refuses};
 
 use crate::progress::watch;
 use days::Closed;
 use days::closing::close;
 use days::writing::opening_text;
 use site_core::Config;
-use site_files::faults::print_output;
+use site_files::job_error::print_text;
 use site_files::newest::refuse_uncarried;
-use site_files::refused_journals::{explain_journal, refused, report_journal_fault};
+use site_files::refused_journals::{refuse_entry, refuse_text};
 use site_files::settings::day_and;
-use site_files::{DONE, JobError, SiteFiles, Source};
+use site_files::{JobError, SiteFiles, Source};
 
 /// Audits the journal in the file that `journal` names, as a journal of the site that `site` names. Prints the opening
-/// of the next day, and returns the exit status. The errors are:
-///
-/// - `AlreadyReported` with the exit status: a file is refused or can't be read, or two files are standard input. Then
-///   prints what `fc audit` prints, and no opening.
-/// - `AlreadyReported` with the exit status: the day leaves no opening. Then prints why.
-/// - `Failed`: memory ran out. This isn't printed here.
-pub fn carry_files(rt: &HostRuntime, site: SiteFiles<'_>, journal: &str) -> Result<u8, JobError>
-    ensures done { IfOk result (EndsWith 0) }
-    ensures twice { IsTrue (reads_twice site.entry.config.now (option_map (λ w. w.now) site.entry.opening) journal.now)
-        → result ≡ Err (JobError.AlreadyReported 2) }
+/// of the next day. The error is that a file is refused or can't be read, that two files are standard input, or that
+/// the day leaves no opening.
+pub fn carry_files(rt: &HostRuntime, site: SiteFiles<'_>, journal: &str) -> Result<(), JobError>
+    ensures { IsTrue (reads_twice site.entry.config.now (option_map (λ w. w.now) site.entry.opening) journal.now)
+        → IsErrAnd result (Ends 2 []) }
 {
     let (day, source) = day_and(rt, site, journal)?;
     let number = day.number;
@@ -35,52 +30,38 @@ pub fn carry_files(rt: &HostRuntime, site: SiteFiles<'_>, journal: &str) -> Resu
 }
 
 /// Audits a journal, and returns the close of its day: the site after the last entry, and the journal's digest. The
-/// errors are:
-///
-/// - `AlreadyReported` with the exit status: the journal is refused or can't be read. Then prints what `fc audit`
-///   prints of it.
-/// - `Failed`: memory ran out. This isn't printed here.
+/// error is that the journal is refused or can't be read.
 fn closed(
     rt: &HostRuntime,
     config: Config,
     journal: &str,
     source: Source,
 ) -> Result<Closed, JobError>
-    ensures { IfErr result (IsReportedOrFailed 1) }
+    ensures { IfErr result (Refuses 1) }
 {
     let size = source.size();
     let mut input = watch(rt, source, size);
-    let closed = close(rt.alloc(), config.copied(rt.alloc())?, &mut input);
+    let closed = close(rt.alloc(), config, &mut input);
     input.progress.clear();
     match closed {
         Ok(Ok(closed)) => Ok(closed),
-        Ok(Err(fault)) => {
-            // The journal is read again to explain the refusal, and only a regular file can be read again.
-            if size.is_some() {
-                explain_journal(rt, journal, config);
-            }
-            Err(refused(rt, fault))
-        }
-        Err(fault) => Err(report_journal_fault(rt, journal, fault, input.input.reader.failure())),
+        Ok(Err(flaw)) => Err(refuse_entry(rt.alloc(), journal, flaw)),
+        Err(fault) => Err(refuse_text(rt.alloc(), journal, fault, input.input.reader.failure())),
     }
 }
 
-/// Prints the opening that day `number` leaves for the next day, and returns the exit status. `journal` names the file
-/// of the day's journal. The errors are:
-///
-/// - `AlreadyReported` with the exit status: the day leaves no opening. Then prints why.
-/// - `Failed`: memory ran out. This isn't printed here.
+/// Prints the opening that day `number` leaves for the next day. `journal` names the file of the day's journal. The
+/// error is that the day leaves no opening.
 fn print_opening(
     rt: &HostRuntime,
     journal: &str,
     number: u32,
     closed: &Closed,
-) -> Result<u8, JobError>
-    ensures done { IfOk result (EndsWith 0) }
-    ensures refused { IfErr result (IsReportedOrFailed 1) }
+) -> Result<(), JobError>
+    ensures { IfErr result (Refuses 1) }
 {
     match closed.opening(number) {
-        Ok(opening) => Ok(print_output(rt, &opening_text(rt.alloc(), &opening)?, DONE)),
-        Err(why) => Err(refuse_uncarried(rt, journal, why)),
+        Ok(opening) => print_text(rt, &opening_text(rt.alloc(), &opening)?),
+        Err(why) => Err(refuse_uncarried(rt.alloc(), journal, why)),
     }
 }

@@ -1,24 +1,26 @@
 //! The audit of all days of a station.
-ghost use Rattle.std.specs.Prelude.{◌≡◌, ◌-◌, true, [], None, Some, IfSome, IfNone, Ok, Err, IfOk, IfErr};
+ghost use Rattle.std.specs.Prelude.{◌≡◌, ◌-◌, ◌++◌, true, [], None, Some, IfSome, IfNone, IfOk, IfErr, IsErrAnd, codes};
+ghost use Rattle.std.specs.Fmt.{decimal};
 ghost use Rattle.std.specs.Str.{IsUtf8};
 ghost use Rattle.site_files.specs.Asked.{is_input};
-ghost use Rattle.site_files.specs.Statuses.{EndsWith, Fails, IsReportedOrFailed};
-ghost use Rattle.file_jobs.specs.Statuses.{RefusesBeginning, RefusesJournal, RefusesDays};
+ghost use Rattle.site_files.specs.JobErrors.{Ends, Refuses};
+ghost use Rattle.file_jobs.specs.Refusals.{RefusesBeginning, RefusesJournal, RefusesDays};
 ghost use Rattle.file_jobs.specs.Chained.{turn, AgreeFor, IsOtherLine};
 
 use crate::progress::{Watched, watch};
 use days::chain::audit_days;
 use days::{Cause, DayIn, DaysFault, DaysIn, NoDay, NoNextOpening, Unbegun, Unclosed, Unfollowed};
 use site_core::Config;
-use site_files::faults::{once_printed, print_message, report_file_error, report_out_of_memory};
 use site_files::files::{lines_in, regular_source_of, text_of};
+use site_files::job_error::printed;
 use site_files::kept::to_last_lf;
+use site_files::messages::print_message;
 use site_files::newest::{OfDay, UNOPENED, kept_config, refuse_link, refuse_uncarried};
 use site_files::opening::{opening_bytes, refuse_opening, refuse_unfit, refuse_words};
-use site_files::refused_journals::{explain_journal, refused, report_journal_fault};
+use site_files::refused_journals::{refuse_entry, refuse_text};
 use site_files::settings::settings_in;
-use site_files::{DONE, FAILED, Folder, JobError, Part, Place, Source, Span, day_after};
-use std::alloc::AllocError;
+use site_files::{Folder, JobError, Part, Place, Source, Span, day_after};
+use std::alloc::{AllocError, Global};
 use std::fmt::{self, Display};
 use std::io::ErrorKind;
 use std::str;
@@ -72,7 +74,7 @@ impl<'a> FolderIn<'a> {
     }
 
     fn day(&self, number: u32) -> Result<DayIn<Journal<'a>>, JobError>
-        ensures { IfErr result (IsReportedOrFailed 1) }
+        ensures { IfErr result (Refuses 1) }
     {
         let config = match kept_config(self.rt, self.folder, number)? {
             Some(kept) => kept,
@@ -88,7 +90,7 @@ impl<'a> FolderIn<'a> {
     }
 
     fn opening(&self, number: u32) -> Result<Option<Vec<u8>>, JobError>
-        ensures { IfErr result (IsReportedOrFailed 1) }
+        ensures { IfErr result (Refuses 1) }
     {
         if !self.folder.has(self.rt, number, Part::Opening)? {
             return Ok(None);
@@ -101,7 +103,7 @@ impl<'a> FolderIn<'a> {
     }
 
     fn journal(&self, number: u32) -> Result<Option<Journal<'a>>, JobError>
-        ensures { IfErr result Fails }
+        ensures { IfErr result (Ends 3 []) }
     {
         let path = self.folder.file(self.rt, number, Part::Journal)?;
         match Source::open_regular(self.rt, &path) {
@@ -110,7 +112,7 @@ impl<'a> FolderIn<'a> {
                 Ok(Some(watch(self.rt, source, size)))
             }
             Err(error) if error.kind() == ErrorKind::NotFound => Ok(None),
-            Err(error) => Err(JobError::AlreadyReported(report_file_error(self.rt, &path, &error))),
+            Err(error) => Err(JobError::of_file(self.rt.alloc(), &path, &error)),
         }
     }
 }
@@ -139,38 +141,29 @@ impl<'a> DaysIn for FolderIn<'a> {
     }
 }
 
-/// Audits all days of the folder that `path` names, prints the result, and returns the exit status. `word` names the
-/// configuration for the days that have none in the folder. The errors are:
-///
-/// - `AlreadyReported` with the exit status: a file can't be read, the configuration or the days are refused, or `path`
-///   is standard input. Then prints why.
-/// - `Failed`: memory ran out. This isn't printed here.
-pub fn audit_folder(rt: &HostRuntime, path: &str, word: &str) -> Result<u8, JobError>
-    ensures done { IfOk result (EndsWith 0) }
-    ensures input { is_input path.now ≡ true → result ≡ Err (JobError.AlreadyReported 2) }
+/// Audits all days of the folder that `path` names, and prints that they are legal. `word` names the configuration for
+/// the days that have none in the folder. The error is that a file can't be read, that the configuration or the days
+/// are refused, or that `path` is standard input.
+pub fn audit_folder(rt: &HostRuntime, path: &str, word: &str) -> Result<(), JobError>
+    ensures { is_input path.now ≡ true → IsErrAnd result (Ends 2 []) }
 {
     let folder = Folder::named(rt, path)?;
     let text = text_of(rt, word)?;
     let settings = settings_in(rt, word, &text)?;
     match folder.span(rt)? {
         Some(span) => audit_span(rt, folder, settings.config, span),
-        None => Err(refuse_folder(rt, folder)),
+        None => Err(refuse_folder(rt.alloc(), folder)),
     }
 }
 
-/// Audits the days of a folder from its oldest to its newest, prints the result, and returns the exit status. The
-/// errors are:
-///
-/// - `AlreadyReported` with the exit status: a day can't be read or is refused. Then prints why.
-/// - `Failed`: memory ran out. This isn't printed here.
+/// Audits the days of a folder from its oldest to its newest, and prints that they are legal. The error is that a day
+/// can't be read or is refused.
 fn audit_span(
     rt: &HostRuntime,
     folder: Folder<'_>,
     config: Config,
     span: Span,
-) -> Result<u8, JobError>
-    ensures { IfOk result (EndsWith 0) }
-{
+) -> Result<(), JobError> {
     if span.oldest > 1 {
         let (path, oldest) = (folder.path, span.oldest);
         print_message(
@@ -182,21 +175,19 @@ fn audit_span(
     }
     let mut days = FolderIn::new(rt, folder, config, span);
     match audit_days(rt.alloc(), span.oldest, &mut days) {
-        Ok(chained) => Ok(once_printed(rt, println!(rt; "{chained}"), DONE)),
+        Ok(chained) => printed(rt.alloc(), println!(rt; "{chained}")),
         Err(fault) => Err(refuse_days(rt, days, fault)?),
     }
 }
 
-/// Prints why the days of a folder are refused, and returns the error with which the job ends. If a day couldn't be
-/// read, prints nothing, and returns `days.job_error`, the error of reading the day (or `AlreadyReported` with the exit
-/// status 3 if that is `None`). If the error is `Failed`, its cause isn't printed here. The `AllocError` means that
-/// memory ran out before anything was printed.
+/// Returns the error of a job for which the days of a folder are refused. If a day couldn't be read, that is
+/// `days.job_error`. The `AllocError` means that memory ran out.
 fn refuse_days(
     rt: &HostRuntime,
     days: FolderIn<'_>,
     fault: DaysFault<Journal<'_>>,
 ) -> Result<JobError, AllocError>
-    ensures { IfOk result (RefusesDays fault.entry.cause days.entry.job_error) }
+    ensures { IfOk result (RefusesDays fault.entry.day fault.entry.cause days.entry.job_error) }
 {
     let DaysFault { day, cause } = fault;
     let opening = days.folder.file(rt, day, Part::Opening)?;
@@ -204,10 +195,8 @@ fn refuse_days(
     Ok(refuse_cause(rt, days, day, (&opening, &journal), cause))
 }
 
-/// Prints why the days of a folder are refused at this day, and returns the error with which the job ends. `paths`
-/// names the day's opening and its journal. If the day couldn't be read, prints nothing, and returns `days.job_error`,
-/// the error of reading the day (or `AlreadyReported` with the exit status 3 if that is `None`). If the error is
-/// `Failed`, its cause isn't printed here.
+/// Returns the error of a job for which the days of a folder are refused at this day. `paths` names the day's opening
+/// and its journal. If the day couldn't be read, the error is `days.job_error`.
 fn refuse_cause(
     rt: &HostRuntime,
     days: FolderIn<'_>,
@@ -215,47 +204,45 @@ fn refuse_cause(
     paths: (&str, &str),
     cause: Cause<Journal<'_>>,
 ) -> JobError
-    ensures { RefusesDays cause.entry days.entry.job_error result }
+    ensures { RefusesDays day cause.entry days.entry.job_error result }
 {
     let (opening, journal) = paths;
+    let alloc = rt.alloc();
     match cause {
         // This case never happens: the folder had a day when it was read.
-        Cause::NoDays => refuse_folder(rt, days.folder),
-        Cause::Unread => days.job_error.unwrap_or(JobError::AlreadyReported(FAILED)),
-        Cause::NoNextOpening(NoNextOpening::NoJournal) => JobError::AlreadyReported(refuse_link(
-            rt,
-            Place::of(journal),
-            day,
-            &"the day has no journal",
-        )),
-        Cause::NoNextOpening(NoNextOpening::Uncarried(why)) => refuse_uncarried(rt, journal, why),
-        Cause::Unfollowed(why) => JobError::AlreadyReported(refuse_unfollowed(
-            rt, opening, day, why,
-        )),
-        Cause::Unbegun(why) => refuse_unbegun(rt, opening, day, why),
-        Cause::Unclosed(why) => refuse_unclosed(rt, journal, why),
+        Cause::NoDays => refuse_folder(alloc, days.folder),
+        Cause::Unread => days.job_error.unwrap_or(JobError::OutOfMemory),
+        Cause::NoNextOpening(NoNextOpening::NoJournal) => {
+            refuse_link(alloc, Place::of(journal), day, &"the day has no journal")
+        }
+        Cause::NoNextOpening(NoNextOpening::Uncarried(why)) => {
+            refuse_uncarried(alloc, journal, why)
+        }
+        Cause::Unfollowed(why) => refuse_unfollowed(alloc, opening, day, why),
+        Cause::Unbegun(why) => refuse_unbegun(alloc, opening, day, why),
+        Cause::Unclosed(why) => refuse_unclosed(alloc, journal, why),
     }
 }
 
-/// Prints that a folder has no day. Returns `AlreadyReported` with the exit status.
-fn refuse_folder(rt: &HostRuntime, folder: Folder<'_>) -> JobError
-    ensures { result ≡ JobError.AlreadyReported 1 }
+/// Makes the error for a folder that has no day.
+fn refuse_folder(alloc: Global, folder: Folder<'_>) -> JobError
+    ensures { Ends 1 [] result }
 {
-    refuse_words(rt, folder.path, &"no day is here")
+    refuse_words(alloc, folder.path, &"no day is here")
 }
 
-/// Prints why a day doesn't begin with the opening that the day before left, and returns the exit status.
-fn refuse_unfollowed(rt: &HostRuntime, opening: &str, day: u32, why: Unfollowed) -> u8
-    ensures { EndsWith 1 result }
+/// Makes the error for a day that doesn't begin with the opening that the day before left.
+fn refuse_unfollowed(alloc: Global, opening: &str, day: u32, why: Unfollowed) -> JobError
+    ensures { Ends 1 (codes "O1 " ++ (decimal day ++ codes "\n")) result }
 {
     match why {
-        Unfollowed::NoOpening(_left) => refuse_link(rt, Place::of(opening), day, &UNOPENED),
+        Unfollowed::NoOpening(_left) => refuse_link(alloc, Place::of(opening), day, &UNOPENED),
         Unfollowed::OtherOpening(bytes, left) => {
             let (number, line) = other_line(&bytes, left.as_bytes());
             let place = Place::of(opening).line(number);
             match left_line(day, line) {
-                Some(left) => refuse_link(rt, place, day, &left),
-                None => refuse_link(rt, place, day, &"the day before left no such line"),
+                Some(left) => refuse_link(alloc, place, day, &left),
+                None => refuse_link(alloc, place, day, &"the day before left no such line"),
             }
         }
     }
@@ -323,42 +310,30 @@ fn same_len(text: &[u8], left: &[u8]) -> usize
     left.len()
 }
 
-/// Prints why a day can't begin with its opening. Returns `AlreadyReported` with the exit status. Returns `Failed` if
-/// memory ran out, which isn't printed here.
-fn refuse_unbegun(rt: &HostRuntime, opening: &str, day: u32, why: Unbegun) -> JobError
-    ensures { RefusesBeginning why result }
+/// Makes the error for a day that can't begin with its opening.
+fn refuse_unbegun(alloc: Global, opening: &str, day: u32, why: Unbegun) -> JobError
+    ensures { RefusesBeginning day why result }
 {
     let place = Place::of(opening);
     match why {
-        Unbegun::NoOpening => JobError::AlreadyReported(refuse_link(rt, place, day, &UNOPENED)),
-        Unbegun::HasOpening => {
-            JobError::AlreadyReported(refuse_link(rt, place, day, &"the first day has no opening"))
-        }
-        Unbegun::Flawed(bytes, flaw) => refuse_opening(rt, opening, &bytes, flaw),
-        Unbegun::OtherDay(other) => JobError::AlreadyReported(refuse_link(
-            rt,
-            place,
-            day,
-            &OfDay(other),
-        )),
-        Unbegun::Unfit(unfit) => refuse_unfit(rt, opening, unfit),
+        Unbegun::NoOpening => refuse_link(alloc, place, day, &UNOPENED),
+        Unbegun::HasOpening => refuse_link(alloc, place, day, &"the first day has no opening"),
+        Unbegun::Flawed(flaw) => refuse_opening(alloc, opening, flaw),
+        Unbegun::OtherDay(other) => refuse_link(alloc, place, day, &OfDay(other)),
+        Unbegun::Unfit(unfit) => refuse_unfit(alloc, opening, unfit),
     }
 }
 
-/// Prints why a day's journal is refused, or why it can't be read. Returns `AlreadyReported` with the exit status.
-/// Returns `Failed` if memory ran out, which isn't printed here.
-fn refuse_unclosed(rt: &HostRuntime, path: &str, why: Unclosed<Journal<'_>>) -> JobError
+/// Makes the error for a day whose journal is refused or can't be read.
+fn refuse_unclosed(alloc: Global, path: &str, why: Unclosed<Journal<'_>>) -> JobError
     ensures { RefusesJournal why.entry result }
 {
     match why {
         Unclosed::Text(journal, fault) => {
             journal.progress.clear();
-            report_journal_fault(rt, path, fault, journal.input.reader.failure())
+            refuse_text(alloc, path, fault, journal.input.reader.failure())
         }
-        Unclosed::History(config, fault) => {
-            explain_journal(rt, path, config);
-            refused(rt, fault)
-        }
-        Unclosed::OutOfMemory(_unread) => JobError::AlreadyReported(report_out_of_memory(rt)),
+        Unclosed::History(flaw) => refuse_entry(alloc, path, flaw),
+        Unclosed::OutOfMemory => JobError::OutOfMemory,
     }
 }

@@ -1,35 +1,30 @@
 //! What `fc export` does: audits a journal, and prints its rows (sales, decisions or entries), as CSV or as lines of
 //! JSON.
-ghost use Rattle.std.specs.Prelude.{◌≡◌, Err, IfOk, IfErr, IsTrue, option_map};
+ghost use Rattle.std.specs.Prelude.{◌≡◌, [], IfErr, IsErrAnd, IsTrue, option_map};
 ghost use Rattle.site_files.specs.Asked.{reads_twice};
 ghost use Rattle.file_jobs.specs.Asked.{rows_of, format_of};
-ghost use Rattle.site_files.specs.Statuses.{EndsWith, IsFailed};
+ghost use Rattle.site_files.specs.JobErrors.{Ends};
 
 use crate::audited::audited_site;
 use command_line::{Format, Rows};
 use day_export::RowsFault;
 use day_export::writing::write_rows;
 use site_core::Site;
-use site_files::faults::{once_printed, report_out_of_memory};
-use site_files::{DONE, JobError, SiteFiles};
+use site_files::job_error::printed;
+use site_files::{JobError, SiteFiles};
 use std::io::{self, BufWriter, Write};
 
 /// Audits the journal in the file that `journal` names, as a journal of the site that `site` names. Prints the rows
-/// that are asked for, and returns the exit status. The errors are:
-///
-/// - `AlreadyReported` with the exit status: a file is refused or can't be read, or two files are standard input. Then
-///   prints what `fc audit` prints, and no rows.
-/// - `Failed`: memory ran out. This isn't printed here.
+/// that are asked for. The error is that a file is refused or can't be read, or that two files are standard input.
 pub fn export_files(
     rt: &HostRuntime,
     rows: Rows,
     format: Format,
     site: SiteFiles<'_>,
     journal: &str,
-) -> Result<u8, JobError>
-    ensures done { IfOk result (EndsWith 0) }
-    ensures twice { IsTrue (reads_twice site.entry.config.now (option_map (λ w. w.now) site.entry.opening) journal.now)
-        → result ≡ Err (JobError.AlreadyReported 2) }
+) -> Result<(), JobError>
+    ensures { IsTrue (reads_twice site.entry.config.now (option_map (λ w. w.now) site.entry.opening) journal.now)
+        → IsErrAnd result (Ends 2 []) }
 {
     let site = audited_site(rt, site, journal)?;
     print_rows(rt, &site, rows_of(rows), format_of(format))
@@ -59,15 +54,16 @@ fn print_rows(
     site: &Site,
     rows: day_export::Rows,
     format: day_export::Format,
-) -> Result<u8, JobError>
-    ensures done { IfOk result (EndsWith 0) }
-    ensures failed { IfErr result IsFailed }
+) -> Result<(), JobError>
+    ensures { IfErr result (Ends 3 []) }
 {
-    let output = BufWriter::new(rt.alloc(), io::writer(rt))?;
-    let printed = match write_rows(rt.alloc(), site, rows, format, output) {
+    let Ok(output) = BufWriter::new(rt.alloc(), io::writer(rt)) else {
+        return Err(JobError::OutOfMemory);
+    };
+    let written = match write_rows(rt.alloc(), site, rows, format, output) {
         Ok(mut output) => output.flush(),
         Err(RowsFault::Io(error)) => Err(error),
-        Err(RowsFault::OutOfMemory) => return Ok(report_out_of_memory(rt)),
+        Err(RowsFault::OutOfMemory) => return Err(JobError::OutOfMemory),
     };
-    Ok(once_printed(rt, printed, DONE))
+    printed(rt.alloc(), written)
 }

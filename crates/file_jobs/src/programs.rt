@@ -1,18 +1,18 @@
 //! What `fc asm`, `fc dis` and `fc verify` print of a file.
-ghost use Rattle.std.specs.Prelude.{IfOk};
-ghost use Rattle.job_texts.specs.declared.output.JobOutput.{JobOutput};
-ghost use Rattle.site_files.specs.Statuses.{EndsWith};
-ghost use Rattle.file_jobs.specs.Asked.{PrintsFile};
+ghost use Rattle.std.specs.Prelude.{IfOk, string_bytes};
+ghost use Rattle.site_files.specs.JobErrors.{Ends};
+ghost use Rattle.file_jobs.specs.Asked.{PrintsFile, PrintsAsked};
 
-use crate::program_faults::{explain_asm_text, print_program_flaw};
+use crate::program_faults::{refuse_asm, refuse_program};
 use bpf_model::context::Layout;
 use job_texts::JobOutput;
 use job_texts::assembler::{asm_file, dis_file, dis_units_file};
 use job_texts::file_flaws::{dis_flaw, verify_flaw};
 use job_texts::program::verify_file;
-use site_files::faults::print_output;
+use job_texts::reasons::asm_flaw;
 use site_files::files::text_of;
-use site_files::{JobError, REFUSED};
+use site_files::job_error::print_text;
+use site_files::{DONE, JobError};
 use std::alloc::{AllocError, Global};
 
 /// What to print of a file:
@@ -29,33 +29,31 @@ pub enum PrintRequest {
     Verify(u32, Layout),
 }
 
-/// Prints what `request` asks for about the file that `word` names, and returns the exit status. If the file is
-/// refused, also prints why on standard error. The errors are:
-///
-/// - `AlreadyReported` with the exit status: the file can't be read or has over 65,536 bytes. Then prints why.
-/// - `Failed`: memory ran out. This isn't printed here.
-pub fn print_file(rt: &HostRuntime, word: &str, request: PrintRequest) -> Result<u8, JobError> {
+/// Prints what `request` asks for about the file that `word` names. The error is that the file can't be read, has over
+/// 65,536 bytes, or is refused.
+pub fn print_file(rt: &HostRuntime, word: &str, request: PrintRequest) -> Result<(), JobError> {
     let text = text_of(rt, word)?;
     print_bytes(rt, word, request, &text)
 }
 
-/// Prints what `request` asks for about a file with the bytes `text`, and returns the exit status. `word` names the
-/// file. If the file is refused, also prints why on standard error. The error is that memory ran out, which isn't
-/// printed here.
+/// Prints what `request` asks for about a file with the bytes `text`, which `word` names. The error is that the file is
+/// refused.
 fn print_bytes(
     rt: &HostRuntime,
     word: &str,
     request: PrintRequest,
     text: &[u8],
-) -> Result<u8, JobError>
-    ensures { IfOk result (λ status. (output : JobOutput) × PrintsFile request text.now output
-        × EndsWith output.status status) }
+) -> Result<(), JobError>
+    ensures { PrintsAsked request text.now result }
 {
     let output = output_of(rt.alloc(), request, text)?;
-    if output.status == REFUSED {
-        explain(rt, word, request, text)?;
+    if output.status == DONE {
+        return print_text(rt, &output.text);
     }
-    Ok(print_output(rt, &output.text, output.status))
+    match refused(rt.alloc(), word, request, text, output) {
+        Ok(job_error) => Err(job_error),
+        Err(refused) => Err(JobError::from(refused)),
+    }
 }
 
 /// Returns the text to print for a file whose bytes are `text`, and the exit status. The error is that memory ran out.
@@ -70,26 +68,29 @@ fn output_of(alloc: Global, request: PrintRequest, text: &[u8]) -> Result<JobOut
     }
 }
 
-/// Prints on standard error why a file is refused. Prints nothing if it isn't refused. The error is that memory ran
-/// out.
-fn explain(
-    rt: &HostRuntime,
+/// Makes the error for a file that is refused. `output` is printed on standard output. The `AllocError` means that
+/// memory ran out.
+fn refused(
+    alloc: Global,
     word: &str,
     request: PrintRequest,
     text: &[u8],
-) -> Result<(), AllocError> {
+    output: JobOutput,
+) -> Result<JobError, AllocError>
+    ensures { IfOk result (Ends output.status (string_bytes output.text)) }
+{
     let flaw = match request {
-        PrintRequest::Asm => return explain_asm_text(rt, word, text),
-        PrintRequest::Dis | PrintRequest::DisUnits => dis_flaw(rt.alloc(), text)?,
-        PrintRequest::Verify(counters, context) => verify_flaw(
-            rt.alloc(),
-            text,
-            counters,
-            context,
-        )?,
+        PrintRequest::Asm => {
+            return match asm_flaw(alloc, text)? {
+                Some((fault, flaw)) => Ok(refuse_asm(alloc, word, fault, &flaw, output)),
+                None => Err(AllocError),
+            };
+        }
+        PrintRequest::Dis | PrintRequest::DisUnits => dis_flaw(alloc, text)?,
+        PrintRequest::Verify(counters, context) => verify_flaw(alloc, text, counters, context)?,
     };
-    if let Some(flaw) = flaw {
-        print_program_flaw(rt, word, &flaw);
+    match flaw {
+        Some(flaw) => Ok(refuse_program(alloc, word, &flaw, output)),
+        None => Err(AllocError),
     }
-    Ok(())
 }

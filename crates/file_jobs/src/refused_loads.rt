@@ -4,7 +4,7 @@ use crate::progress::Progress;
 use console::PlayNotices;
 use job_texts::reasons::explain_refusal;
 use reg_types::Refusal;
-use site_files::faults::print_message;
+use site_files::messages::print_message;
 use std::alloc::AllocError;
 use std::cell::Cell;
 use till_request::Act;

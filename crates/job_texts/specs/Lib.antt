@@ -2,7 +2,6 @@ pub mod JobOutput
 pub mod AuditOutput
 pub mod Assembler
 pub mod Reasons
-pub mod Differing
 pub mod Words
 pub mod JournalFlaws
 pub mod FileFlaws

@@ -3,14 +3,12 @@
 
 pub mod assembler;
 pub mod audit;
-pub mod differing;
 pub mod file_flaws;
 pub mod journal_reasons;
 mod output;
 pub mod program;
 pub mod reasons;
 
-pub use differing::Difference;
 pub use file_flaws::ProgramFlaw;
 pub use journal_reasons::JournalFlaw;
 pub use output::{JobOutput, REFUSED};

@@ -10,6 +10,8 @@ pub mod Complete
 pub mod Grants
 pub mod Filling
 pub mod Finding
+pub mod Journals
+pub mod Compared
 pub mod Pairs
 pub mod Counted
 pub mod Laying

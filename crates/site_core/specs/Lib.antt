@@ -13,6 +13,8 @@ pub mod Bounds
 pub mod SiteInvariant
 pub mod Site
 pub mod Audit
+pub mod Differing
+pub mod Flaws
 pub mod Auditing
 pub mod Draft
 pub mod Differences

@@ -1,5 +1,5 @@
-pub mod Statuses
-pub mod Codes
+pub mod JobErrors
+pub mod Refusals
 pub mod Asked
 pub mod Days
 pub mod Lines

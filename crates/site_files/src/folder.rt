@@ -1,14 +1,13 @@
 //! The folder of a station's days. A day has up to three files there: its journal, the opening that it begins with, and
 //! the configuration of its site. Their names begin with the day's number, as in `000002.journal`.
-ghost use Rattle.std.specs.Prelude.{◌≡◌, ◌++◌, true, false, IfOk, IfErr, codes, string_bytes};
+ghost use Rattle.std.specs.Prelude.{◌≡◌, ◌++◌, [], true, false, IfOk, IfErr, codes, string_bytes};
 ghost use Rattle.site_files.specs.Asked.{is_input};
-ghost use Rattle.site_files.specs.Statuses.{Fails};
+ghost use Rattle.site_files.specs.JobErrors.{Ends};
 ghost use Rattle.site_files.specs.Days.{ending_of, path_of, without_zeros, day_of, shows_day, day_named, with_day};
 ghost use Rattle.site_files.specs.Days.{with_found, day_after};
 
-use crate::faults::{print_message, report_file_error};
 use crate::files::{Source, is_input, open_regular, read_all};
-use crate::job_error::JobError;
+use crate::job_error::{JobError, at_file};
 use crate::statuses::USAGE;
 use std::alloc::AllocError;
 use std::fs::{self, File, read_dir};
@@ -49,17 +48,16 @@ pub struct Folder<'a> {
 }
 
 impl<'a> Folder<'a> {
-    /// Returns the folder that an argument names. If the argument is `-`, which is standard input, prints that a folder
-    /// is needed; the error has the exit status.
+    /// Returns the folder that an argument names. The error is that the argument is `-`, which is standard input.
     pub fn named(rt: &HostRuntime, word: &'a str) -> Result<Folder<'a>, JobError>
         ensures folder { IfOk result (λ folder. folder.path.now ≡ word.now) }
         ensures input { IfErr result (λ job_error. (is_input word.now ≡ true)
-            × (job_error ≡ JobError.AlreadyReported 2)) }
+            × Ends 2 [] job_error) }
         ensures named { IfOk result (λ _. is_input word.now ≡ false) }
     {
         if is_input(word) {
-            print_message(rt, &"--days wants a folder, and - is standard input");
-            return Err(JobError::AlreadyReported(USAGE));
+            let words = "--days wants a folder, and - is standard input";
+            return Err(JobError::message(rt.alloc(), &words, USAGE));
         }
         Ok(Folder { path: word })
     }
@@ -73,53 +71,42 @@ impl<'a> Folder<'a> {
         format!(in rt.alloc(); "{path}/{day:06}.{ending}")
     }
 
-    /// Returns whether the folder has the file `part` of this day. If that can't be found out, prints why; the error
-    /// `AlreadyReported` has the exit status. The error `Failed` means that memory ran out, which isn't printed yet.
+    /// Returns whether the folder has the file `part` of this day. The error is that this can't be found out.
     pub fn has(self, rt: &HostRuntime, day: u32, part: Part) -> Result<bool, JobError>
-        ensures { IfErr result Fails }
+        ensures { IfErr result (Ends 3 []) }
     {
         let path = self.file(rt, day, part)?;
-        match fs::exists(rt, path.as_str()) {
-            Ok(is_there) => Ok(is_there),
-            Err(error) => Err(JobError::AlreadyReported(report_file_error(rt, &path, &error))),
-        }
+        at_file(rt.alloc(), &path, fs::exists(rt, path.as_str()))
     }
 
-    /// Returns whether the folder has the file `part` of this day, and the file isn't empty. If that can't be found
-    /// out, prints why; the error `AlreadyReported` has the exit status. The error `Failed` means that memory ran out,
-    /// which isn't printed yet.
+    /// Returns whether the folder has the file `part` of this day, and the file isn't empty. The error is that this
+    /// can't be found out.
     pub(crate) fn has_bytes(self, rt: &HostRuntime, day: u32, part: Part) -> Result<bool, JobError>
-        ensures { IfErr result Fails }
+        ensures { IfErr result (Ends 3 []) }
     {
         let path = self.file(rt, day, part)?;
         match fs::metadata(rt, path.as_str()) {
             Ok(metadata) => Ok(metadata.len() > 0),
             Err(error) if error.kind() == ErrorKind::NotFound => Ok(false),
-            Err(error) => Err(JobError::AlreadyReported(report_file_error(rt, &path, &error))),
+            Err(error) => Err(JobError::of_file(rt.alloc(), &path, &error)),
         }
     }
 
     /// Returns the oldest and the newest of the days that have a journal or an opening in the folder, or `None` if
-    /// there is no such day. If the folder can't be read, prints why; the error has the exit status.
+    /// there is no such day. The error is that the folder can't be read.
     pub fn span(self, rt: &HostRuntime) -> Result<Option<Span>, JobError>
-        ensures { IfErr result Fails }
+        ensures { IfErr result (Ends 3 []) }
     {
-        match span_of(rt, self.path) {
-            Ok(span) => Ok(span),
-            Err(error) => Err(JobError::AlreadyReported(report_file_error(rt, self.path, &error))),
-        }
+        at_file(rt.alloc(), self.path, span_of(rt, self.path))
     }
 
     /// Writes files of days: writes and syncs all of them under other names, and then renames one after another in this
     /// order. So if there is no room for one of them, the folder stays as it was. Even if the program is stopped
     /// meanwhile, the folder has of each file the whole new one or what was there before, and a new one only if those
     /// before it are new too. What has one of the other names is removed first, so nothing is written through a link.
-    /// Errors:
-    ///
-    /// - `AlreadyReported`, with the exit status: a step failed, which is printed
-    /// - `Failed`: memory ran out, which isn't printed yet
+    /// The error is that a step failed.
     pub fn put(self, rt: &HostRuntime, files: &[DayFile<'_>]) -> Result<(), JobError>
-        ensures { IfErr result Fails }
+        ensures { IfErr result (Ends 3 []) }
     {
         match self.write_and_rename(rt, files) {
             Ok(()) => Ok(()),
@@ -133,7 +120,7 @@ impl<'a> Folder<'a> {
     /// Writes `file` like `put`, unless the folder has it with these very bytes: then syncs it, for which no room is
     /// needed. The errors are those of `put`.
     pub fn put_if_other(self, rt: &HostRuntime, file: DayFile<'_>) -> Result<(), JobError>
-        ensures { IfErr result Fails }
+        ensures { IfErr result (Ends 3 []) }
     {
         let path = self.file(rt, file.day, file.part)?;
         match is_synced_as(rt, &path, file.bytes) {
@@ -143,7 +130,7 @@ impl<'a> Folder<'a> {
     }
 
     fn write_and_rename(self, rt: &HostRuntime, files: &[DayFile<'_>]) -> Result<(), JobError>
-        ensures { IfErr result Fails }
+        ensures { IfErr result (Ends 3 []) }
     {
         for file in files {
             self.write_aside(rt, *file)?;
@@ -156,29 +143,22 @@ impl<'a> Folder<'a> {
 
     /// Writes `file` under its other name, and syncs it.
     fn write_aside(self, rt: &HostRuntime, file: DayFile<'_>) -> Result<(), JobError>
-        ensures { IfErr result Fails }
+        ensures { IfErr result (Ends 3 []) }
     {
         let path = self.file(rt, file.day, file.part)?;
         let aside = other_name(rt, &path)?;
-        if let Err(error) = remove(rt, &aside) {
-            return Err(JobError::AlreadyReported(report_file_error(rt, &aside, &error)));
-        }
-        match write_new(rt, &aside, file.bytes) {
-            Ok(()) => Ok(()),
-            Err(error) => Err(JobError::AlreadyReported(report_file_error(rt, &path, &error))),
-        }
+        at_file(rt.alloc(), &aside, remove(rt, &aside))?;
+        at_file(rt.alloc(), &path, write_new(rt, &aside, file.bytes))
     }
 
     /// Gives a file that `write_aside` wrote its own name, and syncs the folder.
     fn put_in_place(self, rt: &HostRuntime, file: DayFile<'_>) -> Result<(), JobError>
-        ensures { IfErr result Fails }
+        ensures { IfErr result (Ends 3 []) }
     {
         let path = self.file(rt, file.day, file.part)?;
         let aside = other_name(rt, &path)?;
-        match fs::rename(rt, &aside, &path) {
-            Ok(()) => self.sync(rt),
-            Err(error) => Err(JobError::AlreadyReported(report_file_error(rt, &path, &error))),
-        }
+        at_file(rt.alloc(), &path, fs::rename(rt, &aside, &path))?;
+        self.sync(rt)
     }
 
     /// Removes what `write_aside` wrote of these files. What can't be removed is removed by the next `put` of that
@@ -194,12 +174,9 @@ impl<'a> Folder<'a> {
     }
 
     fn sync(self, rt: &HostRuntime) -> Result<(), JobError>
-        ensures { IfErr result Fails }
+        ensures { IfErr result (Ends 3 []) }
     {
-        match synced(rt, self.path) {
-            Ok(()) => Ok(()),
-            Err(error) => Err(JobError::AlreadyReported(report_file_error(rt, self.path, &error))),
-        }
+        at_file(rt.alloc(), self.path, synced(rt, self.path))
     }
 }
 

@@ -1,20 +1,22 @@
 //! Closes the newest day of a station, or continues with it.
-ghost use Rattle.std.specs.Prelude.{◌≡◌, ◌≢◌, ◌⊎◌, ◌+◌, Ok, [], IfOk, IfErr, IfSome, string_bytes};
-ghost use Rattle.site_files.specs.Statuses.{EndsWith, IsFailed, Fails, IsReportedOrFailed, uncarried_status};
+ghost use Rattle.std.specs.Prelude.{◌≡◌, ◌≢◌, ◌⊎◌, ◌+◌, ◌++◌, Ok, [], IfOk, IfErr, IfSome, codes, string_bytes};
+ghost use Rattle.std.specs.Fmt.{decimal};
+ghost use Rattle.site_files.specs.JobErrors.{Ends, Refuses};
 ghost use Rattle.site_files.specs.Days.{path_of, day_to_serve, BeginsDay};
 
-use crate::faults::{Place, once_printed, print_fault, print_message, report_file_error};
 use crate::files::{regular_source_of, text_in, text_of};
 use crate::folder::{DayFile, Folder, Part, Span, day_after};
-use crate::job_error::JobError;
+use crate::job_error::{JobError, at_file};
 use crate::kept::{LockedClose, close_journal};
+use crate::messages::{Place, print_message};
 use crate::opening::{Day, begin_with, refuse_fault, refuse_words};
 use crate::settings::settings_in;
-use crate::statuses::{FAILED, REFUSED};
+use crate::statuses::FAILED;
 use days::writing::opening_text;
 use days::{Closed, Uncarried};
 use site_config::Settings;
-use site_core::Config;
+use site_core::{Config, OpeningFault};
+use std::alloc::{AllocError, Global};
 use std::fmt::{self, Display};
 
 /// The newest day of a folder, and the path of the day's journal. `config_to_write` is the text of the day's
@@ -34,11 +36,10 @@ pub struct Given<'a> {
     pub settings: Settings,
 }
 
-/// Reads the configuration that an argument names. If it can't be read or is refused, prints why; the error has the
-/// exit status.
+/// Reads the configuration that an argument names. The error is that it can't be read or is refused.
 pub fn read_given<'a>(rt: &HostRuntime, word: &'a str) -> Result<Given<'a>, JobError>
     ensures word { IfOk result (λ given. given.word.now ≡ word.now) }
-    ensures refused { IfErr result (IsReportedOrFailed 1) }
+    ensures refused { IfErr result (Refuses 1) }
 {
     let text = text_of(rt, word)?;
     match settings_in(rt, word, &text) {
@@ -56,12 +57,8 @@ pub fn read_given<'a>(rt: &HostRuntime, word: &'a str) -> Result<Given<'a>, JobE
 ///
 /// The configuration in `given` is used for a day that has none in the folder, or whose journal is missing or empty.
 /// Any other day keeps the configuration that it has in the folder. If the returned day keeps another configuration
-/// than the one in `given`, prints that it does. `given` also says how the day is served.
-/// Errors:
-///
-/// - `AlreadyReported`, with the exit status: a file can't be used or is refused, or the next day has begun already.
-///   This is printed.
-/// - `Failed`: memory ran out, which isn't printed yet
+/// than the one in `given`, prints that it does. `given` also says how the day is served. The error is that a file
+/// can't be used or is refused, or that the next day has begun already.
 pub fn newest_day(
     rt: &HostRuntime,
     folder: Folder<'_>,
@@ -72,7 +69,7 @@ pub fn newest_day(
         string_bytes newest.journal ≡ path_of folder.entry.path.now newest.day.number Part.Journal) }
     ensures serve { IfOk result (λ newest. newest.day.serve ≡ given.entry.settings.serve) }
     ensures config_to_write { IfOk result (λ newest. IfSome newest.config_to_write (λ text. text ≡ given.entry.text)) }
-    ensures refused { IfErr result (IsReportedOrFailed 1) }
+    ensures refused { IfErr result (Refuses 1) }
 {
     let number = number_of(rt, folder, &given, is_new_day)?;
     let journal = folder.file(rt, number, Part::Journal)?;
@@ -109,9 +106,7 @@ fn print_other_config(
     day: u32,
     given: &Given<'_>,
     kept: &Option<Config>,
-) -> Result<(), JobError>
-    ensures { IfErr result IsFailed }
-{
+) -> Result<(), AllocError> {
     let Some(kept) = kept else {
         return Ok(());
     };
@@ -157,19 +152,14 @@ fn day_to_serve(span: Option<Span>, is_new_day: bool) -> DayToServe
 /// day. If `is_new_day` and the newest day has an entry, closes that day and returns the next number.
 ///
 /// The configuration in `given` is used if the folder has none for the day to close, or if that day's journal is
-/// missing or empty.
-/// Errors:
-///
-/// - `AlreadyReported`, with the exit status: a file can't be used or is refused, or the next day has begun already.
-///   This is printed.
-/// - `Failed`: memory ran out, which isn't printed yet
+/// missing or empty. The error is that a file can't be used or is refused, or that the next day has begun already.
 fn number_of(
     rt: &HostRuntime,
     folder: Folder<'_>,
     given: &Given<'_>,
     is_new_day: bool,
 ) -> Result<u32, JobError>
-    ensures { IfErr result (IsReportedOrFailed 1) }
+    ensures { IfErr result (Refuses 1) }
 {
     let newest = match day_to_serve(folder.span(rt)?, is_new_day) {
         DayToServe::This(day) => return Ok(day),
@@ -202,15 +192,14 @@ struct ConfigTexts<'a> {
     next: &'a [u8],
 }
 
-/// Returns the configuration that a folder has for a day, or `None` if it has none. If the file can't be read or is
-/// refused, prints why; the error `AlreadyReported` has the exit status. The error `Failed` means that memory ran out,
-/// which isn't printed yet.
+/// Returns the configuration that a folder has for a day, or `None` if it has none. The error is that the file can't be
+/// read or is refused.
 pub fn kept_config(
     rt: &HostRuntime,
     folder: Folder<'_>,
     day: u32,
 ) -> Result<Option<Config>, JobError>
-    ensures { IfErr result (IsReportedOrFailed 1) }
+    ensures { IfErr result (Refuses 1) }
 {
     if !folder.has(rt, day, Part::Config)? {
         return Ok(None);
@@ -224,13 +213,10 @@ pub fn kept_config(
 }
 
 /// Returns the configuration that the folder has for a day whose journal isn't empty. Returns `None` if the folder has
-/// none, or if the journal is missing or empty: then the day can still get another configuration.
-/// Errors:
-///
-/// - `AlreadyReported`, with the exit status: a file can't be used or is refused, which is printed
-/// - `Failed`: memory ran out, which isn't printed yet
+/// none, or if the journal is missing or empty: then the day can still get another configuration. The error is that a
+/// file can't be used or is refused.
 fn fixed_config(rt: &HostRuntime, folder: Folder<'_>, day: u32) -> Result<Option<Config>, JobError>
-    ensures { IfErr result (IsReportedOrFailed 1) }
+    ensures { IfErr result (Refuses 1) }
 {
     if folder.has_bytes(rt, day, Part::Journal)? {
         kept_config(rt, folder, day)
@@ -240,12 +226,8 @@ fn fixed_config(rt: &HostRuntime, folder: Folder<'_>, day: u32) -> Result<Option
 }
 
 /// Reads the opening that the folder has for day `number`, and returns `config` with this opening in it. For day 1,
-/// returns `config` as it is.
-/// Errors:
-///
-/// - `AlreadyReported`, with the exit status: the opening is missing, can't be read, is refused, doesn't fit `config`
-///   or belongs to another day. This is printed.
-/// - `Failed`: memory ran out, which isn't printed yet
+/// returns `config` as it is. The error is that the opening is missing, can't be read, is refused, doesn't fit `config`
+/// or belongs to another day.
 fn begin_day(
     rt: &HostRuntime,
     folder: Folder<'_>,
@@ -254,19 +236,18 @@ fn begin_day(
 ) -> Result<Config, JobError>
     ensures first { number ≡ 1 → result ≡ Ok config }
     ensures later { number ≢ 1 → IfOk result (BeginsDay config number) }
-    ensures refused { IfErr result (IsReportedOrFailed 1) }
+    ensures refused { IfErr result (Refuses 1) }
 {
     if number == 1 {
         return Ok(config);
     }
     let path = folder.file(rt, number, Part::Opening)?;
     if !folder.has(rt, number, Part::Opening)? {
-        return Err(JobError::AlreadyReported(refuse_link(rt, Place::of(&path), number, &UNOPENED)));
+        return Err(refuse_link(rt.alloc(), Place::of(&path), number, &UNOPENED));
     }
     let begun = begin_with(rt, &path, regular_source_of(rt, &path)?, config)?;
     if begun.number != number {
-        let status = refuse_link(rt, Place::of(&path), number, &OfDay(begun.number));
-        return Err(JobError::AlreadyReported(status));
+        return Err(refuse_link(rt.alloc(), Place::of(&path), number, &OfDay(begun.number)));
     }
     Ok(begun.config)
 }
@@ -274,13 +255,12 @@ fn begin_day(
 /// The message for a day that has no opening.
 pub const UNOPENED: &str = "the day has no opening";
 
-/// Prints that `day` doesn't follow the day before it: on standard error `place`, `words` (the reason) and the fault's
-/// number O1, and on standard output O1 and `day`. Returns the exit status.
-pub fn refuse_link<D: Display>(rt: &HostRuntime, place: Place<'_>, day: u32, words: &D) -> u8
-    ensures { EndsWith 1 result }
+/// Makes the error for a day that doesn't follow the day before it: `words` are the reason, the fault's number is O1,
+/// and the line on standard output is O1 and `day`.
+pub fn refuse_link<D: Display>(alloc: Global, place: Place<'_>, day: u32, words: &D) -> JobError
+    ensures { Ends 1 (codes "O1 " ++ (decimal day ++ codes "\n")) result }
 {
-    print_fault(rt, place, words, "O1");
-    once_printed(rt, println!(rt; "O1 {day}"), REFUSED)
+    JobError::refused_as(alloc, place, words, "O1", &format_args!("O1 {day}"))
 }
 
 /// The message that an opening belongs to another day than the one it was read for. The field is the number of the day
@@ -301,12 +281,7 @@ impl Display for OfDay {
 
 /// Closes day `number`, unless it has no entry. Returns the number of the day that is then the newest. `config` is the
 /// configuration of the day's site, without an opening. `texts` are the configurations that closing the day also writes
-/// into the folder.
-/// Errors:
-///
-/// - `AlreadyReported`, with the exit status: a file can't be used or is refused, or the next day has begun already.
-///   This is printed.
-/// - `Failed`: memory ran out, which isn't printed yet
+/// into the folder. The error is that a file can't be used or is refused, or that the next day has begun already.
 fn close_day(
     rt: &HostRuntime,
     folder: Folder<'_>,
@@ -315,7 +290,7 @@ fn close_day(
     texts: ConfigTexts<'_>,
 ) -> Result<u32, JobError>
     ensures newest { IfOk result (λ newest. (newest ≡ number) ⊎ (newest ≡ number + 1)) }
-    ensures refused { IfErr result (IsReportedOrFailed 1) }
+    ensures refused { IfErr result (Refuses 1) }
 {
     let path = folder.file(rt, number, Part::Journal)?;
     let config = begin_day(rt, folder, number, config)?;
@@ -331,8 +306,7 @@ fn close_day(
 /// - syncs the day's journal, whose path is `journal`
 /// - writes the configurations in `texts`, and the opening of the next day
 ///
-/// If a step fails, prints why; the error `AlreadyReported` has the exit status. The error `Failed` means that memory
-/// ran out, which isn't printed yet.
+/// The error is that a step failed.
 fn put_close(
     rt: &HostRuntime,
     folder: Folder<'_>,
@@ -344,21 +318,18 @@ fn put_close(
     ensures empty { closing.now.closed.site.history ≡ [] → result ≡ Ok number }
     ensures closed { closing.now.closed.site.history ≢ [] → IfOk result (λ newest. newest ≡ number + 1) }
     ensures newest { IfOk result (λ newest. (newest ≡ number) ⊎ (newest ≡ number + 1)) }
-    ensures refused { IfErr result (IsReportedOrFailed 1) }
+    ensures refused { IfErr result (Refuses 1) }
 {
     if closing.closed.site.history().is_empty() {
         return Ok(number);
     }
     check_newest(rt, folder, number)?;
-    if let Err(error) = closing.file.sync_all() {
-        return Err(JobError::AlreadyReported(report_file_error(rt, journal, &error)));
-    }
+    at_file(rt.alloc(), journal, closing.file.sync_all())?;
     begin_next_day(rt, folder, number, &closing.closed, texts)
 }
 
 /// Writes the opening of the day after day `number`, and the configurations in `texts`. Returns that next day's number.
-/// If this fails, prints why; the error `AlreadyReported` has the exit status. The error `Failed` means that memory ran
-/// out, which isn't printed yet. After either error the next day hasn't begun, unless only a sync of the folder failed.
+/// After an error the next day hasn't begun, unless only a sync of the folder failed.
 fn begin_next_day(
     rt: &HostRuntime,
     folder: Folder<'_>,
@@ -367,13 +338,13 @@ fn begin_next_day(
     texts: ConfigTexts<'_>,
 ) -> Result<u32, JobError>
     ensures next { IfOk result (λ next. next ≡ number + 1) }
-    ensures refused { IfErr result (IsReportedOrFailed 1) }
+    ensures refused { IfErr result (Refuses 1) }
 {
     let opening = match closed.opening(number) {
         Ok(opening) => opening,
         Err(why) => {
             let path = folder.file(rt, number, Part::Journal)?;
-            return Err(refuse_uncarried(rt, &path, why));
+            return Err(refuse_uncarried(rt.alloc(), &path, why));
         }
     };
     let text = opening_text(rt.alloc(), &opening)?;
@@ -395,7 +366,7 @@ fn put_next_day(
     opening: DayFile<'_>,
     texts: ConfigTexts<'_>,
 ) -> Result<(), JobError>
-    ensures { IfErr result Fails }
+    ensures { IfErr result (Ends 3 []) }
 {
     let next = DayFile {
         day: opening.day,
@@ -416,13 +387,10 @@ fn put_next_day(
 }
 
 /// Checks that the day after day `number` hasn't begun: that it has no opening. If the caller has locked the journal of
-/// day `number` and gets no error, no other process begins the next day until the lock is released.
-/// Errors:
-///
-/// - `AlreadyReported`, with the exit status: the next day has begun, or that can't be found out. This is printed.
-/// - `Failed`: memory ran out, which isn't printed yet
+/// day `number` and gets no error, no other process begins the next day until the lock is released. The error is that
+/// the next day has begun, or that this can't be found out.
 pub fn check_newest(rt: &HostRuntime, folder: Folder<'_>, number: u32) -> Result<(), JobError>
-    ensures { IfErr result Fails }
+    ensures { IfErr result (Ends 3 []) }
 {
     let Some(next) = day_after(number, u32::MAX) else {
         return Ok(());
@@ -431,16 +399,17 @@ pub fn check_newest(rt: &HostRuntime, folder: Folder<'_>, number: u32) -> Result
         return Ok(());
     }
     let path = folder.file(rt, number, Part::Journal)?;
-    print_message(rt, &format_args!("{path}: day {next} has begun"));
-    Err(JobError::AlreadyReported(FAILED))
+    let words = format_args!("day {next} has begun");
+    Err(JobError::at(rt.alloc(), Place::of(&path), &words, FAILED))
 }
 
-/// Prints why a day can't be closed. `journal` names the file of its journal. The result has the exit status.
-pub fn refuse_uncarried(rt: &HostRuntime, journal: &str, why: Uncarried) -> JobError
-    ensures { result ≡ JobError.AlreadyReported (uncarried_status why) }
+/// Makes the error for a day that can't be closed. `journal` names the file of its journal.
+pub fn refuse_uncarried(alloc: Global, journal: &str, why: Uncarried) -> JobError
+    ensures ends { Ends 1 [] result }
+    ensures memory { why ≡ Uncarried.Fault OpeningFault.OutOfMemory → result ≡ JobError.OutOfMemory }
 {
     match why {
-        Uncarried::Fault(fault) => refuse_fault(rt, journal, fault, &why),
-        Uncarried::LastDay => refuse_words(rt, journal, &why),
+        Uncarried::Fault(fault) => refuse_fault(alloc, journal, fault, &why),
+        Uncarried::LastDay => refuse_words(alloc, journal, &why),
     }
 }

@@ -1,18 +1,21 @@
 //! Reading of the files that say what a site begins with: its configuration, and its opening.
-ghost use Rattle.std.specs.Prelude.{◌≡◌, ◌&&◌, false, None, Some, Ok, Err, IfOk, IfErr, IsSome, IsTrue, option_map};
+ghost use Rattle.std.specs.Prelude.{◌≡◌, ◌&&◌, [], false, None, Some, Ok, IfOk, IfErr, IsErrAnd, IsSome, IsTrue, option_map};
+ghost use Rattle.site_config.specs.Flaws.{fault_of};
 ghost use Rattle.site_config.specs.Ranges.{config_of, settings_view};
 ghost use Rattle.site_files.specs.Asked.{is_input, may_be_input, reads_twice};
-ghost use Rattle.site_files.specs.Statuses.{IsReported, IsReportedOrFailed};
+ghost use Rattle.site_files.specs.JobErrors.{Ends, Refuses};
+ghost use Rattle.site_files.specs.Refusals.{RefusesConfig};
 ghost use Rattle.site_files.specs.Days.{BeginsDay};
 
-use crate::faults::{print_message, refuse_config};
-use crate::files::{Source, is_input, source_of, text_of};
+use crate::files::{Source, is_input, text_of};
 use crate::job_error::JobError;
+use crate::messages::Place;
 use crate::opening::{Begun, Day, begin_with};
 use crate::statuses::USAGE;
-use site_config::Settings;
 use site_config::ranges::read_settings;
+use site_config::{ConfigFault, ConfigFlaw, Settings};
 use site_core::Config;
+use std::alloc::Global;
 
 /// The arguments that name the files of a site: its configuration, and the opening that it begins with, if there is
 /// one.
@@ -47,21 +50,17 @@ impl<'a> SiteFiles<'a> {
     }
 }
 
-/// Reads the configuration of a site, and then the site's opening, if `site` names one.
-/// Errors:
-///
-/// - `AlreadyReported`, with the exit status: a file can't be read or is refused, memory ran out while the settings
-///   were read, or both files are standard input. This is printed.
-/// - `Failed`: memory ran out, which isn't printed yet
+/// Reads the configuration of a site, and then the site's opening, if `site` names one. The error is that a file can't
+/// be read or is refused, or that both files are standard input.
 pub fn day_of(rt: &HostRuntime, site: SiteFiles<'_>) -> Result<Day, JobError>
     ensures twice { IsTrue (is_input site.entry.config.now && may_be_input (option_map (λ w. w.now) site.entry.opening))
-        → result ≡ Err (JobError.AlreadyReported 2) }
+        → IsErrAnd result (Ends 2 []) }
     ensures first { site.entry.opening ≡ None → IfOk result (λ day. day.number ≡ 1) }
     ensures once { is_input site.entry.config.now && may_be_input (option_map (λ w. w.now) site.entry.opening) ≡ false
-        → IfErr result (IsReportedOrFailed 1) }
+        → IfErr result (Refuses 1) }
 {
     if is_input(site.config) && site.is_opening_input() {
-        return Err(refuse_twice(rt));
+        return Err(refuse_twice(rt.alloc()));
     }
     let text = text_of(rt, site.config)?;
     let Settings { config, serve } = settings_in(rt, site.config, &text)?;
@@ -76,66 +75,74 @@ pub fn day_of(rt: &HostRuntime, site: SiteFiles<'_>) -> Result<Day, JobError>
 }
 
 /// Returns `config`, with the site's opening in it if there is one, and the day's number, which is 1 without an
-/// opening.
-/// Errors:
-///
-/// - `AlreadyReported`, with the exit status: the opening can't be read, is refused or doesn't fit `config`, which is
-///   printed
-/// - `Failed`: memory ran out, which isn't printed yet
+/// opening. The error is that the opening can't be read, is refused or doesn't fit `config`.
 fn begun_by(rt: &HostRuntime, site: SiteFiles<'_>, config: Config) -> Result<Begun, JobError>
     ensures first { site.entry.opening ≡ None → result ≡ Ok (record { config = config; number = 1 }) }
     ensures opened { IsSome site.entry.opening → IfOk result (λ begun. BeginsDay config begun.number begun.config) }
-    ensures refused { IfErr result (IsReportedOrFailed 1) }
+    ensures refused { IfErr result (Refuses 1) }
 {
     match site.opening {
-        Some(opening) => begin_with(rt, opening, source_of(rt, opening)?, config),
+        Some(opening) => begin_with(rt, opening, Source::open(rt, opening)?, config),
         None => Ok(Begun { config, number: 1 }),
     }
 }
 
-/// Prints that the command line names standard input for two files. The result has the exit status.
-fn refuse_twice(rt: &HostRuntime) -> JobError
-    ensures { result ≡ JobError.AlreadyReported 2 }
+/// Makes the error for a command line that names standard input for two files.
+fn refuse_twice(alloc: Global) -> JobError
+    ensures { Ends 2 [] result }
 {
-    print_message(
-        rt,
-        &"- is standard input, which is read once: name one of the two files",
-    );
-    JobError::AlreadyReported(USAGE)
+    let words = "- is standard input, which is read once: name one of the two files";
+    JobError::message(alloc, &words, USAGE)
 }
 
-/// Reads the settings in `text`, the text of a configuration. If the text is refused, or memory runs out, prints why;
-/// the error has the exit status. `word` names the configuration's file.
+/// Reads the settings in `text`, the text of a configuration in the file that `word` names. The error is that the text
+/// is refused.
 pub fn settings_in(rt: &HostRuntime, word: &str, text: &[u8]) -> Result<Settings, JobError>
     ensures read { IfOk result (λ settings. config_of text.now ≡ Ok (settings_view settings)) }
-    ensures refused { IfErr result (IsReported 1) }
+    ensures refused { IfErr result (Refuses 1) }
 {
     match read_settings(rt.alloc(), text) {
         Ok(settings) => Ok(settings),
-        Err(flaw) => Err(JobError::AlreadyReported(refuse_config(rt, word, &flaw))),
+        Err(flaw) => Err(refuse_config(rt.alloc(), word, &flaw)),
     }
 }
 
-/// Reads the site's configuration, and its opening, if `site` names one. Then opens the file that `other` names.
-/// Errors:
-///
-/// - `AlreadyReported`, with the exit status: a file can't be used or is refused, or two of them are standard input.
-///   This is printed.
-/// - `Failed`: memory ran out, which isn't printed yet
+/// Makes the error for a configuration, in the file that `word` names, that is refused (K1 to K3).
+fn refuse_config(alloc: Global, word: &str, flaw: &ConfigFlaw) -> JobError
+    ensures refused { RefusesConfig (fault_of flaw.now) result }
+    ensures status { Refuses 1 result }
+{
+    let code = match flaw.fault() {
+        ConfigFault::K1 => "K1",
+        ConfigFault::K2 => "K2",
+        ConfigFault::K3 => "K3",
+        ConfigFault::OutOfMemory => return JobError::OutOfMemory,
+    };
+    let place = match flaw.position() {
+        Some((line, column)) => Place::of(word).line(line as u64).column(column as u64),
+        None => Place::of(word),
+    };
+    JobError::refused(alloc, place, flaw, code)
+}
+
+/// Reads the site's configuration, and its opening, if `site` names one. Then opens the file that `other` names. The
+/// error is that a file can't be used or is refused, or that two of them are standard input.
 pub fn day_and(
     rt: &HostRuntime,
     site: SiteFiles<'_>,
     other: &str,
 ) -> Result<(Day, Source), JobError>
     ensures twice { IsTrue (reads_twice site.entry.config.now (option_map (λ w. w.now) site.entry.opening) other.now)
-        → result ≡ Err (JobError.AlreadyReported 2) }
+        → IsErrAnd result (Ends 2 []) }
     ensures once { reads_twice site.entry.config.now (option_map (λ w. w.now) site.entry.opening) other.now ≡ false
-        → IfErr result (IsReportedOrFailed 1) }
+        → IfErr result (Refuses 1) }
 {
     if is_input(other) && (is_input(site.config) || site.is_opening_input()) {
-        return Err(refuse_twice(rt));
+        return Err(refuse_twice(rt.alloc()));
     }
     let day = day_of(rt, site)?;
-    let source = source_of(rt, other)?;
-    Ok((day, source))
+    match Source::open(rt, other) {
+        Ok(source) => Ok((day, source)),
+        Err(job_error) => Err(job_error),
+    }
 }
