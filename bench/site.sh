@@ -1,7 +1,8 @@
 #!/bin/sh
 # Plays and audits by fc and by the same in C (site.c, by gcc -O2), in turns, and prints tables in Markdown: processor
-# time, nanoseconds a line, most memory, and their ratios, over scripts of all kinds of lines and of decisions alone; and
-# what a line costs in a play of 1,000,000 lines against one in a play of 10,000.
+# time, nanoseconds a line, most memory, and their ratios, over scripts of all kinds of lines and of decisions alone; the
+# same of audits by fc of these journals, and of the journals with another answer in the last grant, which are refused;
+# and what a line costs in a play of 1,000,000 lines against one in a play of 10,000.
 # Usage: bench/site.sh [LINES ..]; without numbers 100000 and 1048576, which is a full journal. TURNS is the number of
 # turns, 7 where it isn't set. Answers, journals and what the audits say have to be the same.
 # The program is out/fc, which ./fc builds, or $FC.
@@ -31,13 +32,22 @@ make_script() {
     for said in "$("$fc" audit "$station" "$work/journal")" "$("$work/site" audit "$work/journal")"; do
         [ "$said" = "legal $2" ] || { echo "site.sh: an audit says $said" >&2; exit 1; }
     done
+    at=$(grep -n ' = granted ' "$work/journal" | tail -n 1 | cut -d: -f1)
+    sed "${at}s/ = granted / = granted 1/" "$work/journal" >"$work/refused"
+    said=$("$fc" audit "$station" "$work/refused" 2>/dev/null) || true
+    [ "$said" = "F3 $at" ] || { echo "site.sh: the audit of another answer says $said" >&2; exit 1; }
 }
 
-# measure NAME COMMAND ..: the microseconds and KB that one run takes, a line more in $work/NAME.
-measure() {
+# run NAME COMMAND ..: the microseconds and KB that one run takes, a line more in $work/NAME; and its status.
+run() {
     name=$1
     shift
-    "$work/taken" "$work/$name" "$@" >/dev/null </dev/null || { echo "site.sh: $name failed" >&2; exit 1; }
+    "$work/taken" "$work/$name" "$@" >/dev/null 2>&1 </dev/null
+}
+
+# measure NAME COMMAND ..: the same of a run that has to succeed.
+measure() {
+    run "$@" || { echo "site.sh: $1 failed" >&2; exit 1; }
 }
 
 # the middle and the least of the microseconds, and the most KB
@@ -66,12 +76,18 @@ for kind in all decisions; do
             measure theirs.play "$work/site" play "$work/script"
             measure ours.audit "$fc" audit "$station" "$work/journal"
             measure theirs.audit "$work/site" audit "$work/journal"
+            run refused.audit "$fc" audit "$station" "$work/refused" && exit 1
             turn=$((turn + 1))
         done
         row play "$kind" "$lines" ours.play theirs.play
         row audit "$kind" "$lines" ours.audit theirs.audit
+        row 'refused audit' "$kind" "$lines" refused.audit ours.audit >>"$work/refused.rows"
     done
 done
+echo
+echo '| step | script | lines | refused, s | legal, s | ns a line | ns a line | ratio | of the least | refused, MB | legal, MB |'
+echo '|---|---|---|---|---|---|---|---|---|---|---|'
+cat "$work/refused.rows"
 
 # Without the start of the program, which counts for much at 10,000 lines.
 for lines in 0 10000 1000000; do

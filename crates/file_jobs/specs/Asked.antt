@@ -1,6 +1,6 @@
 -- Definitions: which rows `fc export` prints for its arguments and in which format, and what `fc asm`, `fc dis` and `fc
 -- verify` print (source: this project).
-use Rattle.std.specs.Prelude.{◌≡◌, ◌≢◌, ◌⊎◌, ℕ, List, [], Result, Ok, Err, string_bytes}
+use Rattle.std.specs.Prelude.{◌≢◌, ◌⊎◌, ℕ, List, [], Result, Ok, Err}
 use Rattle.command_line.specs.declared.job.Rows.{Rows}
 use Rattle.command_line.specs.declared.job.Rows.TheVariants as asked
 use Rattle.command_line.specs.declared.job.Format.{Format}
@@ -9,9 +9,13 @@ use Rattle.day_export.specs.declared.cells.Rows.{Rows as DayRows}
 use Rattle.day_export.specs.declared.cells.Rows.TheVariants as rows
 use Rattle.day_export.specs.declared.cells.Format.{Format as RowFormat}
 use Rattle.day_export.specs.declared.cells.Format.TheVariants as format
-use Rattle.job_texts.specs.declared.output.JobOutput.{JobOutput}
-use Rattle.job_texts.specs.JobOutput.{VerifyPrints}
-use Rattle.job_texts.specs.Assembler.{AsmPrints, DisPrints, DisUnitsPrints}
+use Rattle.bpf_asm.specs.Numbered.{numbered_from}
+use Rattle.bpf_asm.specs.ProgramFile.{program_in}
+use Rattle.bpf_asm.specs.Text.{canonical_text}
+use Rattle.job_texts.specs.declared.file_flaws.FileFlaw.{FileFlaw}
+use Rattle.job_texts.specs.declared.file_flaws.FileFlaw.TheVariants as flaws
+use Rattle.job_texts.specs.FileFlaws.{IsAsmFlaw, IsDisFlaw, IsVerifyFlaw, line_of}
+use Rattle.job_texts.specs.Printed.{Assembles, Disassembles, Verifies}
 use Rattle.file_jobs.specs.declared.programs.PrintRequest.{PrintRequest}
 use Rattle.file_jobs.specs.declared.programs.PrintRequest.TheVariants as request
 use Rattle.site_files.specs.declared.job_error.JobError.{JobError}
@@ -27,20 +31,32 @@ abbrev pub format_of : Format → RowFormat
 format_of form.Csv = format.Csv
 format_of form.Json = format.Json
 
--- The output (a text and an exit status) is what the request asks for about a file with these bytes.
-abbrev pub PrintsFile : PrintRequest → List ℕ → JobOutput → Type 0
-PrintsFile request.Asm text output = AsmPrints text output
-PrintsFile request.Dis text output = DisPrints text output
-PrintsFile request.DisUnits text output = DisUnitsPrints text output
-PrintsFile (request.Verify counters layout) text output = VerifyPrints text counters layout output
+-- The request accepts a file with these bytes, and prints this text of it.
+abbrev pub Accepts : PrintRequest → List ℕ → List ℕ → Type 0
+Accepts request.Asm file printed = Assembles file printed
+Accepts request.Dis file printed = Disassembles canonical_text (program_in file) printed
+Accepts request.DisUnits file printed = Disassembles (numbered_from 0) (program_in file) printed
+Accepts (request.Verify counters layout) file printed = Verifies (program_in file) counters layout printed
 
--- The error is what this output says, or that standard output can't be written, or that memory ran out.
-abbrev pub EndsAs : JobOutput → JobError → Type 0
-EndsAs output error = Ends output.status (string_bytes output.text) error ⊎ Ends 3 [] error
+-- The request refuses a file with these bytes for this flaw. Memory can run out at any time.
+abbrev pub IsFlaw : PrintRequest → List ℕ → FileFlaw → Type 0
+IsFlaw request.Asm file flaw = IsAsmFlaw file flaw
+IsFlaw request.Dis file flaw = IsDisFlaw (program_in file) flaw
+IsFlaw request.DisUnits file flaw = IsDisFlaw (program_in file) flaw
+IsFlaw (request.Verify counters layout) file flaw = IsVerifyFlaw (program_in file) counters layout flaw
 
--- What is asked for about a file with these bytes is printed, with status 0, or is the output of the error. An error that
--- memory ran out can come in any case.
+-- The request refuses a file with these bytes, and the error has the line of its flaw.
+abbrev pub IsRefusal : PrintRequest → List ℕ → JobError → Type 0
+IsRefusal request file error =
+    (flaw : FileFlaw) × IsFlaw request file flaw × (flaw ≢ flaws.OutOfMemory) × Ends 1 (line_of flaw) error
+
+-- The request accepts a file with these bytes, but standard output can't be written.
+abbrev pub IsUnwritten : PrintRequest → List ℕ → JobError → Type 0
+IsUnwritten request file error = (printed : List ℕ) × Accepts request file printed × Ends 3 [] error
+
+-- What the request prints of a file with these bytes is printed; or the file is refused, or standard output can't be
+-- written. An error that memory ran out can come in any case.
 abbrev pub PrintsAsked : {U : Type 0} → PrintRequest → List ℕ → Result U JobError → Type 0
-PrintsAsked request text (Ok done) = (output : JobOutput) × PrintsFile request text output × (output.status ≡ 0)
-PrintsAsked request text (Err error) =
-    error ≢ job_error.OutOfMemory → (output : JobOutput) × PrintsFile request text output × EndsAs output error
+PrintsAsked request file (Ok done) = (printed : List ℕ) × Accepts request file printed
+PrintsAsked request file (Err error) =
+    error ≢ job_error.OutOfMemory → IsRefusal request file error ⊎ IsUnwritten request file error

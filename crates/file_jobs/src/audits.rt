@@ -4,7 +4,7 @@ ghost use Rattle.site_files.specs.Asked.{reads_twice};
 ghost use Rattle.site_files.specs.JobErrors.{Ends};
 
 use crate::audited::audited_site;
-use job_texts::audit::legal_output;
+use job_texts::audit::legal_line;
 use site_files::job_error::print_text;
 use site_files::{JobError, SiteFiles};
 
@@ -15,5 +15,5 @@ pub fn audit_files(rt: &HostRuntime, site: SiteFiles<'_>, journal: &str) -> Resu
         → IsErrAnd result (Ends 2 []) }
 {
     let site = audited_site(rt, site, journal)?;
-    print_text(rt, &legal_output(rt.alloc(), &site)?.text)
+    print_text(rt, &legal_line(rt.alloc(), &site)?)
 }

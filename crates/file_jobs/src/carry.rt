@@ -7,12 +7,11 @@ use crate::progress::watch;
 use days::Closed;
 use days::closing::close;
 use days::writing::opening_text;
-use site_core::Config;
 use site_files::job_error::print_text;
 use site_files::newest::refuse_uncarried;
-use site_files::refused_journals::{refuse_entry, refuse_text};
+use site_files::refused_journals::audited;
 use site_files::settings::day_and;
-use site_files::{JobError, SiteFiles, Source};
+use site_files::{JobError, SiteFiles};
 
 /// Audits the journal in the file that `journal` names, as a journal of the site that `site` names. Prints the opening
 /// of the next day. The error is that a file is refused or can't be read, that two files are standard input, or that
@@ -23,30 +22,13 @@ pub fn carry_files(rt: &HostRuntime, site: SiteFiles<'_>, journal: &str) -> Resu
 {
     let (day, source) = day_and(rt, site, journal)?;
     let number = day.number;
-    match closed(rt, day.config, journal, source) {
-        Ok(closed) => print_opening(rt, journal, number, &closed),
-        Err(job_error) => Err(job_error),
-    }
-}
-
-/// Audits a journal, and returns the close of its day: the site after the last entry, and the journal's digest. The
-/// error is that the journal is refused or can't be read.
-fn closed(
-    rt: &HostRuntime,
-    config: Config,
-    journal: &str,
-    source: Source,
-) -> Result<Closed, JobError>
-    ensures { IfErr result (Refuses 1) }
-{
     let size = source.size();
     let mut input = watch(rt, source, size);
-    let closed = close(rt.alloc(), config, &mut input);
+    let audit = close(rt.alloc(), day.config, &mut input);
     input.progress.clear();
-    match closed {
-        Ok(Ok(closed)) => Ok(closed),
-        Ok(Err(flaw)) => Err(refuse_entry(rt.alloc(), journal, flaw)),
-        Err(fault) => Err(refuse_text(rt.alloc(), journal, fault, input.input.reader.failure())),
+    match audited(rt.alloc(), journal, audit, input.input.reader.failure()) {
+        Ok(closed) => print_opening(rt, journal, number, &closed),
+        Err(job_error) => Err(job_error),
     }
 }
 

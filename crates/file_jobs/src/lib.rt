@@ -9,7 +9,6 @@ pub mod carry;
 pub mod chained;
 pub mod export;
 pub mod plays;
-mod program_faults;
 pub mod programs;
 mod progress;
 mod refused_loads;

@@ -1,19 +1,17 @@
 //! What `fc asm`, `fc dis` and `fc verify` print of a file.
-ghost use Rattle.std.specs.Prelude.{IfOk, string_bytes};
+ghost use Rattle.std.specs.Prelude.{◌≡◌, IfOk, IfErr, string_bytes};
+ghost use Rattle.job_texts.specs.FileFlaws.{line_of};
 ghost use Rattle.site_files.specs.JobErrors.{Ends};
-ghost use Rattle.file_jobs.specs.Asked.{PrintsFile, PrintsAsked};
+ghost use Rattle.file_jobs.specs.Asked.{Accepts, IsFlaw, PrintsAsked};
 
-use crate::program_faults::{refuse_asm, refuse_program};
+use bpf_asm::AsmFault;
 use bpf_model::context::Layout;
-use job_texts::JobOutput;
-use job_texts::assembler::{asm_file, dis_file, dis_units_file};
-use job_texts::file_flaws::{dis_flaw, verify_flaw};
-use job_texts::program::verify_file;
-use job_texts::reasons::asm_flaw;
+use job_texts::FileFlaw;
+use job_texts::programs::{asm_file, dis_file, dis_units_file, verify_file};
 use site_files::files::text_of;
 use site_files::job_error::print_text;
-use site_files::{DONE, JobError};
-use std::alloc::{AllocError, Global};
+use site_files::{JobError, Place};
+use std::alloc::Global;
 
 /// What to print of a file:
 ///
@@ -36,61 +34,55 @@ pub fn print_file(rt: &HostRuntime, word: &str, request: PrintRequest) -> Result
     print_bytes(rt, word, request, &text)
 }
 
-/// Prints what `request` asks for about a file with the bytes `text`, which `word` names. The error is that the file is
+/// Prints what `request` asks for about a file with these bytes, which `word` names. The error is that the file is
 /// refused.
 fn print_bytes(
     rt: &HostRuntime,
     word: &str,
     request: PrintRequest,
-    text: &[u8],
+    file: &[u8],
 ) -> Result<(), JobError>
-    ensures { PrintsAsked request text.now result }
+    ensures { PrintsAsked request file.now result }
 {
-    let output = output_of(rt.alloc(), request, text)?;
-    if output.status == DONE {
-        return print_text(rt, &output.text);
-    }
-    match refused(rt.alloc(), word, request, text, output) {
-        Ok(job_error) => Err(job_error),
-        Err(refused) => Err(JobError::from(refused)),
+    match printed_text(rt.alloc(), request, file) {
+        Ok(text) => print_text(rt, &text),
+        Err(flaw) => Err(refuse_file(rt.alloc(), word, &flaw)),
     }
 }
 
-/// Returns the text to print for a file whose bytes are `text`, and the exit status. The error is that memory ran out.
-fn output_of(alloc: Global, request: PrintRequest, text: &[u8]) -> Result<JobOutput, AllocError>
-    ensures { IfOk result (PrintsFile request text.now) }
+/// Returns the text to print for a file with these bytes. The error is that the file is refused.
+fn printed_text<'a>(
+    alloc: Global,
+    request: PrintRequest,
+    file: &'a [u8],
+) -> Result<String, FileFlaw<'a>>
+    ensures text { IfOk result (λ text. Accepts request file.now (string_bytes text)) }
+    ensures flaw { IfErr result (IsFlaw request file.now) }
 {
     match request {
-        PrintRequest::Asm => asm_file(alloc, text),
-        PrintRequest::Dis => dis_file(alloc, text),
-        PrintRequest::DisUnits => dis_units_file(alloc, text),
-        PrintRequest::Verify(counters, context) => verify_file(alloc, text, counters, context),
+        PrintRequest::Asm => asm_file(alloc, file),
+        PrintRequest::Dis => dis_file(alloc, file),
+        PrintRequest::DisUnits => dis_units_file(alloc, file),
+        PrintRequest::Verify(counters, context) => verify_file(alloc, file, counters, context),
     }
 }
 
-/// Makes the error for a file that is refused. `output` is printed on standard output. The `AllocError` means that
-/// memory ran out.
-fn refused(
-    alloc: Global,
-    word: &str,
-    request: PrintRequest,
-    text: &[u8],
-    output: JobOutput,
-) -> Result<JobError, AllocError>
-    ensures { IfOk result (Ends output.status (string_bytes output.text)) }
+/// Makes the error for a file, which `word` names, that is refused.
+fn refuse_file(alloc: Global, word: &str, flaw: &FileFlaw<'_>) -> JobError
+    ensures ends { Ends 1 (line_of flaw.now) result }
+    ensures memory { flaw.now ≡ FileFlaw.OutOfMemory → result ≡ JobError.OutOfMemory }
 {
-    let flaw = match request {
-        PrintRequest::Asm => {
-            return match asm_flaw(alloc, text)? {
-                Some((fault, flaw)) => Ok(refuse_asm(alloc, word, fault, &flaw, output)),
-                None => Err(AllocError),
-            };
-        }
-        PrintRequest::Dis | PrintRequest::DisUnits => dis_flaw(alloc, text)?,
-        PrintRequest::Verify(counters, context) => verify_flaw(alloc, text, counters, context)?,
+    let Ok(line) = flaw.line(alloc) else {
+        return JobError::OutOfMemory;
     };
-    match flaw {
-        Some(flaw) => Ok(refuse_program(alloc, word, &flaw, output)),
-        None => Err(AllocError),
-    }
+    let place = match flaw {
+        FileFlaw::Text(
+            AsmFault::BadLine(number) | AsmFault::BadLabel(number) | AsmFault::OutOfRange(number),
+            _,
+        ) => Place::of(word).line(*number),
+        _ => Place::of(word),
+    };
+    // The line begins with the number of the fault, as in `A1 7`.
+    let code = line.split(' ').next().unwrap_or("");
+    JobError::refused_as(alloc, place, flaw, code, &line)
 }

@@ -2,8 +2,6 @@
 use Rattle.std.specs.Prelude.{ℕ, List, [], ◌++◌, length, codes, Option, Some, None}
 use Rattle.std.specs.Fmt.{decimal}
 use Rattle.decision_journal.specs.declared.entries.Entry.{Entry}
-use Rattle.decision_journal.specs.declared.fault.JournalFault.{JournalFault}
-use Rattle.decision_journal.specs.declared.fault.JournalFault.TheVariants as journal
 use Rattle.till_request.specs.declared.act.Answer.TheVariants.{Program}
 use Rattle.till_request.specs.Answer.{answer_line}
 use Rattle.reg_types.specs.Refusals.{refusal_numbers}
@@ -18,7 +16,7 @@ use Rattle.site_core.specs.declared.flaw.EntryFlaw.TheVariants as flaw
 -- - the number of the register or argument, if the fault names one
 abbrev pub program_text : ℕ → Option (ℕ × (Option ℕ) × (Option ℕ)) → List ℕ
 program_text number None = []
-program_text number (Some p) = codes "F2 " ++ decimal number ++ codes " " ++ answer_line (Program p.0 p.1 p.2)
+program_text number (Some p) = codes "F2 " ++ (decimal number ++ (codes " " ++ answer_line (Program p.0 p.1 p.2)))
 
 abbrev pub line_of_flaw : EntryFlaw → List ℕ
 line_of_flaw (flaw.Number place number) = codes "F1 " ++ decimal place ++ codes "\n"
@@ -28,10 +26,3 @@ line_of_flaw (flaw.Full place) = codes "F3 " ++ decimal place ++ codes "\n"
 
 abbrev pub legal_text : List Entry → List ℕ
 legal_text entries = codes "legal " ++ decimal (length entries) ++ codes "\n"
-
--- The line for a text that isn't a journal. It is empty for a fault of a device or of memory, which has no line.
-abbrev pub line_of_journal_fault : JournalFault → List ℕ
-line_of_journal_fault (journal.BadEntry line) = codes "J1 " ++ decimal line ++ codes "\n"
-line_of_journal_fault journal.Cut = codes "J2\n"
-line_of_journal_fault journal.Device = []
-line_of_journal_fault journal.OutOfMemory = []

@@ -1,6 +1,5 @@
-pub mod JobOutput
+pub mod Printed
 pub mod AuditOutput
-pub mod Assembler
 pub mod Reasons
 pub mod Words
 pub mod JournalFlaws

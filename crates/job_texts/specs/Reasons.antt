@@ -5,7 +5,6 @@ use Rattle.bpf_model.specs.declared.instruction.Unit.{Unit as ProgramUnit}
 use Rattle.bpf_model.specs.declared.instruction.Unit.TheVariants.{First}
 use Rattle.bpf_model.specs.Program.{ProgramText}
 use Rattle.bpf_model.specs.Reading.{units}
-use Rattle.bpf_asm.specs.Program.{AssemblesTo}
 use Rattle.bpf_asm.specs.Numbered.{line_of_unit}
 use Rattle.helpers.specs.declared.Kind.{Kind}
 use Rattle.helpers.specs.Calls.{signature}
@@ -81,10 +80,6 @@ line_named bytes (Some unit) = line_by (units bytes) bytes unit
 pub record Names (bytes : List ℕ) (reported : RefusedProgram) : Type 0 where
   pub line_is : option_map string_bytes reported.line ≡ line_named bytes (unit_in (refusal_numbers reported.refusal))
   pub wanted_is : reported.wanted ≡ wanted_in (units bytes) reported.refusal
-
--- The text assembles to some program.
-abbrev pub IsSpelling : List ℕ → Type 0
-IsSpelling text = (code : List ProgramUnit) × AssemblesTo text code
 
 -- `reported` is why the program is refused, with the line of the unit at fault and the kind of value that the argument
 -- at fault must be, if the refusal names a unit or an argument.

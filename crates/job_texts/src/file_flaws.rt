@@ -1,96 +1,101 @@
-//! The reasons why a program file is refused, in words.
-ghost use Rattle.std.specs.Prelude.{◌≡◌, ◌≢◌, ◌<◌, false, length, IfOk, IsOk, Ok, OnOk, MatchOption};
-ghost use Rattle.bpf_model.specs.Reading.{has_valid_length};
-ghost use Rattle.job_texts.specs.FileFlaws.{IsAccepted, IsDecodable, IsVerifyFlaw, IsDisFlaw, DecodesOf, DisFlawOf};
+//! Why a file is refused, in words and as a line.
+ghost use Rattle.std.specs.Prelude.{◌≡◌, ◌++◌, codes, IfOk, IsErr, string_bytes};
+ghost use Rattle.reg_types.specs.Refusals.{refusal_numbers};
+ghost use Rattle.job_texts.specs.FileFlaws.{line_of, refusal_line};
 
-use crate::reasons::{RefusedProgram, explain_refusal, refused_program};
-use bpf_asm::ProgramFileFault;
-use bpf_asm::program_file::read_program;
-use bpf_decode::{DecodeFault, decode};
-use reg_types::{Layout, Refusal};
+use crate::reasons::RefusedProgram;
+use bpf_asm::{AsmFault, AsmFlaw, ProgramFileFault};
+use reg_types::Refusal;
 use std::alloc::{AllocError, Global};
 use std::fmt;
+use till_request::Answer;
 
-/// Why a program file is refused: the file itself has a fault, or its program has one.
+/// Why `fc asm`, `fc dis` or `fc verify` refuses a file.
 #[derive(Drop)]
-pub enum ProgramFlaw {
+pub enum FileFlaw<'a> {
+    /// L1, H1: the file isn't a program file, or has too many bytes.
     File(ProgramFileFault),
+    /// A1 to A4: the assembler text has this fault.
+    Text(AsmFault, AsmFlaw<'a>),
+    /// V1 to V20: the program is refused.
     Program(RefusedProgram),
+    OutOfMemory,
 }
 
-impl fmt::Display for ProgramFlaw {
-    ghost use Rattle.std.specs.Prelude.{Some};
-    ghost use Rattle.job_texts.specs.Words.{program_flaw_text};
+impl From<AllocError> for FileFlaw<'_> {
+    ghost use Rattle.std.specs.Prelude.{◌≡◌};
+    ghost use Rattle.job_texts.specs.declared.file_flaws.FileFlaw.TheVariants as file_flaw;
 
-    ghost output = { λ flaw. Some (program_flaw_text flaw) };
+    ghost from_gives = { λ _ flaw. flaw ≡ file_flaw.OutOfMemory };
+
+    fn from(_refused: AllocError) -> Self {
+        FileFlaw::OutOfMemory
+    }
+}
+
+impl From<ProgramFileFault> for FileFlaw<'_> {
+    ghost use Rattle.std.specs.Prelude.{◌≡◌};
+    ghost use Rattle.job_texts.specs.FileFlaws.{flaw_of};
+
+    ghost from_gives = { λ fault flaw. flaw ≡ flaw_of fault };
+
+    fn from(fault: ProgramFileFault) -> Self {
+        match fault {
+            ProgramFileFault::OutOfMemory => FileFlaw::OutOfMemory,
+            ProgramFileFault::TooLong | ProgramFileFault::BadDigits => FileFlaw::File(fault),
+        }
+    }
+}
+
+impl fmt::Display for FileFlaw<'_> {
+    ghost use Rattle.std.specs.Prelude.{Some};
+    ghost use Rattle.job_texts.specs.Words.{file_flaw_text};
+
+    ghost output = { λ flaw. Some (file_flaw_text flaw) };
 
     fn fmt<W: fmt::Write>(&self, f: &mut fmt::Formatter<W>) -> fmt::Result {
         match self {
-            ProgramFlaw::File(fault) => write!(f, "{fault}"),
-            ProgramFlaw::Program(refused) => write!(f, "{refused}"),
+            FileFlaw::File(fault) => write!(f, "{fault}"),
+            FileFlaw::Text(_, flaw) => write!(f, "{flaw}"),
+            FileFlaw::Program(refused) => write!(f, "{refused}"),
+            FileFlaw::OutOfMemory => f.write_str("out of memory"),
         }
     }
 }
 
-/// Returns a fault of a program file as a flaw. The error is that memory ran out. It is returned for the fault
-/// `OutOfMemory`, and for no other fault.
-fn file_flaw(fault: ProgramFileFault) -> Result<ProgramFlaw, AllocError>
-    ensures flaw { IfOk result (λ flaw. flaw ≡ ProgramFlaw.File fault) }
-    ensures fault { OnOk result (fault ≢ ProgramFileFault.OutOfMemory) }
-    ensures reported { fault ≢ ProgramFileFault.OutOfMemory → IsOk result }
-{
-    match fault {
-        ProgramFileFault::TooLong | ProgramFileFault::BadDigits => Ok(ProgramFlaw::File(fault)),
-        ProgramFileFault::OutOfMemory => Err(AllocError),
-    }
-}
-
-/// Returns why `verify_file` refuses a program file for contexts of this layout, or `None` if it accepts the file. Bit
-/// c of `counters` declares counter c. The error is that memory ran out. For a file of over 65,536 bytes there is no
-/// error.
-pub fn verify_flaw(
-    alloc: Global,
-    file: &[u8],
-    counters: u32,
-    context: Layout,
-) -> Result<Option<ProgramFlaw>, AllocError>
-    ensures flaw { IfOk result
-        (λ found. MatchOption found (IsAccepted file.now counters context) (IsVerifyFlaw file.now counters context)) }
-    ensures length { 65536 < length file.now → IsOk result }
-{
-    match read_program(alloc, file) {
-        Ok(bytes) => match refused_program(alloc, &bytes, counters, context)? {
-            Some(refused) => Ok(Some(ProgramFlaw::Program(refused))),
-            None => Ok(None),
-        },
-        Err(fault) => Ok(Some(file_flaw(fault)?)),
-    }
-}
-
-/// Returns why `dis_file` refuses a program file, or `None` if it prints the file as text. The error is that memory ran
-/// out. For a file of over 65,536 bytes there is no error.
-pub fn dis_flaw(alloc: Global, file: &[u8]) -> Result<Option<ProgramFlaw>, AllocError>
-    ensures flaw { IfOk result (λ found. MatchOption found (IsDecodable file.now) (IsDisFlaw file.now)) }
-    ensures length { 65536 < length file.now → IsOk result }
-{
-    match read_program(alloc, file) {
-        Ok(bytes) => undecoded(alloc, &bytes),
-        Err(fault) => Ok(Some(file_flaw(fault)?)),
-    }
-}
-
-/// Returns why bytes don't decode, or `None` if they do. The error is that memory ran out. This error can't occur for
-/// bytes that aren't 1 to 512 whole units.
-fn undecoded(alloc: Global, bytes: &[u8]) -> Result<Option<ProgramFlaw>, AllocError>
-    ensures flaw { IfOk result (λ found. MatchOption found (DecodesOf (Ok bytes.now)) (DisFlawOf (Ok bytes.now))) }
-    ensures length { has_valid_length bytes.now ≡ false → IsOk result }
-{
-    match decode(alloc, bytes) {
-        Ok(_) => Ok(None),
-        Err(DecodeFault::OutOfMemory) => Err(AllocError),
-        Err(fault) => {
-            let refused = explain_refusal(alloc, bytes, Refusal::Decode(fault))?;
-            Ok(Some(ProgramFlaw::Program(refused)))
+impl FileFlaw<'_> {
+    /// Returns the line that is printed on standard output of a file with this flaw, without its LF. The error is that
+    /// memory ran out, now or before.
+    pub fn line(&self, alloc: Global) -> Result<String, AllocError>
+        ensures line { IfOk result (λ line. string_bytes line ++ codes "\n" ≡ line_of self.now) }
+        ensures memory { self.now ≡ FileFlaw.OutOfMemory → IsErr result }
+    {
+        match self {
+            FileFlaw::File(ProgramFileFault::TooLong) => format!(in alloc; "L1"),
+            FileFlaw::File(ProgramFileFault::BadDigits) => format!(in alloc; "H1"),
+            FileFlaw::Text(AsmFault::BadLine(line), _) => format!(in alloc; "A1 {line}"),
+            FileFlaw::Text(AsmFault::BadLabel(line), _) => format!(in alloc; "A2 {line}"),
+            FileFlaw::Text(AsmFault::OutOfRange(line), _) => format!(in alloc; "A3 {line}"),
+            FileFlaw::Text(AsmFault::Length, _) => format!(in alloc; "A4"),
+            FileFlaw::Program(refused) => refusal_line(alloc, refused.refusal),
+            FileFlaw::File(ProgramFileFault::OutOfMemory)
+            | FileFlaw::Text(AsmFault::OutOfMemory, _)
+            | FileFlaw::OutOfMemory => Err(AllocError),
         }
+    }
+}
+
+/// Returns the line for a refused program, without its LF: the verifier's fault (V1 to V20), then the number of the
+/// unit, if the fault names a unit, and the number of the register or argument, if the fault names one. The error is
+/// that memory ran out. A refusal because memory ran out has no line and gives this error too.
+fn refusal_line(alloc: Global, refusal: Refusal) -> Result<String, AllocError>
+    ensures { IfOk result (λ line. string_bytes line ++ codes "\n" ≡ refusal_line (refusal_numbers refusal)) }
+{
+    match refusal.fault_numbers() {
+        Some((number, unit, part)) => {
+            let answer = Answer::Program(number, unit, part);
+            format!(in alloc; "{answer}")
+        }
+        None => Err(AllocError),
     }
 }

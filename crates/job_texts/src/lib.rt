@@ -1,15 +1,12 @@
-//! What the commands of `fc` print about a file, with the exit status, and the reasons in words for refusing a file.
+//! What the commands of `fc` print about a file, and why a file is refused, in words and as a line.
 #![tactic(auto)]
 
-pub mod assembler;
 pub mod audit;
 pub mod file_flaws;
 pub mod journal_reasons;
-mod output;
-pub mod program;
+pub mod programs;
 pub mod reasons;
 
-pub use file_flaws::ProgramFlaw;
+pub use file_flaws::FileFlaw;
 pub use journal_reasons::JournalFlaw;
-pub use output::{JobOutput, REFUSED};
 pub use reasons::RefusedProgram;

@@ -1,22 +1,16 @@
-//! The reasons why a program or an assembler text is refused, in words.
-ghost use Rattle.std.specs.Prelude.{◌≡◌, ◌↔◌, false, IfOk, IsOk, IsTrue, MatchOption, Some, None, option_map, string_bytes};
-ghost use Rattle.bpf_model.specs.Program.{as_loaded};
-ghost use Rattle.bpf_model.specs.Reading.{has_valid_length, units};
-ghost use Rattle.bpf_asm.specs.Flaws.{Explains};
-ghost use Rattle.bpf_asm.specs.Program as asm;
+//! The reasons why a program is refused, in words.
+ghost use Rattle.std.specs.Prelude.{◌≡◌, ◌↔◌, IfOk, IsOk, IsTrue, MatchOption, Some, None, option_map, string_bytes};
+ghost use Rattle.bpf_model.specs.Reading.{units};
 ghost use Rattle.reg_types.specs.Refusals.{refusal_numbers};
-ghost use Rattle.job_texts.specs.JobOutput.{IsAcceptedAndGood};
-ghost use Rattle.job_texts.specs.Reasons.{IsSpelling, IsExplained, number_in, unit_in, kind_wanted, wanted_at, wanted_in};
+ghost use Rattle.job_texts.specs.Reasons.{number_in, unit_in, kind_wanted, wanted_at, wanted_in};
 ghost use Rattle.job_texts.specs.Reasons.{digits_line, line_named};
 ghost use Rattle.job_texts.specs.Words.{kind_text};
 
-use bpf_asm::flaw::explain;
+use bpf_asm::instruction_line;
 use bpf_asm::program_file::unit_lines;
-use bpf_asm::{AsmFault, AsmFlaw, assemble, instruction_line};
 use bpf_decode::{Code, DecodeFault, Unit, decode};
 use helpers::{Kind, arguments};
-use reg_types::verifier::verify;
-use reg_types::{Layout, Refusal, TypeFault};
+use reg_types::{Refusal, TypeFault};
 use std::alloc::{AllocError, Global};
 use std::fmt;
 
@@ -244,50 +238,6 @@ pub fn explain_refusal(
                 line,
                 wanted: None,
             })
-        }
-    }
-}
-
-/// Returns why the bytes of a program are refused for contexts of this layout, or `None` if they are accepted. Bit c of
-/// `counters` declares counter c. The error is that memory ran out. This error can't occur for bytes that aren't 1 to
-/// 512 whole units.
-pub fn refused_program(
-    alloc: Global,
-    bytes: &[u8],
-    counters: u32,
-    context: Layout,
-) -> Result<Option<RefusedProgram>, AllocError>
-    ensures reason { IfOk result
-        (λ found. MatchOption found (IsAcceptedAndGood (as_loaded bytes.now counters context))
-        (IsExplained (as_loaded bytes.now counters context))) }
-    ensures length { has_valid_length bytes.now ≡ false → IsOk result }
-{
-    match verify(alloc, bytes, counters, context) {
-        Ok(program) => {
-            let _ = program.bytes();
-            Ok(None)
-        }
-        Err(refusal) => {
-            if refusal.fault_numbers().is_none() {
-                return Err(AllocError);
-            }
-            Ok(Some(explain_refusal(alloc, bytes, refusal)?))
-        }
-    }
-}
-
-/// Returns why an assembler text is refused: its fault, and an `AsmFlaw`, which has the line or the label that the
-/// fault's message shows, if it shows one. Returns `None` if the text assembles. The error is that memory ran out.
-pub fn asm_flaw(alloc: Global, text: &[u8]) -> Result<Option<(AsmFault, AsmFlaw<'_>)>, AllocError>
-    ensures { IfOk result
-        (λ found. MatchOption found (IsSpelling text.now)
-        (λ p. asm.IsRefused text.now p.0 × Explains text.now p.0 p.1)) }
-{
-    match assemble(alloc, text) {
-        Ok(_) => Ok(None),
-        Err(fault) => {
-            let flaw = explain(alloc, text, fault)?;
-            Ok(Some((fault, flaw)))
         }
     }
 }

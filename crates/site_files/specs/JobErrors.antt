@@ -5,8 +5,9 @@
 -- - 2: the command line names no job that can be done
 -- - 3: a file or another device couldn't be used, the next day had begun already, memory ran out, or more reads were
 --   needed than are allowed
-use Rattle.std.specs.Prelude.{◌≡◌, ◌⊎◌, ◌++◌, ℕ, ⊤, List, [], codes, string_bytes}
+use Rattle.std.specs.Prelude.{◌≡◌, ◌⊎◌, ◌++◌, ℕ, ⊤, List, [], Option, Some, None, codes, decimal, string_bytes}
 use Rattle.escaped_text.specs.Printing.{printable}
+use Rattle.site_files.specs.declared.messages.Place.{Place}
 use Rattle.site_files.specs.declared.job_error.JobError.{JobError}
 use Rattle.site_files.specs.declared.job_error.JobError.TheVariants as job_error
 
@@ -38,3 +39,19 @@ Refuses status (job_error.Refused refusal) = (refusal.status ≡ status) ⊎ (re
 abbrev pub Says : List ℕ → JobError → Type 0
 Says words job_error.OutOfMemory = ⊤
 Says words (job_error.Refused refusal) = string_bytes refusal.message ≡ codes "fc: " ++ (printable words ++ codes "\n")
+
+abbrev pub after_colon : Option ℕ → List ℕ
+after_colon None = []
+after_colon (Some number) = codes ":" ++ decimal number
+
+-- a place as messages name it: the file, and behind colons the line and the column, if they are given
+abbrev pub place_text : Place → List ℕ
+place_text place = place.name.now ++ (after_colon place.line ++ after_colon place.column)
+
+-- the words of a message about this place
+abbrev pub words_at : Place → List ℕ → List ℕ
+words_at place words = place_text place ++ (codes ": " ++ words)
+
+-- the words of a message about a fault, with the fault's number, such as `K1`
+abbrev pub numbered_words : List ℕ → List ℕ → List ℕ
+numbered_words words code = words ++ (codes " (" ++ (code ++ codes ")"))

@@ -1,7 +1,7 @@
 //! Why a job ends before it is done, and how that is printed.
 ghost use Rattle.std.specs.Prelude.{◌≡◌, ◌≢◌, ◌⊎◌, ◌++◌, ◌∷◌, [], Ok, IfErr, IfSome, IsErrAnd, IsOk, OnOk, MatchResult, string_bytes};
 ghost use Rattle.std.specs.Io.KnownBytes.{Appends};
-ghost use Rattle.site_files.specs.JobErrors.{Ends, Says, status_of, message_of, output_of};
+ghost use Rattle.site_files.specs.JobErrors.{Ends, Says, status_of, message_of, output_of, words_at, numbered_words};
 
 use crate::messages::Place;
 use crate::statuses::{FAILED, REFUSED};
@@ -66,7 +66,8 @@ impl JobError {
 
     /// Makes the error of a job that ends with this status, and prints only the message `words`, after the place.
     pub fn at<D: Display>(alloc: Global, place: Place<'_>, words: &D, status: u8) -> JobError
-        ensures { Ends status [] result }
+        ensures ends { Ends status [] result }
+        ensures says { IfSome (D.output words.now) (λ text. Says (words_at place.entry text) result) }
     {
         JobError::message(alloc, &format_args!("{place}: {words}"), status)
     }
@@ -80,7 +81,9 @@ impl JobError {
         code: &str,
         status: u8,
     ) -> JobError
-        ensures { Ends status [] result }
+        ensures ends { Ends status [] result }
+        ensures says { IfSome (D.output words.now)
+            (λ text. Says (words_at place.entry (numbered_words text code.now)) result) }
     {
         JobError::at(alloc, place, &format_args!("{words} ({code})"), status)
     }
@@ -88,7 +91,9 @@ impl JobError {
     /// Makes the error of a job whose input is refused for a fault: the message has the place, `words` and the fault's
     /// number `code`, as in `K1`. The number is printed on standard output too.
     pub fn refused<D: Display>(alloc: Global, place: Place<'_>, words: &D, code: &str) -> JobError
-        ensures { Ends 1 (code.now ++ 10 ∷ []) result }
+        ensures ends { Ends 1 (code.now ++ 10 ∷ []) result }
+        ensures says { IfSome (D.output words.now)
+            (λ text. Says (words_at place.entry (numbered_words text code.now)) result) }
     {
         JobError::refused_as(alloc, place, words, code, &code)
     }
@@ -102,7 +107,9 @@ impl JobError {
         code: &str,
         line: &L,
     ) -> JobError
-        ensures { IfSome (L.output line.now) (λ text. Ends 1 (text ++ 10 ∷ []) result) }
+        ensures ends { IfSome (L.output line.now) (λ text. Ends 1 (text ++ 10 ∷ []) result) }
+        ensures says { IfSome (D.output words.now)
+            (λ text. Says (words_at place.entry (numbered_words text code.now)) result) }
     {
         match format!(in alloc; "{line}\n") {
             Ok(output) => JobError::refused_with(alloc, place, words, code, output),
@@ -119,7 +126,9 @@ impl JobError {
         code: &str,
         output: String,
     ) -> JobError
-        ensures { Ends 1 (string_bytes output) result }
+        ensures ends { Ends 1 (string_bytes output) result }
+        ensures says { IfSome (D.output words.now)
+            (λ text. Says (words_at place.entry (numbered_words text code.now)) result) }
     {
         let words = format_args!("{place}: {words} ({code})");
         JobError::new(alloc, &words, output, REFUSED)

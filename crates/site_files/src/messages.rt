@@ -67,15 +67,32 @@ impl<'a> Place<'a> {
 }
 
 impl Display for Place<'_> {
+    ghost use Rattle.std.specs.Prelude.{Some};
+    ghost use Rattle.site_files.specs.JobErrors.{place_text};
+
+    ghost output = { λ place. Some (place_text place) };
+
     fn fmt<W: fmt::Write>(&self, f: &mut fmt::Formatter<W>) -> fmt::Result {
-        f.write_str(self.name)?;
-        if let Some(line) = self.line {
-            write!(f, ":{line}")?;
+        let (line, column) = (AfterColon(self.line), AfterColon(self.column));
+        write!(f, "{}{line}{column}", self.name)
+    }
+}
+
+/// A number of a place, if it is given: `Display` writes a colon and the number, or nothing.
+#[derive(Clone, Copy)]
+struct AfterColon(Option<u64>);
+
+impl Display for AfterColon {
+    ghost use Rattle.std.specs.Prelude.{Some};
+    ghost use Rattle.site_files.specs.JobErrors.{after_colon};
+
+    ghost output = { λ number. Some (after_colon number.0) };
+
+    fn fmt<W: fmt::Write>(&self, f: &mut fmt::Formatter<W>) -> fmt::Result {
+        match self.0 {
+            Some(number) => write!(f, ":{number}"),
+            None => Ok(()),
         }
-        if let Some(column) = self.column {
-            write!(f, ":{column}")?;
-        }
-        Ok(())
     }
 }
 

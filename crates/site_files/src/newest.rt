@@ -1,124 +1,89 @@
 //! Closes the newest day of a station, or continues with it.
-ghost use Rattle.std.specs.Prelude.{◌≡◌, ◌≢◌, ◌⊎◌, ◌+◌, ◌++◌, Ok, [], IfOk, IfErr, IfSome, codes, string_bytes};
+ghost use Rattle.std.specs.Prelude.{◌≡◌, ◌≢◌, ◌⊎◌, ◌+◌, ◌++◌, Ok, [], false, IfOk, IfErr, codes};
 ghost use Rattle.std.specs.Fmt.{decimal};
 ghost use Rattle.site_files.specs.JobErrors.{Ends, Refuses};
-ghost use Rattle.site_files.specs.Days.{path_of, day_to_serve, BeginsDay};
+ghost use Rattle.site_files.specs.Days.{day_to_serve, BeginsDay};
 
-use crate::files::{regular_source_of, text_in, text_of};
+use crate::files::{regular_source_of, text_in};
 use crate::folder::{DayFile, Folder, Part, Span, day_after};
 use crate::job_error::{JobError, at_file};
-use crate::kept::{LockedClose, close_journal};
+use crate::kept::{Kept, close_journal};
 use crate::messages::{Place, print_message};
-use crate::opening::{Day, begin_with, refuse_fault, refuse_words};
+use crate::opening::{begin_with, refuse_fault, refuse_words};
 use crate::settings::settings_in;
 use crate::statuses::FAILED;
 use days::writing::opening_text;
 use days::{Closed, Uncarried};
-use site_config::Settings;
 use site_core::{Config, OpeningFault};
 use std::alloc::{AllocError, Global};
 use std::fmt::{self, Display};
 
-/// The newest day of a folder, and the path of the day's journal. `config_to_write` is the text of the day's
-/// configuration, if the text must still be written into the folder.
+/// The newest day of a folder: the configuration with which its site begins, and whether the day keeps a configuration
+/// that the folder has.
 #[derive(Drop)]
 pub struct Newest {
-    pub day: Day,
-    pub journal: String,
-    pub config_to_write: Option<Vec<u8>>,
-}
-
-/// The configuration that an argument names: its text, and the settings in it.
-#[derive(Drop)]
-pub struct Given<'a> {
-    pub word: &'a str,
-    pub text: Vec<u8>,
-    pub settings: Settings,
-}
-
-/// Reads the configuration that an argument names. The error is that it can't be read or is refused.
-pub fn read_given<'a>(rt: &HostRuntime, word: &'a str) -> Result<Given<'a>, JobError>
-    ensures word { IfOk result (λ given. given.word.now ≡ word.now) }
-    ensures refused { IfErr result (Refuses 1) }
-{
-    let text = text_of(rt, word)?;
-    match settings_in(rt, word, &text) {
-        Ok(settings) => Ok(Given {
-            word,
-            text,
-            settings,
-        }),
-        Err(job_error) => Err(job_error),
-    }
+    pub number: u32,
+    pub config: Config,
+    pub is_kept: bool,
 }
 
 /// Returns the day that a station goes on with: the newest day of its folder, or day 1 if the folder has no day. If
 /// `is_new_day` and the newest day has an entry, closes that day and returns the next one.
 ///
-/// The configuration in `given` is used for a day that has none in the folder, or whose journal is missing or empty.
-/// Any other day keeps the configuration that it has in the folder. If the returned day keeps another configuration
-/// than the one in `given`, prints that it does. `given` also says how the day is served. The error is that a file
-/// can't be used or is refused, or that the next day has begun already.
+/// `given` is the configuration that `word` names, and `text` its text. It is used for a day that has none in the
+/// folder, or whose journal is missing or empty. Any other day keeps the configuration that it has in the folder; if the
+/// two differ, this prints so. The error is that a file can't be used or is refused, or that the next day has begun
+/// already.
 pub fn newest_day(
     rt: &HostRuntime,
     folder: Folder<'_>,
-    given: Given<'_>,
+    word: &str,
+    text: &[u8],
+    given: Config,
     is_new_day: bool,
 ) -> Result<Newest, JobError>
-    ensures journal { IfOk result (λ newest.
-        string_bytes newest.journal ≡ path_of folder.entry.path.now newest.day.number Part.Journal) }
-    ensures serve { IfOk result (λ newest. newest.day.serve ≡ given.entry.settings.serve) }
-    ensures config_to_write { IfOk result (λ newest. IfSome newest.config_to_write (λ text. text ≡ given.entry.text)) }
+    ensures first { IfOk result (λ newest. newest.is_kept ≡ false → newest.number ≡ 1 → newest.config ≡ given) }
+    ensures later { IfOk result
+        (λ newest. newest.is_kept ≡ false → newest.number ≢ 1 → BeginsDay given newest.number newest.config) }
     ensures refused { IfErr result (Refuses 1) }
 {
-    let number = number_of(rt, folder, &given, is_new_day)?;
-    let journal = folder.file(rt, number, Part::Journal)?;
-    let kept = fixed_config(rt, folder, number)?;
-    print_other_config(rt, folder, number, &given, &kept)?;
-    let Given {
-        word: _,
-        text,
-        settings: Settings { config, serve },
-    } = given;
-    let (config, config_to_write) = match kept {
-        None => (config, Some(text)),
-        Some(kept) => (kept, None),
+    let number = number_of(rt, folder, &given, text, is_new_day)?;
+    let (config, is_kept) = match fixed_config(rt, folder, number)? {
+        Some(kept) => {
+            print_other_config(rt, folder, number, word, kept.is_same(&given))?;
+            (kept, true)
+        }
+        None => (given, false),
     };
     match begin_day(rt, folder, number, config) {
         Ok(config) => Ok(Newest {
-            day: Day {
-                config,
-                serve,
-                number,
-            },
-            journal,
-            config_to_write,
+            number,
+            config,
+            is_kept,
         }),
         Err(job_error) => Err(job_error),
     }
 }
 
-/// Prints on standard error that day `day` goes on with `kept`, the folder's configuration for this day, if `kept`
-/// differs from the configuration in `given`. Prints nothing if `kept` is `None`. The error is that memory ran out.
+/// Prints on standard error that day `day` goes on with the folder's configuration for this day, unless it `is_same` as
+/// the one that `word` names. The error is that memory ran out.
 fn print_other_config(
     rt: &HostRuntime,
     folder: Folder<'_>,
     day: u32,
-    given: &Given<'_>,
-    kept: &Option<Config>,
+    word: &str,
+    is_same: bool,
 ) -> Result<(), AllocError> {
-    let Some(kept) = kept else {
+    if is_same {
         return Ok(());
-    };
-    if !kept.is_same(&given.settings.config) {
-        let (path, word) = (folder.file(rt, day, Part::Config)?, given.word);
-        print_message(
-            rt,
-            &format_args!(
-                "day {day} goes on with {path}: tills, slots and bounds of {word} count from the next day on"
-            ),
-        );
     }
+    let path = folder.file(rt, day, Part::Config)?;
+    print_message(
+        rt,
+        &format_args!(
+            "day {day} goes on with {path}: tills, slots and bounds of {word} count from the next day on"
+        ),
+    );
     Ok(())
 }
 
@@ -151,12 +116,14 @@ fn day_to_serve(span: Option<Span>, is_new_day: bool) -> DayToServe
 /// Returns the number of the day that a station goes on with: the newest day of its folder, or 1 if the folder has no
 /// day. If `is_new_day` and the newest day has an entry, closes that day and returns the next number.
 ///
-/// The configuration in `given` is used if the folder has none for the day to close, or if that day's journal is
-/// missing or empty. The error is that a file can't be used or is refused, or that the next day has begun already.
+/// The configuration `given`, whose text is `text`, is used if the folder has none for the day to close, or if that
+/// day's journal is missing or empty. The error is that a file can't be used or is refused, or that the next day has
+/// begun already.
 fn number_of(
     rt: &HostRuntime,
     folder: Folder<'_>,
-    given: &Given<'_>,
+    given: &Config,
+    text: &[u8],
     is_new_day: bool,
 ) -> Result<u32, JobError>
     ensures { IfErr result (Refuses 1) }
@@ -165,23 +132,11 @@ fn number_of(
         DayToServe::This(day) => return Ok(day),
         DayToServe::After(newest) => newest,
     };
-    match fixed_config(rt, folder, newest)? {
-        Some(kept) => {
-            let texts = ConfigTexts {
-                day: None,
-                next: &given.text,
-            };
-            close_day(rt, folder, newest, kept, texts)
-        }
-        None => {
-            let config = given.settings.config.copied(rt.alloc())?;
-            let texts = ConfigTexts {
-                day: Some(&given.text),
-                next: &given.text,
-            };
-            close_day(rt, folder, newest, config, texts)
-        }
-    }
+    let (config, day) = match fixed_config(rt, folder, newest)? {
+        Some(kept) => (kept, None),
+        None => (given.copied(rt.alloc())?, Some(text)),
+    };
+    close_day(rt, folder, newest, config, ConfigTexts { day, next: text })
 }
 
 /// The texts of the configurations that are written into the folder as a day is closed: that of the day itself, unless
@@ -245,11 +200,11 @@ fn begin_day(
     if !folder.has(rt, number, Part::Opening)? {
         return Err(refuse_link(rt.alloc(), Place::of(&path), number, &UNOPENED));
     }
-    let begun = begin_with(rt, &path, regular_source_of(rt, &path)?, config)?;
-    if begun.number != number {
-        return Err(refuse_link(rt.alloc(), Place::of(&path), number, &OfDay(begun.number)));
+    let (config, of) = begin_with(rt, &path, regular_source_of(rt, &path)?, config)?;
+    if of != number {
+        return Err(refuse_link(rt.alloc(), Place::of(&path), number, &OfDay(of)));
     }
-    Ok(begun.config)
+    Ok(config)
 }
 
 /// The message for a day that has no opening.
@@ -296,14 +251,14 @@ fn close_day(
     let config = begin_day(rt, folder, number, config)?;
     // The day's journal stays locked until the opening of the next day is written.
     let closing = close_journal(rt, &config, &path)?;
-    put_close(rt, folder, number, &path, &closing, texts)
+    put_close(rt, folder, number, &closing, texts)
 }
 
 /// Finishes the close of day `number`, unless it has no entry. Returns the number of the day that is then the newest.
 /// The steps:
 ///
 /// - checks that the next day hasn't begun
-/// - syncs the day's journal, whose path is `journal`
+/// - syncs the day's journal
 /// - writes the configurations in `texts`, and the opening of the next day
 ///
 /// The error is that a step failed.
@@ -311,21 +266,20 @@ fn put_close(
     rt: &HostRuntime,
     folder: Folder<'_>,
     number: u32,
-    journal: &str,
-    closing: &LockedClose,
+    closing: &Kept<'_, Closed>,
     texts: ConfigTexts<'_>,
 ) -> Result<u32, JobError>
-    ensures empty { closing.now.closed.site.history ≡ [] → result ≡ Ok number }
-    ensures closed { closing.now.closed.site.history ≢ [] → IfOk result (λ newest. newest ≡ number + 1) }
+    ensures empty { closing.now.audited.site.history ≡ [] → result ≡ Ok number }
+    ensures closed { closing.now.audited.site.history ≢ [] → IfOk result (λ newest. newest ≡ number + 1) }
     ensures newest { IfOk result (λ newest. (newest ≡ number) ⊎ (newest ≡ number + 1)) }
     ensures refused { IfErr result (Refuses 1) }
 {
-    if closing.closed.site.history().is_empty() {
+    if closing.audited.site.history().is_empty() {
         return Ok(number);
     }
     check_newest(rt, folder, number)?;
-    at_file(rt.alloc(), journal, closing.file.sync_all())?;
-    begin_next_day(rt, folder, number, &closing.closed, texts)
+    at_file(rt.alloc(), closing.path, closing.file.sync_all())?;
+    begin_next_day(rt, folder, number, &closing.audited, texts)
 }
 
 /// Writes the opening of the day after day `number`, and the configurations in `texts`. Returns that next day's number.

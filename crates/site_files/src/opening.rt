@@ -17,7 +17,7 @@ use days::beginning::begun;
 use days::reading::read_opening;
 use days::{OpeningFile, OpeningFlaw, Unfit};
 use job_texts::JournalFlaw;
-use job_texts::audit::refused_program_output;
+use job_texts::audit::refused_program_line;
 use job_texts::reasons::explain_refusal;
 use reg_types::Refusal;
 use site_config::Serve;
@@ -29,20 +29,12 @@ use std::fmt::Display;
 /// some 150,000.
 const MOST_OPENING: usize = 262_144;
 
-/// What a day of a site begins with: the configuration (with the opening in it, if there is one), how the site is
-/// served, and the day's number, which is 1 without an opening.
+/// What was read of a day before its site begins: the configuration (with the opening in it, if there is one), how the
+/// site is served, and the day's number, which is 1 without an opening.
 #[derive(Drop)]
 pub struct Day {
     pub config: Config,
     pub serve: Option<Serve>,
-    pub number: u32,
-}
-
-/// What a day of a site begins with: the configuration (with the opening in it, if there is one), and the day's number,
-/// which is 1 without an opening.
-#[derive(Drop)]
-pub(crate) struct Begun {
-    pub config: Config,
     pub number: u32,
 }
 
@@ -54,14 +46,14 @@ pub(crate) fn begin_with(
     word: &str,
     source: Source,
     config: Config,
-) -> Result<Begun, JobError>
-    ensures begun { IfOk result (λ begun. BeginsDay config begun.number begun.config) }
+) -> Result<(Config, u32), JobError>
+    ensures begun { IfOk result (λ begun. BeginsDay config begun.1 begun.0) }
     ensures refused { IfErr result (Refuses 1) }
 {
     let file = opening_in(rt, word, source)?;
     let number = file.day;
     match begun(rt.alloc(), config, file.opening) {
-        Ok(config) => Ok(Begun { config, number }),
+        Ok(config) => Ok((config, number)),
         Err(unfit) => Err(refuse_unfit(rt.alloc(), word, unfit)),
     }
 }
@@ -133,13 +125,13 @@ fn refuse_rule(
     ensures { Ends 1 (program_text line (refusal_numbers refusal)) result }
 {
     let place = Place::of(word).line(u64::from(line));
-    let Ok(output) = refused_program_output(alloc, line, refusal) else {
+    let Ok(output) = refused_program_line(alloc, line, refusal) else {
         return JobError::OutOfMemory;
     };
     match explain_refusal(alloc, program, refusal) {
         Ok(refused) => {
             let words = JournalFlaw::Program(slot, refused);
-            JobError::refused_with(alloc, place, &words, "F2", output.text)
+            JobError::refused_with(alloc, place, &words, "F2", output)
         }
         Err(refused) => JobError::from(refused),
     }

@@ -1,4 +1,5 @@
 //! Why a journal is refused or can't be read.
+ghost use Rattle.std.specs.Prelude.{◌≡◌, Ok, IfErr, IsErrAnd, MatchResult};
 ghost use Rattle.job_texts.specs.AuditOutput.{line_of_flaw};
 ghost use Rattle.site_files.specs.JobErrors.{Ends, Refuses};
 ghost use Rattle.site_files.specs.Refusals.{RefusesText};
@@ -7,11 +8,31 @@ use crate::job_error::JobError;
 use crate::messages::Place;
 use crate::statuses::FAILED;
 use decision_journal::JournalFault;
-use job_texts::audit::flaw_output;
+use job_texts::audit::line_of_flaw;
 use job_texts::journal_reasons::explained;
 use site_core::EntryFlaw;
 use std::alloc::Global;
 use std::io;
+
+/// Returns what the audit of a journal gave, which is in the file that `word` names, or why the journal is refused or
+/// can't be read. `failure` is the system's error of the last failed read, if one failed.
+pub fn audited<T>(
+    alloc: Global,
+    word: &str,
+    audit: Result<Result<T, EntryFlaw>, JournalFault>,
+    failure: Option<&io::Error>,
+) -> Result<T, JobError>
+    ensures audited { MatchResult audit
+        (λ found. MatchResult found (λ value. result ≡ Ok value) (λ flaw. IsErrAnd result (Ends 1 (line_of_flaw flaw))))
+        (λ fault. IsErrAnd result (RefusesText fault)) }
+    ensures status { IfErr result (Refuses 1) }
+{
+    match audit {
+        Ok(Ok(value)) => Ok(value),
+        Ok(Err(flaw)) => Err(refuse_entry(alloc, word, flaw)),
+        Err(fault) => Err(refuse_text(alloc, word, fault, failure)),
+    }
+}
 
 /// Makes the error for a journal, in the file that `word` names, whose text is refused or can't be read. `failure` is
 /// the system's error of the last failed read, if one failed.
@@ -53,13 +74,13 @@ pub fn refuse_entry(alloc: Global, word: &str, flaw: EntryFlaw) -> JobError
     ensures refused { Ends 1 (line_of_flaw flaw) result }
 {
     let code = code_of(&flaw);
-    let Ok(output) = flaw_output(alloc, &flaw) else {
+    let Ok(output) = line_of_flaw(alloc, &flaw) else {
         return JobError::OutOfMemory;
     };
     match explained(alloc, flaw) {
         Ok((line, words)) => {
             let place = Place::of(word).line(u64::from(line));
-            JobError::refused_with(alloc, place, &words, code, output.text)
+            JobError::refused_with(alloc, place, &words, code, output)
         }
         Err(refused) => JobError::from(refused),
     }

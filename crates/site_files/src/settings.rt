@@ -1,5 +1,6 @@
 //! Reading of the files that say what a site begins with: its configuration, and its opening.
 ghost use Rattle.std.specs.Prelude.{◌≡◌, ◌&&◌, [], false, None, Some, Ok, IfOk, IfErr, IsErrAnd, IsSome, IsTrue, option_map};
+ghost use Rattle.site_core.specs.Limits.{ConfigValue};
 ghost use Rattle.site_config.specs.Flaws.{fault_of};
 ghost use Rattle.site_config.specs.Ranges.{config_of, settings_view};
 ghost use Rattle.site_files.specs.Asked.{is_input, may_be_input, reads_twice};
@@ -10,11 +11,10 @@ ghost use Rattle.site_files.specs.Days.{BeginsDay};
 use crate::files::{Source, is_input, text_of};
 use crate::job_error::JobError;
 use crate::messages::Place;
-use crate::opening::{Begun, Day, begin_with};
+use crate::opening::{Day, begin_with};
 use crate::statuses::USAGE;
 use site_config::ranges::read_settings;
 use site_config::{ConfigFault, ConfigFlaw, Settings};
-use site_core::Config;
 use std::alloc::Global;
 
 /// The arguments that name the files of a site: its configuration, and the opening that it begins with, if there is
@@ -56,6 +56,8 @@ pub fn day_of(rt: &HostRuntime, site: SiteFiles<'_>) -> Result<Day, JobError>
     ensures twice { IsTrue (is_input site.entry.config.now && may_be_input (option_map (λ w. w.now) site.entry.opening))
         → IsErrAnd result (Ends 2 []) }
     ensures first { site.entry.opening ≡ None → IfOk result (λ day. day.number ≡ 1) }
+    ensures opened { IsSome site.entry.opening
+        → IfOk result (λ day. (config : ConfigValue) × BeginsDay config day.number day.config) }
     ensures once { is_input site.entry.config.now && may_be_input (option_map (λ w. w.now) site.entry.opening) ≡ false
         → IfErr result (Refuses 1) }
 {
@@ -64,26 +66,17 @@ pub fn day_of(rt: &HostRuntime, site: SiteFiles<'_>) -> Result<Day, JobError>
     }
     let text = text_of(rt, site.config)?;
     let Settings { config, serve } = settings_in(rt, site.config, &text)?;
-    match begun_by(rt, site, config) {
-        Ok(Begun { config, number }) => Ok(Day {
+    let begun = match site.opening {
+        Some(opening) => begin_with(rt, opening, Source::open(rt, opening)?, config),
+        None => Ok((config, 1)),
+    };
+    match begun {
+        Ok((config, number)) => Ok(Day {
             config,
             serve,
             number,
         }),
         Err(job_error) => Err(job_error),
-    }
-}
-
-/// Returns `config`, with the site's opening in it if there is one, and the day's number, which is 1 without an
-/// opening. The error is that the opening can't be read, is refused or doesn't fit `config`.
-fn begun_by(rt: &HostRuntime, site: SiteFiles<'_>, config: Config) -> Result<Begun, JobError>
-    ensures first { site.entry.opening ≡ None → result ≡ Ok (record { config = config; number = 1 }) }
-    ensures opened { IsSome site.entry.opening → IfOk result (λ begun. BeginsDay config begun.number begun.config) }
-    ensures refused { IfErr result (Refuses 1) }
-{
-    match site.opening {
-        Some(opening) => begin_with(rt, opening, Source::open(rt, opening)?, config),
-        None => Ok(Begun { config, number: 1 }),
     }
 }
 
