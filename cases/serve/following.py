@@ -78,29 +78,50 @@ def same(printed, wanted):
     return [plain(line) for line in printed] == [plain(line) for line in wanted]
 
 
-def follow(document, fc, seconds=60):
-    """Types the commands on ports that are free, one after another; then pastes all of them at once into another shell.
-    The folder is given up at the end, and nothing but `fc` and `examples` may stand in it."""
-    signal.alarm(seconds)
-    with open(os.path.join(ROOT, document)) as file:
-        text = file.read()
-    for pasted in (False, True):
-        free = dict(zip(PORTS, map(str, free_ports(len(PORTS)))))
-        steps = examples(moved(text, free))
-        if not steps:
-            raise SystemExit("no command was found")
-        with tempfile.TemporaryDirectory() as folder:
-            shell = shell_in(folder, fc, free)
-            if pasted:
-                steps = [("\n".join(command for command, _ in steps), [line for _, lines in steps for line in lines])]
+def gave_up(_signal, _frame):
+    raise TimeoutError
+
+
+def walk(steps, fc, free):
+    """Types these commands into one bash. Its folder is given up at the end, and nothing but `fc` and `examples` may
+    stand in it."""
+    with tempfile.TemporaryDirectory() as folder:
+        shell = shell_in(folder, fc, free)
+        try:
             for command, wanted in steps:
                 printed = answered(shell, command, wanted)
                 if not same(printed, wanted):
-                    os.killpg(shell.pid, signal.SIGKILL)  # with what runs in its background
                     raise SystemExit(f"{command}\nprinted {printed}\nwanted  {wanted}")
             shell.stdin.close()
             shell.wait()
-            left = set(os.listdir(folder)) - {"fc", "examples"}
-            if any(not name.startswith("tmp.") for name in left):
-                raise SystemExit(f"left behind: {left}")
-    print("the commands went as they are told")
+        except (SystemExit, TimeoutError):
+            os.killpg(shell.pid, signal.SIGKILL)  # with what runs in its background
+            raise
+        left = set(os.listdir(folder)) - {"fc", "examples"}
+        if any(not name.startswith("tmp.") for name in left):
+            raise SystemExit(f"left behind: {left}")
+
+
+def follow(document, fc, seconds=55):
+    """Types the commands on ports that are free, one after another; then pastes all of them at once into another shell.
+    If another process took one of the ports meanwhile, the commands wait for ever: then all is tried once more."""
+    with open(os.path.join(ROOT, document)) as file:
+        text = file.read()
+    signal.signal(signal.SIGALRM, gave_up)
+    for is_last in (False, True):
+        signal.alarm(seconds)
+        try:
+            for pasted in (False, True):
+                free = dict(zip(PORTS, map(str, free_ports(len(PORTS)))))
+                steps = examples(moved(text, free))
+                if not steps:
+                    raise SystemExit("no command was found")
+                if pasted:
+                    commands, lines = zip(*steps)
+                    steps = [("\n".join(commands), [line for wanted in lines for line in wanted])]
+                walk(steps, fc, free)
+            print("the commands went as they are told")
+            return
+        except TimeoutError:
+            if is_last:
+                raise SystemExit(f"the commands didn't end in {seconds} seconds, twice") from None
