@@ -20,7 +20,7 @@ use Rattle.file_jobs.specs.declared.programs.PrintRequest.{PrintRequest}
 use Rattle.file_jobs.specs.declared.programs.PrintRequest.TheVariants as request
 use Rattle.site_files.specs.declared.job_error.JobError.{JobError}
 use Rattle.site_files.specs.declared.job_error.JobError.TheVariants as job_error
-use Rattle.site_files.specs.JobErrors.{Ends}
+use Rattle.site_files.specs.JobErrors.{Ends, EndsOrRunsOut}
 
 abbrev pub rows_of : Rows → DayRows
 rows_of asked.Sales = rows.Sales
@@ -48,7 +48,7 @@ IsFlaw (request.Verify counters layout) file flaw = IsVerifyFlaw (program_in fil
 -- The request refuses a file with these bytes, and the error has the line of its flaw.
 abbrev pub IsRefusal : PrintRequest → List ℕ → JobError → Type 0
 IsRefusal request file error =
-    (flaw : FileFlaw) × IsFlaw request file flaw × (flaw ≢ flaws.OutOfMemory) × Ends 1 (line_of flaw) error
+    (flaw : FileFlaw) × IsFlaw request file flaw × (flaw ≢ flaws.OutOfMemory) × EndsOrRunsOut 1 (line_of flaw) error
 
 -- The request accepts a file with these bytes, but standard output can't be written.
 abbrev pub IsUnwritten : PrintRequest → List ℕ → JobError → Type 0

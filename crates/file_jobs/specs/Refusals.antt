@@ -1,12 +1,11 @@
 -- Definitions: how a play ends, and the error with which a job ends if a journal or the days of a folder are refused
 -- (source: this project).
-use Rattle.std.specs.Prelude.{◌≡◌, ◌++◌, ℕ, ⊤, List, [], codes, decimal, Option, Some, None, unwrap_or, Result, Ok, Err}
+use Rattle.std.specs.Prelude.{◌≡◌, ◌≢◌, ◌++◌, ℕ, ⊤, [], codes, decimal, Option, Some, None, unwrap_or, Result, Ok, Err}
 use Rattle.line_session.specs.declared.answering.Ended.{Ended}
 use Rattle.line_session.specs.declared.answering.SessionFault.{SessionFault}
 use Rattle.line_session.specs.declared.answering.SessionFault.TheVariants as session
 use Rattle.job_texts.specs.AuditOutput.{line_of_flaw}
 use Rattle.site_core.specs.declared.opening.OpeningFault.TheVariants as opening
-use Rattle.days.specs.declared.beginning.Unfit.{Unfit}
 use Rattle.days.specs.declared.beginning.Unfit.TheVariants as unfit
 use Rattle.days.specs.declared.chain_fault.Unbegun.{Unbegun}
 use Rattle.days.specs.declared.chain_fault.Unbegun.TheVariants as unbegun
@@ -15,11 +14,10 @@ use Rattle.days.specs.declared.chain_fault.Unclosed.{Unclosed}
 use Rattle.days.specs.declared.chain_fault.Unclosed.TheVariants as unclosed
 use Rattle.days.specs.declared.chain_fault.Cause.{Cause}
 use Rattle.days.specs.declared.chain_fault.Cause.TheVariants as cause
-use Rattle.days.specs.declared.file.Uncarried.{Uncarried}
 use Rattle.days.specs.declared.file.Uncarried.TheVariants as uncarried
 use Rattle.site_files.specs.declared.job_error.JobError.{JobError}
 use Rattle.site_files.specs.declared.job_error.JobError.TheVariants as job_error
-use Rattle.site_files.specs.JobErrors.{Ends}
+use Rattle.site_files.specs.JobErrors.{Ends, EndsOrRunsOut}
 use Rattle.site_files.specs.Refusals.{RefusesOpening, RefusesText}
 
 -- a play that was broken off
@@ -44,7 +42,7 @@ IsPlayed (Err fault) (Err error) = BreaksOff fault error
 
 -- a day that doesn't follow the day before it
 abbrev pub BreaksLink : ℕ → JobError → Type 0
-BreaksLink day error = Ends 1 (codes "O1 " ++ (decimal day ++ codes "\n")) error
+BreaksLink day error = EndsOrRunsOut 1 (codes "O1 " ++ (decimal day ++ codes "\n")) error
 
 -- a day that can't begin for this reason, such as a missing opening
 abbrev pub RefusesBeginning : ℕ → Unbegun → JobError → Type 0
@@ -53,12 +51,12 @@ RefusesBeginning day unbegun.HasOpening error = BreaksLink day error
 RefusesBeginning day (unbegun.Flawed flaw) error = RefusesOpening flaw error
 RefusesBeginning day (unbegun.OtherDay other) error = BreaksLink day error
 RefusesBeginning day (unbegun.Unfit why) error =
-    Ends 1 [] error × (why ≡ unfit.Fault opening.OutOfMemory → error ≡ job_error.OutOfMemory)
+    (why ≢ unfit.Fault opening.OutOfMemory → Ends 1 [] error) × (why ≡ unfit.Fault opening.OutOfMemory → error ≡ job_error.OutOfMemory)
 
 -- a day that can't be closed for this reason: its journal can't be read or is refused
 abbrev pub RefusesJournal : {J : Type 0} → Unclosed J → JobError → Type 0
 RefusesJournal (unclosed.Text journal fault) error = RefusesText fault error
-RefusesJournal (unclosed.History flaw) error = Ends 1 (line_of_flaw flaw) error
+RefusesJournal (unclosed.History flaw) error = EndsOrRunsOut 1 (line_of_flaw flaw) error
 RefusesJournal unclosed.OutOfMemory error = error ≡ job_error.OutOfMemory
 
 -- Days of a folder that are refused at this day for this cause. `Unread` means that a day couldn't be read: the
@@ -68,7 +66,7 @@ RefusesDays day cause.NoDays kept error = Ends 1 [] error
 RefusesDays day cause.Unread kept error = error ≡ unwrap_or kept job_error.OutOfMemory
 RefusesDays day (cause.NoNextOpening no_next_opening.NoJournal) kept error = BreaksLink day error
 RefusesDays day (cause.NoNextOpening (no_next_opening.Uncarried why)) kept error =
-    Ends 1 [] error × (why ≡ uncarried.Fault opening.OutOfMemory → error ≡ job_error.OutOfMemory)
+    (why ≢ uncarried.Fault opening.OutOfMemory → Ends 1 [] error) × (why ≡ uncarried.Fault opening.OutOfMemory → error ≡ job_error.OutOfMemory)
 RefusesDays day (cause.Unfollowed why) kept error = BreaksLink day error
 RefusesDays day (cause.Unbegun why) kept error = RefusesBeginning day why error
 RefusesDays day (cause.Unclosed why) kept error = RefusesJournal why error

@@ -3,7 +3,7 @@ ghost use Rattle.std.specs.Prelude.{◌≡◌, ◌-◌, ◌++◌, true, [], None
 ghost use Rattle.std.specs.Fmt.{decimal};
 ghost use Rattle.std.specs.Str.{IsUtf8};
 ghost use Rattle.site_files.specs.Asked.{is_input};
-ghost use Rattle.site_files.specs.JobErrors.{Ends, Refuses};
+ghost use Rattle.site_files.specs.JobErrors.{Ends, EndsOrRunsOut, Refuses};
 ghost use Rattle.file_jobs.specs.Refusals.{RefusesBeginning, RefusesJournal, RefusesDays};
 ghost use Rattle.file_jobs.specs.Chained.{turn, AgreeFor, IsOtherLine};
 
@@ -233,7 +233,7 @@ fn refuse_folder(alloc: Global, folder: Folder<'_>) -> JobError
 
 /// Makes the error for a day that doesn't begin with the opening that the day before left.
 fn refuse_unfollowed(alloc: Global, opening: &str, day: u32, why: Unfollowed) -> JobError
-    ensures { Ends 1 (codes "O1 " ++ (decimal day ++ codes "\n")) result }
+    ensures { EndsOrRunsOut 1 (codes "O1 " ++ (decimal day ++ codes "\n")) result }
 {
     match why {
         Unfollowed::NoOpening(_left) => refuse_link(alloc, Place::of(opening), day, &UNOPENED),

@@ -1,7 +1,7 @@
 //! What `fc asm`, `fc dis` and `fc verify` print of a file.
 ghost use Rattle.std.specs.Prelude.{◌≡◌, IfOk, IfErr, string_bytes};
 ghost use Rattle.job_texts.specs.FileFlaws.{line_of};
-ghost use Rattle.site_files.specs.JobErrors.{Ends};
+ghost use Rattle.site_files.specs.JobErrors.{EndsOrRunsOut};
 ghost use Rattle.file_jobs.specs.Asked.{Accepts, IsFlaw, PrintsAsked};
 
 use bpf_asm::AsmFault;
@@ -69,7 +69,7 @@ fn printed_text<'a>(
 
 /// Makes the error for a file, which `word` names, that is refused.
 fn refuse_file(alloc: Global, word: &str, flaw: &FileFlaw<'_>) -> JobError
-    ensures ends { Ends 1 (line_of flaw.now) result }
+    ensures ends { EndsOrRunsOut 1 (line_of flaw.now) result }
     ensures memory { flaw.now ≡ FileFlaw.OutOfMemory → result ≡ JobError.OutOfMemory }
 {
     let Ok(line) = flaw.line(alloc) else {

@@ -1,7 +1,7 @@
 //! Why a job ends before it is done, and how that is printed.
-ghost use Rattle.std.specs.Prelude.{◌≡◌, ◌≢◌, ◌⊎◌, ◌++◌, ◌∷◌, [], Ok, IfErr, IfSome, IsErrAnd, IsOk, OnOk, MatchResult, string_bytes};
+ghost use Rattle.std.specs.Prelude.{◌≡◌, ◌≢◌, ◌⊎◌, ◌++◌, ◌∷◌, [], None, Ok, IfErr, IfSome, IsErrAnd, IsOk, OnOk, MatchResult, string_bytes};
 ghost use Rattle.std.specs.Io.KnownBytes.{Appends};
-ghost use Rattle.site_files.specs.JobErrors.{Ends, Says, status_of, message_of, output_of, words_at, numbered_words};
+ghost use Rattle.site_files.specs.JobErrors.{Ends, EndsOrRunsOut, Says, status_of, message_of, message_bytes, output_of, words_at, numbered_words};
 
 use crate::messages::Place;
 use crate::statuses::{FAILED, REFUSED};
@@ -20,11 +20,17 @@ pub enum JobError {
 /// What is printed of a job that ends before it is done, and its exit status.
 #[derive(Drop)]
 pub struct Refusal {
-    /// The line for standard error, or empty if none is printed.
-    message: String,
+    /// The line for standard error, or empty if none is printed. `None` if memory ran out for it.
+    message: Option<String>,
     /// The line for standard output, or empty if none is printed.
     output: String,
     status: u8,
+}
+
+fn write_out_of_memory<E: Write>(errors: &mut E) -> io::Result<()>
+    ensures { OnOk result (Appends (E.contents errors.old) (E.contents errors.new) (message_bytes None)) }
+{
+    errors.write_all(b"fc: out of memory\n")
 }
 
 impl From<AllocError> for JobError {
@@ -46,14 +52,11 @@ impl JobError {
         ensures says { IfSome (D.output words.now) (λ text. Says text result) }
     {
         let words = Printable(words);
-        match format!(in alloc; "fc: {words}\n") {
-            Ok(message) => JobError::Refused(Refusal {
-                message,
-                output,
-                status,
-            }),
-            Err(_) => JobError::OutOfMemory,
-        }
+        JobError::Refused(Refusal {
+            message: format!(in alloc; "fc: {words}\n").ok(),
+            output,
+            status,
+        })
     }
 
     /// Makes the error of a job that ends with this status, and prints only the message `words`.
@@ -91,7 +94,7 @@ impl JobError {
     /// Makes the error of a job whose input is refused for a fault: the message has the place, `words` and the fault's
     /// number `code`, as in `K1`. The number is printed on standard output too.
     pub fn refused<D: Display>(alloc: Global, place: Place<'_>, words: &D, code: &str) -> JobError
-        ensures ends { Ends 1 (code.now ++ 10 ∷ []) result }
+        ensures ends { EndsOrRunsOut 1 (code.now ++ 10 ∷ []) result }
         ensures says { IfSome (D.output words.now)
             (λ text. Says (words_at place.entry (numbered_words text code.now)) result) }
     {
@@ -107,7 +110,7 @@ impl JobError {
         code: &str,
         line: &L,
     ) -> JobError
-        ensures ends { IfSome (L.output line.now) (λ text. Ends 1 (text ++ 10 ∷ []) result) }
+        ensures ends { IfSome (L.output line.now) (λ text. EndsOrRunsOut 1 (text ++ 10 ∷ []) result) }
         ensures says { IfSome (D.output words.now)
             (λ text. Says (words_at place.entry (numbered_words text code.now)) result) }
     {
@@ -149,7 +152,7 @@ impl JobError {
         ensures { Ends status [] result }
     {
         JobError::Refused(Refusal {
-            message: String::new(alloc),
+            message: Some(String::new(alloc)),
             output: String::new(alloc),
             status,
         })
@@ -183,8 +186,11 @@ impl JobError {
         ensures { OnOk result (Appends (E.contents errors.old) (E.contents errors.new) (message_of self.now)) }
     {
         match self {
-            JobError::OutOfMemory => errors.write_all(b"fc: out of memory\n"),
-            JobError::Refused(refusal) => errors.write_all(refusal.message.as_bytes()),
+            JobError::OutOfMemory => write_out_of_memory(errors),
+            JobError::Refused(refusal) => match &refusal.message {
+                Some(message) => errors.write_all(message.as_bytes()),
+                None => write_out_of_memory(errors),
+            },
         }
     }
 

@@ -1,7 +1,7 @@
 //! Closes the newest day of a station, or continues with it.
 ghost use Rattle.std.specs.Prelude.{◌≡◌, ◌≢◌, ◌⊎◌, ◌+◌, ◌++◌, Ok, [], false, IfOk, IfErr, codes};
 ghost use Rattle.std.specs.Fmt.{decimal};
-ghost use Rattle.site_files.specs.JobErrors.{Ends, Refuses};
+ghost use Rattle.site_files.specs.JobErrors.{Ends, EndsOrRunsOut, Refuses};
 ghost use Rattle.site_files.specs.Days.{day_to_serve, BeginsDay};
 
 use crate::files::{regular_source_of, text_in};
@@ -213,7 +213,7 @@ pub const UNOPENED: &str = "the day has no opening";
 /// Makes the error for a day that doesn't follow the day before it: `words` are the reason, the fault's number is O1,
 /// and the line on standard output is O1 and `day`.
 pub fn refuse_link<D: Display>(alloc: Global, place: Place<'_>, day: u32, words: &D) -> JobError
-    ensures { Ends 1 (codes "O1 " ++ (decimal day ++ codes "\n")) result }
+    ensures { EndsOrRunsOut 1 (codes "O1 " ++ (decimal day ++ codes "\n")) result }
 {
     JobError::refused_as(alloc, place, words, "O1", &format_args!("O1 {day}"))
 }
@@ -359,7 +359,7 @@ pub fn check_newest(rt: &HostRuntime, folder: Folder<'_>, number: u32) -> Result
 
 /// Makes the error for a day that can't be closed. `journal` names the file of its journal.
 pub fn refuse_uncarried(alloc: Global, journal: &str, why: Uncarried) -> JobError
-    ensures ends { Ends 1 [] result }
+    ensures ends { why ≢ Uncarried.Fault OpeningFault.OutOfMemory → Ends 1 [] result }
     ensures memory { why ≡ Uncarried.Fault OpeningFault.OutOfMemory → result ≡ JobError.OutOfMemory }
 {
     match why {

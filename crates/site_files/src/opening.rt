@@ -1,11 +1,11 @@
 //! Reads the opening that a site begins with, and checks that it fits the site's configuration. Says why an opening is
 //! refused.
-ghost use Rattle.std.specs.Prelude.{◌≡◌, ◌≤◌, ◌++◌, ◌∷◌, [], decimal, IfOk, IfErr, vec_len};
+ghost use Rattle.std.specs.Prelude.{◌≡◌, ◌≢◌, ◌≤◌, ◌++◌, ◌∷◌, [], decimal, IfOk, IfErr, vec_len};
 ghost use Rattle.reg_types.specs.Refusals.{refusal_numbers};
 ghost use Rattle.job_texts.specs.AuditOutput.{program_text};
 ghost use Rattle.days.specs.File.{IsOpeningFile};
 ghost use Rattle.days.specs.Fitting.{BeginsWith};
-ghost use Rattle.site_files.specs.JobErrors.{Ends, Refuses};
+ghost use Rattle.site_files.specs.JobErrors.{Ends, EndsOrRunsOut, Refuses};
 ghost use Rattle.site_files.specs.Refusals.{RefusesOpening};
 ghost use Rattle.site_files.specs.Days.{BeginsDay};
 
@@ -107,7 +107,7 @@ pub fn refuse_opening(alloc: Global, word: &str, flaw: OpeningFlaw) -> JobError
 }
 
 fn refuse_line(alloc: Global, word: &str, line: u32, words: &str, code: &str) -> JobError
-    ensures { Ends 1 (code.now ++ 32 ∷ decimal line ++ 10 ∷ []) result }
+    ensures { EndsOrRunsOut 1 (code.now ++ 32 ∷ decimal line ++ 10 ∷ []) result }
 {
     let place = Place::of(word).line(u64::from(line));
     JobError::refused_as(alloc, place, &words, code, &format_args!("{code} {line}"))
@@ -122,7 +122,7 @@ fn refuse_rule(
     program: &[u8],
     refusal: Refusal,
 ) -> JobError
-    ensures { Ends 1 (program_text line (refusal_numbers refusal)) result }
+    ensures { EndsOrRunsOut 1 (program_text line (refusal_numbers refusal)) result }
 {
     let place = Place::of(word).line(u64::from(line));
     let Ok(output) = refused_program_line(alloc, line, refusal) else {
@@ -140,7 +140,7 @@ fn refuse_rule(
 /// Makes the error for a site with a given configuration that can't begin with the opening in the file that `word`
 /// names.
 pub fn refuse_unfit(alloc: Global, word: &str, unfit: Unfit) -> JobError
-    ensures ends { Ends 1 [] result }
+    ensures ends { unfit ≢ Unfit.Fault OpeningFault.OutOfMemory → Ends 1 [] result }
     ensures memory { unfit ≡ Unfit.Fault OpeningFault.OutOfMemory → result ≡ JobError.OutOfMemory }
 {
     match unfit {
@@ -157,7 +157,7 @@ pub(crate) fn refuse_fault<D: Display>(
     fault: OpeningFault,
     words: &D,
 ) -> JobError
-    ensures ends { Ends 1 [] result }
+    ensures ends { fault ≢ OpeningFault.OutOfMemory → Ends 1 [] result }
     ensures memory { fault ≡ OpeningFault.OutOfMemory → result ≡ JobError.OutOfMemory }
 {
     match fault {

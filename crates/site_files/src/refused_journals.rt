@@ -1,7 +1,7 @@
 //! Why a journal is refused or can't be read.
 ghost use Rattle.std.specs.Prelude.{◌≡◌, Ok, IfErr, IsErrAnd, MatchResult};
 ghost use Rattle.job_texts.specs.AuditOutput.{line_of_flaw};
-ghost use Rattle.site_files.specs.JobErrors.{Ends, Refuses};
+ghost use Rattle.site_files.specs.JobErrors.{EndsOrRunsOut, Refuses};
 ghost use Rattle.site_files.specs.Refusals.{RefusesText};
 
 use crate::job_error::JobError;
@@ -23,7 +23,7 @@ pub fn audited<T>(
     failure: Option<&io::Error>,
 ) -> Result<T, JobError>
     ensures audited { MatchResult audit
-        (λ found. MatchResult found (λ value. result ≡ Ok value) (λ flaw. IsErrAnd result (Ends 1 (line_of_flaw flaw))))
+        (λ found. MatchResult found (λ value. result ≡ Ok value) (λ flaw. IsErrAnd result (EndsOrRunsOut 1 (line_of_flaw flaw))))
         (λ fault. IsErrAnd result (RefusesText fault)) }
     ensures status { IfErr result (Refuses 1) }
 {
@@ -71,7 +71,7 @@ fn code_of(flaw: &EntryFlaw) -> &'static str {
 /// Makes the error for a journal, in the file that `word` names, with an entry in which an audit found this flaw. The
 /// line on standard output begins with the fault's number and the entry's place, counted from 1, as in `F3 5`.
 pub fn refuse_entry(alloc: Global, word: &str, flaw: EntryFlaw) -> JobError
-    ensures refused { Ends 1 (line_of_flaw flaw) result }
+    ensures refused { EndsOrRunsOut 1 (line_of_flaw flaw) result }
 {
     let code = code_of(&flaw);
     let Ok(output) = line_of_flaw(alloc, &flaw) else {
