@@ -1,13 +1,6 @@
-pub mod More
-pub mod Moving
 pub mod Appending
 pub mod ReadBack
 pub mod NoFloats
 pub mod Telling
 pub mod Contexts
-pub mod Growing
-pub mod Changing
-pub mod Clearing
-pub mod CarriedIn
-pub mod Deliveries
-pub mod Prices
+pub mod Yielded

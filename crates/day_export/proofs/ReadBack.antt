@@ -1,22 +1,13 @@
 -- With its default settings, the crate `csv` reads back the fields that were written as CSV with CRLF.
-use Rattle.std.proofs.Common.{◌≡◌, ◌==◌, ◌++◌, ◌∷◌, ◌∙◌, [], ℕ, List, Bool, Some, None, refl, ap, subst, true, false, append_assoc, inl, inr, map}
-use Rattle.std.specs.Prelude.{◌||◌}
-use Rattle.std.specs.List.{list_any, concat}
-use Rattle.std.proofs.lemmas.Bool.{cases_Bool}
+use Rattle.std.proofs.Common.{◌≡◌, ◌==◌, ◌++◌, ◌∷◌, ◌∙◌, [], ℕ, List, Some, None, refl, ap, subst, false, append_assoc, inl, inr, map}
+use Rattle.std.specs.List.{AllByRecursion, list_any, concat}
+use Rattle.std.proofs.lemmas.Bool.{cases_Bool, false_from_ne_true, or_parts}
 use Rattle.csv.specs.Machine.{next_record}
 use Rattle.csv.specs.Reading.{AreRecords, Reached, default_config}
 use Rattle.csv.specs.Writing.{default_writer, escaped, field_text, fields_text, is_blank, needs_byte, row_text}
 use Rattle.csv.specs.declared.parser.State.TheVariants as st
 use Rattle.csv.proofs.RoundTrip.{field-run, record-same}
 use Rattle.day_export.specs.Text.{csv_writer}
-
-or-left : (a b : Bool) → (a || b) ≡ false → a ≡ false
-or-left false b e = refl
-or-left true b e = cc e
-
-not-true : (x : Bool) → (x ≡ true → ⊥) → x ≡ false
-not-true true n = absurd (n refl)
-not-true false n = refl
 
 -- ---- These lemmas show that a field has the same text with the settings `csv_writer` as with the default settings.
 
@@ -82,11 +73,11 @@ first-plain : (x tail : List ℕ) → list_any (needs_byte default_writer) x ≡
     → next_record default_config st.StartRecord [] [] (x ++ (44 ∷ tail)) ≡ next_record default_config st.StartField [] [] (x ++ (44 ∷ tail))
 first-plain [] tail p = record-same [] [] 44 tail refl refl
 first-plain (b ∷ rest) tail p =
-    let e : needs_byte default_writer b ≡ false = or-left (needs_byte default_writer b) (list_any (needs_byte default_writer) rest) p in
-    let a = not-true (b == 44) (λ t. cc (rw t at e)) in
-    let q = not-true (b == 34) (λ t. cc (rw (a, t) at e)) in
-    let r = not-true (b == 13) (λ t. cc (rw (a, q, t) at e)) in
-    let n = not-true (b == 10) (λ t. cc (rw (a, q, r, t) at e)) in
+    let e : needs_byte default_writer b ≡ false = (or_parts (needs_byte default_writer b) (list_any (needs_byte default_writer) rest) p).0 in
+    let a = false_from_ne_true (b == 44) (λ t. cc (rw t at e)) in
+    let q = false_from_ne_true (b == 34) (λ t. cc (rw (a, t) at e)) in
+    let r = false_from_ne_true (b == 13) (λ t. cc (rw (a, q, t) at e)) in
+    let n = false_from_ne_true (b == 10) (λ t. cc (rw (a, q, r, t) at e)) in
     record-same [] [] b (rest ++ (44 ∷ tail)) r n
 
 first : (x tail : List ℕ)
@@ -120,10 +111,6 @@ abbrev pub IsLong : List (List ℕ) → Type 0
 IsLong (x ∷ y ∷ ys) = Unit {0}
 IsLong _ = ⊥
 
-abbrev pub AreLong : List (List (List ℕ)) → Type 0
-AreLong [] = Unit {0}
-AreLong (row ∷ rows) = IsLong row × AreLong rows
-
 pub read-one : (row : List (List ℕ)) (tail : List ℕ) → IsLong row
     → next_record default_config st.StartRecord [] [] (row_text csv_writer row ++ tail) ≡ Some (row, st.AfterCr, 10 ∷ tail)
 read-one [] tail long = absurd long
@@ -139,7 +126,7 @@ ends : next_record default_config st.AfterCr [] [] (10 ∷ []) ≡ None
 unfolding next_record
 ends = refl
 
-reached : (rows : List (List (List ℕ))) → AreLong rows
+reached : (rows : List (List (List ℕ))) → AllByRecursion IsLong rows
     → Reached default_config st.AfterCr (10 ∷ concat (map (row_text csv_writer) rows)) rows st.AfterCr (10 ∷ [])
 unfolding Reached
 reached [] long = (refl, refl)
@@ -148,7 +135,7 @@ reached (row ∷ rows) long =
     ((row, st.AfterCr, 10 ∷ rest), past-feed (row_text csv_writer row ++ rest) ∙ read-one row rest long.0, refl, reached rows long.1)
 
 -- From the text of a header and rows, the reader reads back the header and then each row, as one record each.
-pub read-all : (header : List (List ℕ)) (rows : List (List (List ℕ))) → IsLong header → AreLong rows
+pub read-all : (header : List (List ℕ)) (rows : List (List (List ℕ))) → IsLong header → AllByRecursion IsLong rows
     → AreRecords default_config st.StartRecord (row_text csv_writer header ++ concat (map (row_text csv_writer) rows)) (header ∷ rows)
 unfolding Reached
 read-all header rows long all =

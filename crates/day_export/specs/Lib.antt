@@ -1,6 +1,5 @@
 pub mod Cells
 pub mod Acts
-pub mod DayState
 pub mod Rows
 pub mod Text
 pub mod Laws

@@ -1,52 +1,39 @@
 -- Definitions: the rows of a day. Each row has one cell for each column.
-use Rattle.std.specs.Prelude.{ℕ, Bool, true, false, List, [], ◌∷◌, Option, Some, None}
-use Rattle.std.specs.List.{cons_option}
+use Rattle.std.specs.Prelude.{ℕ, Bool, true, false, List, [], ◌∷◌, map, Option, Some, None}
+use Rattle.std.specs.List.{filter_map}
 use Rattle.decision_journal.specs.declared.entries.Entry.{Entry}
-use Rattle.site_core.specs.Limits.{ConfigValue}
-use Rattle.day_report.specs.Sales.{sale_of}
 use Rattle.day_report.specs.Decisions.{decision_of}
+use Rattle.day_report.specs.declared.sales.Delivery.{Delivery}
 use Rattle.day_report.specs.declared.sales.Sale.{Sale}
 use Rattle.day_export.specs.declared.cells.Rows.{Rows}
 use Rattle.day_export.specs.declared.cells.Rows.TheVariants as rows
 use Rattle.day_export.specs.declared.cells.Word.TheVariants as word
 use Rattle.day_export.specs.declared.cells.Cell.{Cell}
 use Rattle.day_export.specs.declared.cells.Cell.TheVariants as cell
-use Rattle.day_export.specs.declared.day_state.Delivery.{Delivery}
 use Rattle.day_export.specs.Cells.{moment_cell}
 use Rattle.day_export.specs.Acts.{act_cells, reply_cells, run_cells, field_cell}
-use Rattle.day_export.specs.DayState.{DayStateValue, delivery_of, transaction_cleared, state_after_entry, state_at_start}
 
 -- ---- the row of a sale
 
 -- The cell of one field of a delivery, such as its price. The second argument takes this field from the delivery. The
 -- cell is empty without a delivery.
-abbrev pub ended_cell : Option Delivery → (Delivery → ℕ) → Cell
-ended_cell None field = cell.Nothing
-ended_cell (Some e) field = cell.Number (field e)
+abbrev pub delivery_cell : Option Delivery → (Delivery → ℕ) → Cell
+delivery_cell None field = cell.Nothing
+delivery_cell (Some d) field = cell.Number (field d)
 
--- The row of a sale. The arguments are the sale, the number of its transaction, and its delivery, or None if no entry
--- of the day ended the delivery.
-abbrev pub sale_cells : Sale → ℕ → Option Delivery → List Cell
-sale_cells sale transaction ended =
-    ended_cell ended (λ e. e.number)
+abbrev pub sale_cells : Sale → List Cell
+sale_cells sale =
+    delivery_cell sale.delivery (λ d. d.number)
     ∷ cell.Number sale.number
     ∷ cell.Number sale.point
-    ∷ cell.Number transaction
-    ∷ ended_cell ended (λ e. e.product)
-    ∷ ended_cell ended (λ e. e.price)
+    ∷ cell.Number sale.transaction
+    ∷ delivery_cell sale.delivery (λ d. d.product)
+    ∷ delivery_cell sale.delivery (λ d. d.price)
     ∷ cell.Number sale.volume
     ∷ cell.Number sale.amount
     ∷ cell.Number sale.till
     ∷ moment_cell sale.moment
     ∷ []
-
--- The row of the sale that an entry makes; None if it makes none. The first argument is the state before the entry.
-unfoldable pub sale_row : DayStateValue → Entry → Option (List Cell)
-sale_row s entry =
-    elim (sale_of s.points entry) [
-      | None ↦ None
-      | Some sale ↦ Some (sale_cells sale (transaction_cleared entry.act) (delivery_of s.unpaid sale.point (transaction_cleared entry.act)))
-    ]
 
 -- ---- the row of a decision
 
@@ -118,17 +105,8 @@ event_row entry =
 
 -- ---- all rows of one kind for the history of a day
 
--- The row of this kind for an entry; None if it has none. The second argument is the state before the entry.
-abbrev pub row_of : Rows → DayStateValue → Entry → Option (List Cell)
-row_of rows.Sales s entry = sale_row s entry
-row_of rows.Decisions s entry = decision_row entry
-row_of rows.Events s entry = Some (event_row entry)
-
--- The rows of this kind for the entries, oldest first. The second argument is the state before the entries.
-abbrev pub rows_from : Rows → DayStateValue → List Entry → List (List Cell)
-rows_from which s [] = []
-rows_from which s (entry ∷ entries) = cons_option (row_of which s entry) (rows_from which (state_after_entry s entry) entries)
-
--- all rows of this kind for this history, on a site with this configuration
-abbrev pub rows_of : Rows → ConfigValue → List Entry → List (List Cell)
-rows_of which config history = rows_from which (state_at_start config) history
+-- The rows of this kind for these sales or these entries, oldest first.
+abbrev pub rows_from : Rows → List Sale → List Entry → List (List Cell)
+rows_from rows.Sales sales entries = map sale_cells sales
+rows_from rows.Decisions sales entries = filter_map decision_row entries
+rows_from rows.Events sales entries = map event_row entries

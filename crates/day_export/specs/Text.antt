@@ -8,14 +8,14 @@ use Rattle.csv.specs.declared.writer.WriterBuilder.{WriterBuilder}
 use Rattle.serde_json.specs.Data.{Data, null, number, string, object, unsigned, Members, no_members, put}
 use Rattle.serde_json.specs.Written.{compact_text}
 use Rattle.decision_journal.specs.declared.entries.Entry.{Entry}
-use Rattle.site_core.specs.Limits.{ConfigValue}
+use Rattle.day_report.specs.declared.sales.Sale.{Sale}
 use Rattle.day_export.specs.declared.cells.Rows.{Rows}
 use Rattle.day_export.specs.declared.cells.Format.{Format}
 use Rattle.day_export.specs.declared.cells.Format.TheVariants as format
 use Rattle.day_export.specs.declared.cells.Cell.{Cell}
 use Rattle.day_export.specs.declared.cells.Cell.TheVariants as cell
 use Rattle.day_export.specs.Cells.{columns, word_text, cell_text}
-use Rattle.day_export.specs.Rows.{rows_of}
+use Rattle.day_export.specs.Rows.{rows_from}
 
 -- The settings of the CSV writer, by RFC 4180: commas, quotes around a field only if it needs them, and CRLF after each
 -- record.
@@ -47,10 +47,9 @@ unfoldable pub header_bytes : Rows → Format → List ℕ
 header_bytes which format.Csv = row_text csv_writer (columns which)
 header_bytes which format.Json = []
 
--- The header, if the format has one, and then the text of all rows of this kind for this history, on a site with this
--- configuration.
-abbrev pub rows_text : Rows → Format → ConfigValue → List Entry → List ℕ
-rows_text which form config history = header_bytes which form ++ concat (map (row_bytes which form) (rows_of which config history))
+-- The header, if the format has one, and then the text of all rows of this kind for these sales or these entries.
+abbrev pub rows_text : Rows → Format → List Sale → List Entry → List ℕ
+rows_text which form sales entries = header_bytes which form ++ concat (map (row_bytes which form) (rows_from which sales entries))
 
 -- ---- The contracts of private functions use these definitions.
 

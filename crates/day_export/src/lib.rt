@@ -4,7 +4,6 @@
 mod acts;
 mod cells;
 mod csv_rows;
-mod day_state;
 mod fault;
 mod json_rows;
 pub mod laws;

@@ -1,38 +1,33 @@
 //! Makes the rows of sales, of decisions and of entries.
 
 ghost use Rattle.std.specs.Prelude.{◌≡◌, Some};
-ghost use Rattle.day_export.specs.Rows.{answer_cell, decision_cells, decision_row, event_row, sale_cells, sale_row, ended_cell};
-ghost use Rattle.day_export.specs.DayState.{state_value};
+ghost use Rattle.day_export.specs.Rows.{answer_cell, decision_cells, decision_row, event_row, sale_cells};
 
 use crate::acts::act_cells;
 use crate::cells::{Cell, Word, moment_cell, number};
-use crate::day_state::{DayState, Delivery, delivery_of, transaction_cleared};
 use crate::replies::reply_cells;
 use crate::runs::{field_cell, run_cells};
 use day_report::Sale;
 use day_report::rulings::decision_of;
-use day_report::sales::sale_of;
 use decision_journal::Entry;
 
-/// Returns the row of a sale whose transaction has the number `transaction`. `ended` is the delivery of the fuel that
-/// was sold, or `None` if no entry of the day ended this delivery. For `None` the cells `ended`, `product` and `price`
-/// are `Nothing`.
-fn sale_cells(sale: &Sale, transaction: u32, ended: Option<Delivery>) -> [Cell; 10]
-    ensures { result ≡ sale_cells sale.now transaction ended }
+/// Returns the row of a sale. Without a delivery the cells `ended`, `product` and `price` are `Nothing`.
+pub(crate) fn sale_cells(sale: &Sale) -> [Cell; 10]
+    ensures { result ≡ sale_cells sale.now }
 {
-    let (ended, product, price) = match ended {
+    let (ended, product, price) = match sale.delivery {
         None => (Cell::Nothing, Cell::Nothing, Cell::Nothing),
-        Some(ended) => (
-            number(ended.number),
-            number(ended.product),
-            Cell::Number(ended.price),
+        Some(delivery) => (
+            number(delivery.number),
+            number(delivery.product),
+            number(delivery.price),
         ),
     };
     [
         ended,
         number(sale.number),
         number(sale.point),
-        number(transaction),
+        number(sale.transaction),
         product,
         price,
         Cell::Number(sale.volume),
@@ -40,18 +35,6 @@ fn sale_cells(sale: &Sale, transaction: u32, ended: Option<Delivery>) -> [Cell; 
         number(sale.till),
         moment_cell(sale.moment),
     ]
-}
-
-/// Returns the row of the sale that an entry makes, or `None` if it makes none. `day_state` is the state before the
-/// entry.
-#[tactic(auto, unfolding(crate::specs::Rows::sale_row))]
-pub(crate) fn sale_row(day_state: &DayState, entry: &Entry) -> Option<[Cell; 10]>
-    ensures { result ≡ sale_row (state_value day_state.now) entry.now }
-{
-    let sale = sale_of(&day_state.points, entry)?;
-    let transaction = transaction_cleared(&entry.act);
-    let ended = delivery_of(&day_state.unpaid, sale.point, transaction);
-    Some(sale_cells(&sale, transaction, ended))
 }
 
 /// Returns the cell for the answer of a rule: `granted` or `denied`.

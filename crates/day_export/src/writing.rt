@@ -1,136 +1,117 @@
 //! Writes the rows of a day.
 
-ghost use Rattle.std.specs.Prelude.{◌≡◌, ◌≤◌, IfOk, IsOk, None, OnOk, length, map, option_to_list};
+ghost use Rattle.std.specs.Prelude.{◌≤◌, IfOk, List, OnOk, map};
+ghost use Rattle.std.specs.Iterator.{Drains, IsFinite};
 ghost use Rattle.std.specs.List.{concat};
 ghost use Rattle.std.specs.Io.KnownBytes.{Appends};
-ghost use Rattle.site_core.specs.declared.site.TheConstants.{ENTRIES};
-ghost use Rattle.day_export.specs.Rows.{row_of, rows_of};
-ghost use Rattle.day_export.specs.DayState.{state_value};
+ghost use Rattle.day_export.specs.Rows.{rows_from};
 ghost use Rattle.day_export.specs.Text.{row_bytes, rows_text};
 
 use crate::cells::{Cell, Format, Rows};
 use crate::csv_rows::CsvRows;
-use crate::day_state::DayState;
 use crate::fault::RowsFault;
 use crate::json_rows::JsonRows;
 use crate::row_writer::RowWriter;
-use crate::rows::{decision_row, event_row, sale_row};
+use crate::rows::{decision_row, event_row, sale_cells};
+use day_report::Sale;
 use decision_journal::Entry;
-use site_core::{Config, Site};
 use std::alloc::Global;
 use std::io::Write;
 
-/// Writes the row, unless it is `None`. `to` must be ready for a row (`is_ready`), and is ready again if there is no
-/// error. The error is an error of `write_row`. Without a row there is no error.
-fn put_some<T: RowWriter, const N: usize>(
+/// Writes each row that `cells` gives. A row must have at most 26 cells. `to` must be ready for a row (`is_ready`), and
+/// is ready again if there is no error. The error is an error of `write_row`. After an error, some of the rows were
+/// perhaps written.
+fn put_each<T: RowWriter, const N: usize, I: Iterator<Item = [Cell; N]> + Drop>(
     to: &mut T,
     rows: Rows,
-    row: Option<[Cell; N]>,
+    cells: I,
 ) -> Result<(), RowsFault>
-    requires { T.is_ready to.old }
-    ensures text { OnOk result (Appends (T.written_bytes to.old) (T.written_bytes to.new) (concat (map (row_bytes rows
-        T.format) (option_to_list row.entry)))) }
-    ensures ready { OnOk result (T.is_ready to.new) }
-    ensures none { row.entry ≡ None → IsOk result }
-{
-    match row {
-        None => Ok(()),
-        Some(cells) => to.write_row(rows, &cells),
-    }
-}
-
-/// Writes the row of the kind `rows` for an entry, if it has one; `day_state` is the state before the entry. `to` must
-/// be ready for a row (`is_ready`), and is ready again if there is no error. The error is an error of `write_row`.
-/// Without a row nothing is written, and there is no error.
-fn put_row<T: RowWriter>(
-    to: &mut T,
-    rows: Rows,
-    day_state: &DayState,
-    entry: &Entry,
-) -> Result<(), RowsFault>
-    requires { T.is_ready to.old }
-    ensures text { OnOk result (Appends (T.written_bytes to.old) (T.written_bytes to.new)
-        (concat (map (row_bytes rows T.format) (option_to_list (row_of rows (state_value day_state.now) entry.now))))) }
-    ensures ready { OnOk result (T.is_ready to.new) }
-    ensures none { row_of rows (state_value day_state.now) entry.now ≡ None → IsOk result }
-{
-    match rows {
-        Rows::Sales => put_some(to, rows, sale_row(day_state, entry)),
-        Rows::Decisions => put_some(to, rows, decision_row(entry)),
-        Rows::Events => put_some(to, rows, Some(event_row(entry))),
-    }
-}
-
-/// Writes all rows of the kind `rows` for these entries, on a site with this configuration. `to` must be ready for a
-/// row (`is_ready`), and is ready again if there is no error. There must be at most 1,048,576 entries. The error is
-/// that memory ran out, or an error of `write_row`. After an error, some of the rows were perhaps written.
-fn put_rows<T: RowWriter>(
-    alloc: Global,
-    to: &mut T,
-    rows: Rows,
-    config: &Config,
-    entries: &[Entry],
-) -> Result<(), RowsFault>
+    requires short { N ≤ 26 }
     requires ready { T.is_ready to.old }
-    requires within_limit { length entries.now ≤ ENTRIES }
-    ensures text { OnOk result (Appends (T.written_bytes to.old) (T.written_bytes to.new)
-        (concat (map (row_bytes rows T.format) (rows_of rows config.now entries.now)))) }
+    requires can { I.can_next cells }
+    requires ends { IsFinite (I.remaining cells) }
+    ensures text { OnOk result ((all : List (List Cell)) × Drains I.next_gives cells all
+        × Appends (T.written_bytes to.old) (T.written_bytes to.new) (concat (map (row_bytes rows T.format) all))) }
     ensures after { OnOk result (T.is_ready to.new) }
 {
-    let mut day_state = DayState::start(alloc, config)?;
-    for entry in entries {
-        put_row(to, rows, &day_state, entry)?;
-        day_state.apply_entry(alloc, entry)?;
+    for row in cells {
+        to.write_row(rows, &row)?;
     }
     Ok(())
 }
 
-/// Writes the rows of a site's history as CSV, after a record with the names of the columns. Returns the writer `out`.
-/// The error is that memory ran out, or an error of `out`.
+/// Writes all rows of the kind `rows` for these sales or these entries. `to` must be ready for a row (`is_ready`), and
+/// is ready again if there is no error. The error is an error of `write_row`. After an error, some of the rows were
+/// perhaps written.
+fn put_rows<T: RowWriter>(
+    to: &mut T,
+    rows: Rows,
+    sales: &[Sale],
+    entries: &[Entry],
+) -> Result<(), RowsFault>
+    requires { T.is_ready to.old }
+    ensures text { OnOk result (Appends (T.written_bytes to.old) (T.written_bytes to.new)
+        (concat (map (row_bytes rows T.format) (rows_from rows sales.now entries.now)))) }
+    ensures after { OnOk result (T.is_ready to.new) }
+{
+    match rows {
+        Rows::Sales => put_each(to, rows, sales.iter().map(sale_cells)),
+        Rows::Decisions => put_each(to, rows, entries.iter().filter_map(decision_row)),
+        Rows::Events => put_each(to, rows, entries.iter().map(event_row)),
+    }
+}
+
+/// Writes the rows of a day as CSV, after a record with the names of the columns. Returns the writer `out`. The error
+/// is that memory ran out, or an error of `out`.
 fn write_csv<W: Write + Drop>(
     alloc: Global,
-    site: &Site,
+    sales: &[Sale],
+    entries: &[Entry],
     rows: Rows,
     out: W,
 ) -> Result<W, RowsFault>
     ensures { IfOk result (λ after. Appends (W.contents out) (W.contents after)
-        (rows_text rows Format.Csv site.now.config site.now.history)) }
+        (rows_text rows Format.Csv sales.now entries.now)) }
 {
     let mut to = CsvRows::start(alloc, rows, out)?;
-    put_rows(alloc, &mut to, rows, site.config(), site.history())?;
+    put_rows(&mut to, rows, sales, entries)?;
     to.finish()
 }
 
-/// Writes the rows of a site's history as lines of JSON, and returns the writer `out`. The error is that memory ran
-/// out, or an error of `out`.
+/// Writes the rows of a day as lines of JSON, and returns the writer `out`. The error is that memory ran out, or an
+/// error of `out`.
+#[tactic(auto, unfolding(crate::specs::Text::header_bytes))]
 fn write_json<W: Write + Drop>(
     alloc: Global,
-    site: &Site,
+    sales: &[Sale],
+    entries: &[Entry],
     rows: Rows,
     out: W,
 ) -> Result<W, RowsFault>
     ensures { IfOk result (λ after. Appends (W.contents out) (W.contents after)
-        (rows_text rows Format.Json site.now.config site.now.history)) }
+        (rows_text rows Format.Json sales.now entries.now)) }
 {
     let mut to = JsonRows { alloc, out };
-    put_rows(alloc, &mut to, rows, site.config(), site.history())?;
+    put_rows(&mut to, rows, sales, entries)?;
     Ok(to.out)
 }
 
-/// Writes the rows of a site's history to `out`, and returns `out`. In CSV the names of the columns come first. The
-/// error is that memory ran out, or an error of `out`. After an error, some of the rows were perhaps written.
+/// Writes the rows of a day with these sales and these entries to `out`, and returns `out`. In CSV the names of the
+/// columns come first. The error is that memory ran out, or an error of `out`. After an error, some of the rows were
+/// perhaps written.
 pub fn write_rows<W: Write + Drop>(
     alloc: Global,
-    site: &Site,
+    sales: &[Sale],
+    entries: &[Entry],
     rows: Rows,
     format: Format,
     out: W,
 ) -> Result<W, RowsFault>
     ensures { IfOk result (λ after. Appends (W.contents out) (W.contents after)
-        (rows_text rows format site.now.config site.now.history)) }
+        (rows_text rows format sales.now entries.now)) }
 {
     match format {
-        Format::Csv => write_csv(alloc, site, rows, out),
-        Format::Json => write_json(alloc, site, rows, out),
+        Format::Csv => write_csv(alloc, sales, entries, rows, out),
+        Format::Json => write_json(alloc, sales, entries, rows, out),
     }
 }

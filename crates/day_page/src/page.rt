@@ -7,8 +7,8 @@ use crate::{bars, drawn, prices, tables};
 use day_report::adding::{add_up, carried_in};
 use day_report::opening::opening_prices;
 use day_report::steps::{axis_of, states_by_step};
-use day_report::{Axis, Bands, CarriedIn, PriceChange, Sum, Totals, Unpaid};
-use site_core::Site;
+use day_report::{Axis, Bands, CarriedIn, Marks, PriceChange, Sales, Sum, Totals, Unpaid};
+use site_core::{Both, Opening, Site};
 use std::alloc::{AllocError, Global};
 use std::fmt;
 
@@ -20,9 +20,10 @@ pub struct Page {
 }
 
 impl Page {
-    /// Makes the page of a site's history. The error is that memory ran out.
-    pub fn of(alloc: Global, site: &Site) -> Result<Page, AllocError> {
-        let day = Day::of(alloc, site)?;
+    /// Makes the page of a site's history. `seen` has the sales and the marks that were seen while the history was
+    /// replayed. The error is that memory ran out.
+    pub fn of(alloc: Global, site: &Site, seen: &Both<Sales, Marks>) -> Result<Page, AllocError> {
+        let day = Day::of(alloc, site, seen)?;
         page_of(alloc, &day)
     }
 }
@@ -59,13 +60,14 @@ fn counters_of(site: &Site) -> [(u64, u64); 32] {
 }
 
 impl Day {
-    fn of(alloc: Global, site: &Site) -> Result<Day, AllocError> {
+    fn of(alloc: Global, site: &Site, seen: &Both<Sales, Marks>) -> Result<Day, AllocError> {
         let config = site.config();
-        let entries = site.history();
-        let axis = axis_of(entries);
-        let bands = states_by_step(alloc, config, entries, axis)?;
+        let marks = &seen.second.marks;
+        let axis = axis_of(marks);
+        let bands = states_by_step(alloc, config, marks, axis)?;
+        let Opening { points, .. } = site.carry_unchecked()?;
         Ok(Day {
-            totals: add_up(alloc, config, entries)?,
+            totals: add_up(alloc, config, site.history(), &seen.first.sales, points)?,
             carried: carried_in(alloc, config)?,
             counters: counters_of(site),
             opening: opening_prices(config),

@@ -1,8 +1,12 @@
-pub mod Walking
 pub mod OneMore
-pub mod SiteSteps
 pub mod SiteSales
 pub mod SiteDecisions
 pub mod Axes
 pub mod Cuts
 pub mod Showing
+pub mod Owing
+pub mod Growing
+pub mod Changing
+pub mod Clearing
+pub mod Earlier
+pub mod Deliveries

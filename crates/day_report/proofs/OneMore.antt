@@ -1,7 +1,6 @@
--- What one more entry, slot or point changes or adds. An entry can change the points and the last moment, and can add a
--- sale or a load. A slot can add a rule that is carried in from the day before. A point adds its unpaid transactions.
--- If all entries together make no sale, then no single entry makes one. The same holds for the loads in entries, the
--- rules in slots, and the unpaid transactions of points.
+-- What one more entry, slot or point changes or adds. An entry can change the last moment, and can add a load. A slot can
+-- add a rule that is carried in from the day before. A point adds its unpaid transactions. If all entries together have
+-- no load, then no single entry has one. The same holds for the rules in slots, and the unpaid transactions of points.
 use Rattle.std.proofs.Common.{◌≡◌, ℕ, ◌+◌, ◌<◌, List, [], ◌∷◌, ◌++◌, length, map, take, drop, append_assoc, arith, Option, Some, None, refl, ap, ◌∙◌, sym, get_or}
 use Rattle.std.specs.Prelude.{fold, option_to_list}
 use Rattle.std.specs.List.{cons_option}
@@ -16,8 +15,6 @@ use Rattle.program_slots.specs.Value.{Version}
 use Rattle.day_report.specs.Carried.{carried_at, carried_from}
 use Rattle.fuelling_point.specs.Table.{PointState, fresh_point}
 use Rattle.decision_journal.specs.declared.entries.Entry.{Entry}
-use Rattle.day_report.specs.Walk.{with_entry, replayed}
-use Rattle.day_report.specs.Sales.{sale_of, sales}
 use Rattle.day_report.specs.Decisions.{load_of, loads, moment_after}
 
 cons-append : {A : Type 0} (o : Option A) (xs ys : List A) → cons_option o (xs ++ ys) ≡ cons_option o xs ++ ys
@@ -28,35 +25,17 @@ cons-nil : {A : Type 0} (o : Option A) → cons_option o [] ≡ option_to_list o
 cons-nil None = refl
 cons-nil (Some x) = refl
 
-pub sales-push : (points : List PointState) (entries : List Entry) (entry : Entry) → sales points (entries ++ entry ∷ []) ≡ sales points entries
-    ++ option_to_list (sale_of (replayed points entries) entry)
-sales-push points [] entry = cons-nil (sale_of points entry)
-sales-push points (e ∷ entries) entry =
-    ap (λ xs. cons_option (sale_of points e) xs) (sales-push (with_entry points e) entries entry)
-    ∙ cons-append (sale_of points e) (sales (with_entry points e) entries) (option_to_list (sale_of (replayed (with_entry points e) entries) entry))
-
-pub replayed-push : (points : List PointState) (entries : List Entry) (entry : Entry)
-    → replayed points (entries ++ entry ∷ []) ≡ with_entry (replayed points entries) entry
-replayed-push points entries entry = fold_push with_entry points entries entry
+loads-append : (moment : ℕ) (entries more : List Entry)
+    → loads moment (entries ++ more) ≡ loads moment entries ++ loads (fold moment_after moment entries) more
+loads-append moment [] more = refl
+loads-append moment (e ∷ entries) more =
+    ap (cons_option (load_of moment e)) (loads-append (moment_after moment e) entries more)
+    ∙ cons-append (load_of moment e) (loads (moment_after moment e) entries) (loads (fold moment_after (moment_after moment e) entries) more)
 
 pub loads-push : (moment : ℕ) (entries : List Entry) (entry : Entry) → loads moment (entries ++ entry ∷ []) ≡ loads moment entries
     ++ option_to_list (load_of (fold moment_after moment entries) entry)
-loads-push moment [] entry = cons-nil (load_of moment entry)
-loads-push moment (e ∷ entries) entry =
-    ap (λ xs. cons_option (load_of moment e) xs) (loads-push (moment_after moment e) entries entry)
-    ∙ cons-append (load_of moment e) (loads (moment_after moment e) entries)
-    (option_to_list (load_of (fold moment_after (moment_after moment e) entries) entry))
-
--- The points after the first i + 1 entries are the points after the first i, changed by the entry at place i.
-pub replayed-more : (points : List PointState) (entries : List Entry) (i : ℕ) (entry : Entry) → i < length entries → entry ≡ get_or entries i entry
-    → replayed points (take (i + 1) entries) ≡ with_entry (replayed points (take i entries)) entry
-replayed-more points entries i entry h is =
-    ap (λ es. replayed points es) (take_more entries i entry h ∙ ap (λ e. take i entries ++ e ∷ []) (sym is)) ∙ replayed-push points (take i entries) entry
-
-pub sales-more : (points : List PointState) (entries : List Entry) (i : ℕ) (entry : Entry) → i < length entries → entry ≡ get_or entries i entry
-    → sales points (take (i + 1) entries) ≡ sales points (take i entries) ++ option_to_list (sale_of (replayed points (take i entries)) entry)
-sales-more points entries i entry h is =
-    ap (λ es. sales points es) (take_more entries i entry h ∙ ap (λ e. take i entries ++ e ∷ []) (sym is)) ∙ sales-push points (take i entries) entry
+loads-push moment entries entry =
+    loads-append moment entries (entry ∷ []) ∙ ap (λ xs. loads moment entries ++ xs) (cons-nil (load_of (fold moment_after moment entries) entry))
 
 pub loads-more : (moment : ℕ) (entries : List Entry) (i : ℕ) (entry : Entry) → i < length entries → entry ≡ get_or entries i entry
     → loads moment (take (i + 1) entries) ≡ loads moment (take i entries) ++ option_to_list (load_of (fold moment_after moment (take i entries)) entry)
@@ -71,14 +50,18 @@ moment-more moment entries i entry h is =
 
 -- ---- These lemmas say which rule one more slot carries in from the day before.
 
+carried-append : (slot : ℕ) (rules more : List (Option Version))
+    → carried_from slot (rules ++ more) ≡ carried_from slot rules ++ carried_from (slot + length rules) more
+carried-append slot [] more = ap (λ n. carried_from n more) (omega arith)
+carried-append slot (r ∷ rules) more =
+    let same : slot + 1 + length rules ≡ slot + length (r ∷ rules) = omega arith in
+    ap (cons_option (carried_at slot r)) (carried-append (slot + 1) rules more ∙ ap (λ n. carried_from (slot + 1) rules ++ carried_from n more) same)
+    ∙ cons-append (carried_at slot r) (carried_from (slot + 1) rules) (carried_from (slot + length (r ∷ rules)) more)
+
 carried-push : (slot : ℕ) (rules : List (Option Version)) (rule : Option Version) → carried_from slot (rules ++ rule ∷ []) ≡ carried_from slot rules
     ++ option_to_list (carried_at (slot + length rules) rule)
-carried-push slot [] rule = cons-nil (carried_at slot rule) ∙ ap (λ n. option_to_list (carried_at n rule)) (omega arith)
-carried-push slot (r ∷ rules) rule =
-    let same : slot + 1 + length rules ≡ slot + length (r ∷ rules) = omega arith in
-    ap (λ xs. cons_option (carried_at slot r) xs) (carried-push (slot + 1) rules rule ∙ ap
-    (λ n. carried_from (slot + 1) rules ++ option_to_list (carried_at n rule)) same)
-    ∙ cons-append (carried_at slot r) (carried_from (slot + 1) rules) (option_to_list (carried_at (slot + length (r ∷ rules)) rule))
+carried-push slot rules rule =
+    carried-append slot rules (rule ∷ []) ∙ ap (λ xs. carried_from slot rules ++ xs) (cons-nil (carried_at (slot + length rules) rule))
 
 -- The rules in the first i + 1 slots are the rules in the first i slots, followed by the rule in slot i. If slot i is
 -- empty, nothing follows.
@@ -97,14 +80,18 @@ pub map-option : {A B : Type 0} (f : A → B) (o : Option A) → map f (option_t
 map-option f None = refl
 map-option f (Some x) = refl
 
+unpaid-append : (n : ℕ) (points more : List PointState) → unpaid_from n (points ++ more) ≡ unpaid_from n points ++ unpaid_from (n + length points) more
+unpaid-append n [] more = ap (λ m. unpaid_from m more) (omega arith)
+unpaid-append n (q ∷ points) more =
+    let same : n + 1 + length points ≡ n + length (q ∷ points) = omega arith in
+    ap (λ xs. map (unpaid_transaction n) q.unpaid ++ xs) (unpaid-append (n + 1) points more
+    ∙ ap (λ m. unpaid_from (n + 1) points ++ unpaid_from m more) same)
+    ∙ sym (append_assoc (map (unpaid_transaction n) q.unpaid) (unpaid_from (n + 1) points) (unpaid_from (n + length (q ∷ points)) more))
+
 unpaid-push : (n : ℕ) (points : List PointState) (p : PointState) → unpaid_from n (points ++ p ∷ []) ≡ unpaid_from n points
     ++ map (unpaid_transaction (n + length points)) p.unpaid
-unpaid-push n [] p = append-nil (map (unpaid_transaction n) p.unpaid) ∙ ap (λ m. map (unpaid_transaction m) p.unpaid) (omega arith)
-unpaid-push n (q ∷ points) p =
-    let same : n + 1 + length points ≡ n + length (q ∷ points) = omega arith in
-    ap (λ xs. map (unpaid_transaction n) q.unpaid ++ xs) (unpaid-push (n + 1) points p ∙ ap
-    (λ m. unpaid_from (n + 1) points ++ map (unpaid_transaction m) p.unpaid) same)
-    ∙ sym (append_assoc (map (unpaid_transaction n) q.unpaid) (unpaid_from (n + 1) points) (map (unpaid_transaction (n + length (q ∷ points))) p.unpaid))
+unpaid-push n points p =
+    unpaid-append n points (p ∷ []) ∙ ap (λ xs. unpaid_from n points ++ xs) (append-nil (map (unpaid_transaction (n + length points)) p.unpaid))
 
 pub unpaid-none : unpaid_of [] ≡ []
 unfolding unpaid_of
@@ -147,37 +134,13 @@ none-before : {A : Type 0} (o : Option A) (xs : List A) → cons_option o xs ≡
 none-before None xs h = refl
 none-before (Some x) xs h = absurd (cc)
 
-none-behind : {A : Type 0} (xs ys : List A) → xs ++ ys ≡ [] → ys ≡ []
-none-behind [] ys h = h
-none-behind (x ∷ xs) ys h = absurd (cc)
+none-both : {A : Type 0} (xs ys : List A) → xs ++ ys ≡ [] → (xs ≡ []) × (ys ≡ [])
+none-both [] ys h = (refl, h)
+none-both (x ∷ xs) ys h = absurd (cc)
 
 -- A list is its items before place i, then the item at place i, then the items after it.
 at-place : {A : Type 0} (xs : List A) (i : ℕ) (x : A) → i < length xs → x ≡ get_or xs i x → xs ≡ take i xs ++ x ∷ drop (i + 1) xs
 at-place xs i x h is = sym (take-append-drop i xs) ∙ ap (λ ys. take i xs ++ ys) (drop_more xs i x h ∙ ap (λ y. y ∷ drop (i + 1) xs) (sym is))
-
-sales-append : (points : List PointState) (entries more : List Entry) → sales points (entries ++ more) ≡ sales points entries ++ sales (replayed points entries) more
-sales-append points [] more = refl
-sales-append points (e ∷ entries) more =
-    ap (cons_option (sale_of points e)) (sales-append (with_entry points e) entries more)
-    ∙ cons-append (sale_of points e) (sales (with_entry points e) entries) (sales (replayed (with_entry points e) entries) more)
-
--- If no entry makes a sale, then the entry at place i makes none.
-pub sales-none : (points : List PointState) (entries : List Entry) (i : ℕ) (entry : Entry) → i < length entries → entry ≡ get_or entries i entry
-    → sales points entries ≡ []
-    → sale_of (replayed points (take i entries)) entry ≡ None
-sales-none points entries i entry h is none =
-    let now = replayed points (take i entries) in
-    let all : sales points entries ≡ sales points (take i entries) ++ sales now (entry ∷ drop (i + 1) entries) =
-    ap (sales points) (at-place entries i entry h is) ∙ sales-append points (take i entries) (entry ∷ drop (i + 1) entries) in
-    none-before (sale_of now entry) (sales (with_entry now entry) (drop (i + 1) entries))
-    (none-behind (sales points (take i entries)) (sales now (entry ∷ drop (i + 1) entries)) (sym all ∙ none))
-
-loads-append : (moment : ℕ) (entries more : List Entry)
-    → loads moment (entries ++ more) ≡ loads moment entries ++ loads (fold moment_after moment entries) more
-loads-append moment [] more = refl
-loads-append moment (e ∷ entries) more =
-    ap (cons_option (load_of moment e)) (loads-append (moment_after moment e) entries more)
-    ∙ cons-append (load_of moment e) (loads (moment_after moment e) entries) (loads (fold moment_after (moment_after moment e) entries) more)
 
 -- If none of the entries is an accepted load, then the entry at place i isn't one.
 pub loads-none : (moment : ℕ) (entries : List Entry) (i : ℕ) (entry : Entry) → i < length entries → entry ≡ get_or entries i entry
@@ -188,15 +151,7 @@ loads-none moment entries i entry h is none =
     let all : loads moment entries ≡ loads moment (take i entries) ++ loads last (entry ∷ drop (i + 1) entries) =
     ap (loads moment) (at-place entries i entry h is) ∙ loads-append moment (take i entries) (entry ∷ drop (i + 1) entries) in
     none-before (load_of last entry) (loads (moment_after last entry) (drop (i + 1) entries))
-    (none-behind (loads moment (take i entries)) (loads last (entry ∷ drop (i + 1) entries)) (sym all ∙ none))
-
-carried-append : (slot : ℕ) (rules more : List (Option Version))
-    → carried_from slot (rules ++ more) ≡ carried_from slot rules ++ carried_from (slot + length rules) more
-carried-append slot [] more = ap (λ n. carried_from n more) (omega arith)
-carried-append slot (r ∷ rules) more =
-    let same : slot + 1 + length rules ≡ slot + length (r ∷ rules) = omega arith in
-    ap (cons_option (carried_at slot r)) (carried-append (slot + 1) rules more ∙ ap (λ n. carried_from (slot + 1) rules ++ carried_from n more) same)
-    ∙ cons-append (carried_at slot r) (carried_from (slot + 1) rules) (carried_from (slot + length (r ∷ rules)) more)
+    (none-both (loads moment (take i entries)) (loads last (entry ∷ drop (i + 1) entries)) (sym all ∙ none)).1
 
 -- If no slot carries in a rule from the day before, then slot i is empty.
 pub carried-none : (rules : List (Option Version)) (i : ℕ) (rule : Option Version) → i < length rules → rule ≡ get_or rules i rule
@@ -210,11 +165,7 @@ carried-none rules i rule h is none =
     ∙ carried-append 0 (take i rules) (rule ∷ drop (i + 1) rules)
     ∙ ap (λ n. carried_from 0 (take i rules) ++ carried_from n (rule ∷ drop (i + 1) rules)) place in
     none-before (carried_at i rule) (carried_from (i + 1) (drop (i + 1) rules))
-    (none-behind (carried_from 0 (take i rules)) (carried_from i (rule ∷ drop (i + 1) rules)) (sym all ∙ none))
-
-none-first : {A : Type 0} (xs ys : List A) → xs ++ ys ≡ [] → xs ≡ []
-none-first [] ys h = refl
-none-first (x ∷ xs) ys h = absurd (cc)
+    (none-both (carried_from 0 (take i rules)) (carried_from i (rule ∷ drop (i + 1) rules)) (sym all ∙ none)).1
 
 none-mapped : {A B : Type 0} (f : A → B) (xs : List A) → map f xs ≡ [] → xs ≡ []
 none-mapped f [] h = refl
@@ -224,14 +175,6 @@ neither : {A : Type 0} (first second : Option A) → option_to_list first ++ opt
 neither None None h = (refl, refl)
 neither None (Some y) h = absurd (cc)
 neither (Some x) second h = absurd (cc)
-
-unpaid-append : (n : ℕ) (points more : List PointState) → unpaid_from n (points ++ more) ≡ unpaid_from n points ++ unpaid_from (n + length points) more
-unpaid-append n [] more = ap (λ m. unpaid_from m more) (omega arith)
-unpaid-append n (q ∷ points) more =
-    let same : n + 1 + length points ≡ n + length (q ∷ points) = omega arith in
-    ap (λ xs. map (unpaid_transaction n) q.unpaid ++ xs) (unpaid-append (n + 1) points more
-    ∙ ap (λ m. unpaid_from (n + 1) points ++ unpaid_from m more) same)
-    ∙ sym (append_assoc (map (unpaid_transaction n) q.unpaid) (unpaid_from (n + 1) points) (unpaid_from (n + length (q ∷ points)) more))
 
 -- If no point has an unpaid transaction, then `first` and `second`, the unpaid transactions of the point at place i,
 -- are both None.
@@ -244,6 +187,6 @@ unpaid-neither points i p first second h is both none =
     let n = 1 + length (take i points) in
     let all : unpaid_from 1 points ≡ unpaid_from 1 (take i points) ++ unpaid_from n (p ∷ drop (i + 1) points) =
     ap (unpaid_from 1) (at-place points i p h is) ∙ unpaid-append 1 (take i points) (p ∷ drop (i + 1) points) in
-    let behind = none-behind (unpaid_from 1 (take i points)) (unpaid_from n (p ∷ drop (i + 1) points)) (sym all ∙ none) in
-    let mapped = none-first (map (unpaid_transaction n) p.unpaid) (unpaid_from (n + 1) (drop (i + 1) points)) behind in
+    let behind = (none-both (unpaid_from 1 (take i points)) (unpaid_from n (p ∷ drop (i + 1) points)) (sym all ∙ none)).1 in
+    let mapped = (none-both (map (unpaid_transaction n) p.unpaid) (unpaid_from (n + 1) (drop (i + 1) points)) behind).0 in
     neither first second (both ∙ none-mapped (unpaid_transaction n) p.unpaid mapped)

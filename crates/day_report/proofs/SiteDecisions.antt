@@ -7,13 +7,16 @@ use Rattle.std.proofs.lemmas.Bool.{eq-eqb}
 use Rattle.std.proofs.lemmas.Bool.Decides.{nat_tests}
 use Rattle.std.proofs.lemmas.Map.Keys.{IsDistinct-head, IsDistinct-tail}
 use Rattle.std.proofs.lemmas.List.{reverse-append, reverse-reverse, length-append, append-nil, map-append}
-use Rattle.std.proofs.lemmas.List.Elements.{filter_map-append, All-head, All-tail}
+use Rattle.std.proofs.lemmas.List.Elements.{filter_map-append, All-append, All-cons, All-head, All-nil, All-tail, All-weaker}
 use Rattle.std.proofs.lemmas.List.Sums.{sum_by-cons, sum_by-append}
 use Rattle.fuelling_point.specs.Table.{PointState, StepResult, command_step, event_step}
 use Rattle.fuelling_point.specs.declared.kinds.Command.{Command}
 use Rattle.fuelling_point.specs.declared.kinds.DispenserEvent.{DispenserEvent}
 use Rattle.fuelling_point.specs.declared.kinds.Order.{Order}
+use Rattle.fuelling_point.specs.declared.kinds.PointFault.{PointFault}
+use Rattle.fuelling_point.specs.declared.kinds.PointFault.TheVariants.{WrongState}
 use Rattle.till_request.specs.declared.act.Request.{Request}
+use Rattle.till_request.specs.declared.act.Request.TheVariants as request
 use Rattle.till_request.specs.declared.act.Act.{Act}
 use Rattle.till_request.specs.declared.act.Act.TheVariants as act
 use Rattle.till_request.specs.declared.act.Reply.{Reply}
@@ -35,11 +38,12 @@ use Rattle.site_core.specs.Context.{context}
 use Rattle.site_core.specs.History.{loaded, in_force, versions, versions_before, opening_rule}
 use Rattle.site_core.specs.Decide.{Effect, replied, refused, denied, no_such_till, is_decided, is_till, admitted, request_action}
 use Rattle.site_core.specs.Decide.{decided, verdict, run_result, grant}
-use Rattle.site_core.specs.Step.{effect, effect_of, asked, till_command_effect, command_effect, dispenser_effect, event_effect, order_reply}
+use Rattle.site_core.specs.Step.{effect, effect_of, asked, till_command_effect, command_effect, dispenser_effect, event_effect, order_reply, fault_reply, show_reply}
 use Rattle.site_core.specs.Legal.{Legal}
 use Rattle.site_core.proofs.Points.{till_command_effect-none, till_command_effect-some, dispenser_effect-none, dispenser_effect-some}
 use Rattle.site_core.proofs.Decisions.{decided-refused, decided-none, decided-some}
 use Rattle.site_core.proofs.Grants.{verdict-deny, verdict-grant}
+use Rattle.site_core.proofs.Undecided.{refuses, admitted-no, effect-iff-run}
 use Rattle.day_report.specs.Decisions as decisions
 use Rattle.decision_journal.specs.Tally.{verdict_of}
 use Rattle.day_report.specs.Decisions.{kind_of_request, decision_of, loaded_at, load_of, loads, moment_after}
@@ -53,7 +57,6 @@ use Rattle.day_report.specs.declared.rulings.RequestKind.TheVariants as kinds
 use Rattle.day_report.specs.declared.rulings.Decision.{Decision}
 use Rattle.day_report.specs.declared.counting.DecisionPart.TheVariants as deciding
 use Rattle.day_report.proofs.OneMore.{loads-push}
-use Rattle.day_report.proofs.SiteSteps.{Executes, executes, Admits, admits, fault-plain, show-plain}
 use Rattle.day_report.proofs.SiteSales.{none-key, one-key, add-keys, no-keys}
 
 -- ---- A version has six counts of decisions: grants and denials of releases, of presets and of prices. These lemmas
@@ -165,34 +168,29 @@ are-numbers slot (Some v ∷ rules) = ap (λ ns. v.number ∷ ns) (are-numbers (
 abbrev Opens : ConfigValue → Type 0
 Opens config = (slot : ℕ) (v : Version) → opening_rule config slot ≡ Some v → (times v.number (olds config) ≡ 1) × (v.number ≤ versions_before config)
 
-opens : (config : ConfigValue) (o : Option OpeningValue) → HasValidOpening config → config.opening ≡ o → Opens config
-opens config None good is = λ slot v h.
-    none-is v (sym (ap (λ x. elim x as (λ _. Option Version) [ None ↦ None | Some y ↦ slice_index_or y.rules slot None ]) is) ∙ h)
-opens config (Some o) good is = λ slot v h.
-    let fits : IsOpening (length config.points) o = good o is in
-    let at : slice_index_or o.rules slot None ≡ Some v =
-    sym (ap (λ x. elim x as (λ _. Option Version) [ None ↦ None | Some y ↦ slice_index_or y.rules slot None ]) is) ∙ h in
-    let numbers : olds config ≡ rule_numbers o.rules =
-    ap (λ x. map (λ (rule : CarriedRule). rule.version) (elim x as (λ _. List CarriedRule) [ None ↦ [] | Some y ↦ carried_from 0 y.rules ])) is
-    ∙ are-numbers 0 o.rules in
-    let before : versions_before config ≡ o.versions = ap (λ x. elim x as (λ _. ℕ) [ None ↦ 0 | Some y ↦ y.versions ]) is in (
-      ap (times v.number) numbers ∙ once-at o.rules slot v fits.distinct at,
-      subst (λ n. v.number ≤ n) (sym before) (at-slot (λ n. n ≤ o.versions) o.rules slot v (low-numbers o.versions o.rules fits.rules) at),
-    )
+abbrev AreLow : ConfigValue → List ℕ → Type 0
+AreLow config ns = AllByRecursion (λ n. n ≤ versions_before config) ns
 
-lows : (config : ConfigValue) (o : Option OpeningValue) → HasValidOpening config → config.opening ≡ o
-    → AllByRecursion (λ n. n ≤ versions_before config) (olds config)
-lows config None good is =
-    subst (λ x. AllByRecursion (λ n. n ≤ versions_before config)
-    (map (λ (rule : CarriedRule). rule.version) (elim x as (λ _. List CarriedRule) [ None ↦ [] | Some y ↦ carried_from 0 y.rules ]))) (sym is) tt
-lows config (Some o) good is =
+opens : (config : ConfigValue) (o : Option OpeningValue) → HasValidOpening config → config.opening ≡ o → Opens config × AreLow config (olds config)
+opens config None good is = (
+  λ slot v h. none-is v (sym (ap (λ x. elim x as (λ _. Option Version) [ None ↦ None | Some y ↦ slice_index_or y.rules slot None ]) is) ∙ h),
+  subst (λ x. AreLow config (map (λ (rule : CarriedRule). rule.version) (elim x as (λ _. List CarriedRule) [ None ↦ [] | Some y ↦ carried_from 0 y.rules ]))) (sym is) tt,
+)
+opens config (Some o) good is =
     let fits : IsOpening (length config.points) o = good o is in
     let numbers : olds config ≡ rule_numbers o.rules =
     ap (λ x. map (λ (rule : CarriedRule). rule.version) (elim x as (λ _. List CarriedRule) [ None ↦ [] | Some y ↦ carried_from 0 y.rules ])) is
     ∙ are-numbers 0 o.rules in
     let before : versions_before config ≡ o.versions = ap (λ x. elim x as (λ _. ℕ) [ None ↦ 0 | Some y ↦ y.versions ]) is in
-    subst (λ ns. AllByRecursion (λ n. n ≤ versions_before config) ns) (sym numbers)
-    (subst (λ m. AllByRecursion (λ n. n ≤ m) (rule_numbers o.rules)) (sym before) (low-numbers o.versions o.rules fits.rules))
+    let low : AreLow config (rule_numbers o.rules) =
+    subst (λ m. AllByRecursion (λ n. n ≤ m) (rule_numbers o.rules)) (sym before) (low-numbers o.versions o.rules fits.rules) in (
+      λ slot v h. let at : slice_index_or o.rules slot None ≡ Some v =
+          sym (ap (λ x. elim x as (λ _. Option Version) [ None ↦ None | Some y ↦ slice_index_or y.rules slot None ]) is) ∙ h in (
+            ap (times v.number) numbers ∙ once-at o.rules slot v fits.distinct at,
+            at-slot (λ n. n ≤ versions_before config) o.rules slot v low at,
+          ),
+      subst (AreLow config) (sym numbers) low,
+    )
 
 -- ---- These lemmas show: the decisions of all versions of the day add up to the number of decisions, if each decision
 -- is by a version of the day, and no version carried in from the day before has a number over `versions_before` (the
@@ -208,23 +206,14 @@ version-more : (config : ConfigValue) (n m v : ℕ) → n ≤ m → IsVersion co
 version-more config n m v le (inl old) = inl old
 version-more config n m v le (inr new) = let l : v ≤ versions_before config + n = new.1 in inr (new.0, omega (arith, l, le))
 
-abbrev VersionsFit : ConfigValue → ℕ → List Decision → Type 0
-VersionsFit config n [] = Unit {0}
-VersionsFit config n (d ∷ ds) = IsVersion config n d.version × VersionsFit config n ds
-
-fit-append : (config : ConfigValue) (n : ℕ) (xs ys : List Decision) → VersionsFit config n xs → VersionsFit config n ys → VersionsFit config n (xs ++ ys)
-fit-append config n [] ys f g = g
-fit-append config n (x ∷ xs) ys f g = (f.0, fit-append config n xs ys f.1 g)
-
-fit-more : (config : ConfigValue) (n m : ℕ) (xs : List Decision) → n ≤ m → VersionsFit config n xs → VersionsFit config m xs
-fit-more config n m [] le f = tt
-fit-more config n m (x ∷ xs) le f = (version-more config n m x.version le f.0, fit-more config n m xs le f.1)
+abbrev IsByVersion : ConfigValue → ℕ → Decision → Type 0
+IsByVersion config n d = IsVersion config n d.version
 
 -- the version numbers of a day with n loads: those carried in, then those of the loads
 abbrev numbers_with : ConfigValue → ℕ → List ℕ
 numbers_with config n = olds config ++ range_with_len (versions_before config + 1) n
 
-once-of : (config : ConfigValue) (n v : ℕ) → AllByRecursion (λ k. k ≤ versions_before config) (olds config) → IsVersion config n v
+once-of : (config : ConfigValue) (n v : ℕ) → AreLow config (olds config) → IsVersion config n v
     → times v (numbers_with config n) ≡ 1
 once-of config n v low (inl old) =
     let le : v ≤ versions_before config = old.1 in
@@ -237,15 +226,15 @@ once-of config n v low (inr new) =
     ∙ (λ i. above-none v (versions_before config) (olds config) low lt i
     + one-key (versions_before config + 1) n v 1 (omega (arith, lt)) (omega (arith, le)) i)
 
-all-versions : (config : ConfigValue) (n : ℕ) (ds : List Decision) → AllByRecursion (λ k. k ≤ versions_before config) (olds config) → VersionsFit config n ds
+all-versions : (config : ConfigValue) (n : ℕ) (ds : List Decision) → AreLow config (olds config) → All (IsByVersion config n) ds
     → sum_by (λ v. count_by (λ (d : Decision). d.version == v) ds) (numbers_with config n) ≡ length ds
 all-versions config n [] low fits = no-keys (numbers_with config n)
 all-versions config n (d ∷ ds) low fits =
     let one : ℕ → ℕ = λ v. if d.version == v then 1 else 0 in
     let rest : ℕ → ℕ = λ v. count_by (λ (x : Decision). x.version == v) ds in
     let sums = add-keys one rest (numbers_with config n) in
-    let first = once-of config n d.version low fits.0 in
-    let later = all-versions config n ds low fits.1 in
+    let first = once-of config n d.version low (All-head (IsByVersion config n) d ds fits) in
+    let later = all-versions config n ds low (All-tail (IsByVersion config n) d ds fits) in
     (λ i. sum_by (λ v. sum_by-cons (λ (x : Decision). if x.version == v then 1 else 0) d ds i) (numbers_with config n)) ∙ omega (arith, sums, first, later)
 
 -- ---- These lemmas show that each version in force, when the day begins or later, is a version of the day: it was
@@ -284,7 +273,7 @@ in-range config first slot (entry ∷ earlier) v h =
 
 record DecidesOne (config : ConfigValue) (past : List Entry) (a : Act) (r : Reply) : Type 0 where
   count : length (option_to_list (decisions.decided a r)) ≡ (if is_decided r then 1 else 0)
-  fits : VersionsFit config (versions past) (option_to_list (decisions.decided a r))
+  fits : All (IsByVersion config (versions past)) (option_to_list (decisions.decided a r))
 
 verdict-none : (r : Reply) → is_decided r ≡ false → verdict_of r ≡ None
 verdict-none (reply.Granted g v) h = absurd (cc)
@@ -292,33 +281,20 @@ verdict-none (reply.Refused n None) h = refl
 verdict-none (reply.Refused n (Some v)) h = ap (λ b. if b then Some (v, false) else None) h
 verdict-none _ h = refl
 
-ask-none : (till : ℕ) (o : Option RequestKind) (w : Option (ℕ × Bool)) → w ≡ None
-    → (elim o as (λ _. Option Decision) [
+-- The decision on a request of this kind, if the verdict w is there.
+abbrev decided_as : ℕ → Option RequestKind → Option (ℕ × Bool) → Option Decision
+decided_as till o w =
+    elim o [
       | None ↦ None
-      | Some a ↦ elim w as (λ _. Option Decision) [
-        | None ↦ None
-        | Some v ↦ Some (record {
-          till = till;
-          asked = a;
-          version = v.0;
-          is_granted = v.1;
-        })
-      ]
-    ]) ≡ None
-ask-none till None w h = refl
-ask-none till (Some a) w h = ap
-    (λ (w : Option (ℕ × Bool)). elim w as (λ _. Option Decision) [
-      | None ↦ None
-      | Some v ↦ Some (record {
-        till = till;
-        asked = a;
-        version = v.0;
-        is_granted = v.1;
-      })
-    ]) h
+      | Some a ↦ elim w [ None ↦ None | Some v ↦ Some (record { till = till; asked = a; version = v.0; is_granted = v.1 }) ]
+    ]
+
+ask-none : (till : ℕ) (o : Option RequestKind) → decided_as till o None ≡ None
+ask-none till None = refl
+ask-none till (Some a) = refl
 
 act-none : (a : Act) (r : Reply) → is_decided r ≡ false → decisions.decided a r ≡ None
-act-none (act.Till till q) r h = ask-none till (kind_of_request q) (verdict_of r) (verdict-none r h)
+act-none (act.Till till q) r h = ap (decided_as till (kind_of_request q)) (verdict-none r h) ∙ ask-none till (kind_of_request q)
 act-none (act.Dispenser n event) r h = refl
 act-none (act.Load slot mask layout bytes) r h = refl
 
@@ -327,7 +303,7 @@ quiet config past a r h =
     let none = act-none a r h in
     record {
       count = ap (λ o. length (option_to_list o)) none ∙ ap (λ (b : Bool). if b then 1 else 0) (sym h);
-      fits = subst (λ o. VersionsFit config (versions past) (option_to_list o)) (sym none) tt;
+      fits = subst (λ o. All (IsByVersion config (versions past)) (option_to_list o)) (sym none) (All-nil (IsByVersion config (versions past)));
     }
 
 -- Let q be a request that a rule decides, and let v be a version of the day. If the reply r to q is the verdict of v (a
@@ -337,21 +313,10 @@ one-decides : (config : ConfigValue) (past : List Entry) (till : ℕ) (q : Reque
     → IsVersion config (versions past) v.number → DecidesOne config past (act.Till till q) r
 one-decides config past till q x r v g asks gives is range =
     let made : decisions.decided (act.Till till q) r ≡ Some (record { till = till; asked = x; version = v.number; is_granted = g }) =
-    (λ i. elim (asks i) as (λ _. Option Decision) [
-      | None ↦ None
-      | Some a ↦ elim (gives i) as (λ _. Option Decision) [
-        | None ↦ None
-        | Some w ↦ Some (record {
-          till = till;
-          asked = a;
-          version = w.0;
-          is_granted = w.1;
-        })
-      ]
-    ]) in
+    (λ i. decided_as till (asks i) (gives i)) in
     record {
       count = ap (λ o. length (option_to_list o)) made ∙ ap (λ (b : Bool). if b then 1 else 0) (sym is);
-      fits = subst (λ o. VersionsFit config (versions past) (option_to_list o)) (sym made) (range, tt);
+      fits = subst (λ o. All (IsByVersion config (versions past)) (option_to_list o)) (sym made) (All-cons (IsByVersion config (versions past)) _ [] range (All-nil (IsByVersion config (versions past))));
     }
 
 verdict-decides : (config : ConfigValue) (past : List Entry) (s : SiteState) (till moment : ℕ) (q : Question) (v : Version) (n : ℕ) (c : Counters) (r : Request)
@@ -375,21 +340,30 @@ version-decides config first past s till moment q r x (Some v) some asks =
     subst (λ e. DecidesOne config past (act.Till till r) e.reply) (sym (decided-some config past s till moment q v some))
     (verdict-decides config past s till moment q v y.0 y.1 r x (y.0 == 0) refl asks (in-range config first q.slot past v some))
 
-question-decides : (config : ConfigValue) (first : Opens config) (past : List Entry) (s : SiteState) (till moment : ℕ) (q : Question) (r : Request)
-    (x : RequestKind) (y : Result Question Reply) → Admits q y → kind_of_request r ≡ Some x
+question-decides : (config : ConfigValue) (first : Opens config) (past : List Entry) (s : SiteState) (till moment : ℕ) (r : Request) (x : RequestKind)
+    (y : Result Question Reply) → refuses y ≡ false → kind_of_request r ≡ Some x
     → DecidesOne config past (act.Till till r) (decided config past s till moment y).reply
-question-decides config first past s till moment q r x (Err f) plain asks =
+question-decides config first past s till moment r x (Err f) undecided asks =
     subst (λ e. DecidesOne config past (act.Till till r) e.reply) (sym (decided-refused config past s till moment f))
-    (quiet config past (act.Till till r) f plain.1)
-question-decides config first past s till moment q r x (Ok y) same asks =
+    (quiet config past (act.Till till r) f undecided)
+question-decides config first past s till moment r x (Ok y) undecided asks =
     version-decides config first past s till moment y r x (in_force config y.slot past) refl asks
 
 -- ---- These lemmas show that the reply to an event, to a load, or to a request that no rule decides is neither a grant
 -- nor S24 (a denial by a program).
 
+fault-no : (f : PointFault) → is_decided (fault_reply f) ≡ false
+fault-no (WrongState state) = refl
+fault-no _ = refl
+
+show-no : (s : SiteState) (n : ℕ) (o : Option PointState) → at_number s.points n ≡ o → is_decided (show_reply s n) ≡ false
+unfolding show_reply
+show-no s n None at = rw (at, show_reply) refl
+show-no s n (Some p) at = rw (at, show_reply) refl
+
 command-no : (s : SiteState) (n : ℕ) (a : StepResult (Option ℕ)) → is_decided (command_effect s n a).reply ≡ false
 command-no s n (Ok (p, cleared)) = refl
-command-no s n (Err f) = (fault-plain f).1
+command-no s n (Err f) = fault-no f
 
 till_command_effect-no : (s : SiteState) (till n : ℕ) (c : Command) (o : Option PointState) → at_number s.points n ≡ o → is_decided (till_command_effect s till n c).reply ≡ false
 till_command_effect-no s till n c None at = ap (λ e. is_decided e.reply) (till_command_effect-none s till n c at)
@@ -401,17 +375,23 @@ order-no (Some x) = refl
 
 event-no : (s : SiteState) (n : ℕ) (a : StepResult (Option Order)) → is_decided (event_effect s n a).reply ≡ false
 event-no s n (Ok (p, o)) = order-no o
-event-no s n (Err f) = (fault-plain f).1
+event-no s n (Err f) = fault-no f
 
 dispenser_effect-no : (s : SiteState) (n : ℕ) (event : DispenserEvent) (o : Option PointState) → at_number s.points n ≡ o
     → is_decided (dispenser_effect s n event).reply ≡ false
 dispenser_effect-no s n event None at = ap (λ e. is_decided e.reply) (dispenser_effect-none s n event at)
 dispenser_effect-no s n event (Some p) at = ap (λ e. is_decided e.reply) (dispenser_effect-some s n event p at) ∙ event-no s n (event_step p event)
 
-load-no : (slot more : Bool) (v : ℕ) → is_decided (if slot then if more then reply.Version v else refused 30 else refused 32) ≡ false
-load-no true true v = refl
-load-no true false v = refl
-load-no false more v = refl
+-- A request that asks a question is one that a rule decides.
+abbrev Asks : Request → RequestAction → Type 0
+Asks r (action.Decision q) = (x : RequestKind) × (kind_of_request r ≡ Some x)
+Asks r _ = Unit {0}
+
+asks : (config : ConfigValue) (r : Request) → Asks r (request_action config r)
+asks config (request.Release n amount) = (kinds.Release, refl)
+asks config (request.Preset n amount) = (kinds.Preset, refl)
+asks config (request.Price product price) = (kinds.Price, refl)
+asks config _ = tt
 
 -- ---- These lemmas show `DecidesOne` for any act and the site's reply to it: a grant or S24 (a denial by a program) is
 -- one decision by a version of the day, and any other reply is none. For this, the number of each version in force
@@ -419,31 +399,31 @@ load-no false more v = refl
 -- `versions_before` (`Opens`).
 
 action-decides : (config : ConfigValue) (first : Opens config) (past : List Entry) (s : SiteState) (till moment : ℕ) (r : Request) (a : RequestAction)
-    → Executes r a → DecidesOne config past (act.Till till r) (effect_of config past s till moment a).reply
+    → Asks r a → DecidesOne config past (act.Till till r) (effect_of config past s till moment a).reply
 action-decides config first past s till moment r (action.Decision q) does =
-    question-decides config first past s till moment q r does.0 (admitted s q) (admits s q) does.1
+    question-decides config first past s till moment r does.0 (admitted s q) (admitted-no s q) does.1
 action-decides config first past s till moment r (action.Command n c) does =
     quiet config past (act.Till till r) _ (till_command_effect-no s till n c (at_number s.points n) refl)
-action-decides config first past s till moment r (action.Show n) does = quiet config past (act.Till till r) _ (show-plain s n (at_number s.points n) refl).1
+action-decides config first past s till moment r (action.Show n) does = quiet config past (act.Till till r) _ (show-no s n (at_number s.points n) refl)
 
 till-decides : (config : ConfigValue) (first : Opens config) (past : List Entry) (s : SiteState) (till moment : ℕ) (r : Request) (b : Bool)
     → DecidesOne config past (act.Till till r) (if b then asked config past s till moment r else replied no_such_till s).reply
 till-decides config first past s till moment r true =
-    action-decides config first past s till moment r (request_action config r) (executes config r)
+    action-decides config first past s till moment r (request_action config r) (asks config r)
 till-decides config first past s till moment r false = quiet config past (act.Till till r) no_such_till refl
 
 effect-decides : (config : ConfigValue) (first : Opens config) (past : List Entry) (s : SiteState) (moment : ℕ) (a : Act) → DecidesOne config past a (effect config past s moment a).reply
 effect-decides config first past s moment (act.Till till r) = till-decides config first past s till moment r (is_till config till)
 effect-decides config first past s moment (act.Dispenser n event) = quiet config past (act.Dispenser n event) _ (dispenser_effect-no s n event (at_number s.points n) refl)
 effect-decides config first past s moment (act.Load slot mask layout bytes) =
-    quiet config past (act.Load slot mask layout bytes) _ (load-no (nat_le slot 15) (nat_lt (versions past) 4096) (versions_before config + versions past + 1))
+    quiet config past (act.Load slot mask layout bytes) _ (effect-iff-run config past s moment (act.Load slot mask layout bytes))
 
 -- ---- If `DecidesOne` is true for an entry's act and reply, then the entry itself has one decision if its reply is a
 -- grant or S24 (a denial by a program), and otherwise none.
 
 entry-decides : (config : ConfigValue) (past : List Entry) (entry : Entry) → DecidesOne config past entry.act entry.reply
     → (length (option_to_list (decision_of entry)) ≡ (if is_decided entry.reply then 1 else 0))
-    × VersionsFit config (versions past) (option_to_list (decision_of entry))
+    × All (IsByVersion config (versions past)) (option_to_list (decision_of entry))
 unfolding decision_of
 entry-decides config past entry d = (d.count, d.fits)
 
@@ -514,7 +494,7 @@ versions-more n (Some l) = omega arith
 
 record Comes (config : ConfigValue) (past : List Entry) : Type 0 where
   count : length (filter_map decision_of (reverse past)) ≡ count_by (λ (e : Entry). is_decided e.reply) (reverse past)
-  fits : VersionsFit config (versions past) (filter_map decision_of (reverse past))
+  fits : All (IsByVersion config (versions past)) (filter_map decision_of (reverse past))
   loaded : numbers (loads 0 (reverse past)) ≡ range_with_len (versions_before config + 1) (versions past)
 
 comes-more : (config : ConfigValue) (past : List Entry) (entry : Entry) → DecidesOne config past entry.act entry.reply
@@ -540,14 +520,15 @@ comes-more config past entry one numbered h =
     let more : versions past ≤ versions (entry ∷ past) = versions-more (versions past) (loaded entry.act entry.reply) in
     record {
       count = omega (arith, counts, single, before, long, first, none);
-      fits = subst (VersionsFit config (versions (entry ∷ past))) (sym split)
-          (fit-more config (versions past) (versions (entry ∷ past)) _ more
-          (fit-append config (versions past) (filter_map decision_of (reverse past)) (option_to_list (decision_of entry)) h.fits e.1));
+      fits = subst (All (IsByVersion config (versions (entry ∷ past)))) (sym split)
+          (All-weaker (IsByVersion config (versions past)) (IsByVersion config (versions (entry ∷ past)))
+          (λ d (is : IsByVersion config (versions past) d). version-more config (versions past) (versions (entry ∷ past)) d.version more is) _
+          (All-append (IsByVersion config (versions past)) (filter_map decision_of (reverse past)) (option_to_list (decision_of entry)) h.fits e.1));
       loaded = pushed ∙ ap (λ ns. ns ++ numbers (option_to_list (load_of moment entry))) h.loaded ∙ entry-numbers config past moment entry numbered;
     }
 
 comes : (config : ConfigValue) (first : Opens config) (past : List Entry) (s : SiteState) → Legal config past s → Comes config past
-comes config first [] s l = record { count = refl; fits = tt; loaded = refl }
+comes config first [] s l = record { count = refl; fits = All-nil (IsByVersion config 0); loaded = refl }
 comes config first (entry ∷ past) s l =
     let e : Effect = effect config past l.0 entry.moment entry.act in
     let answered : entry.reply ≡ e.reply = ap (λ (x : Entry). x.reply) l.3.enters in
@@ -556,15 +537,14 @@ comes config first (entry ∷ past) s l =
 
 pub versions-count-all : VersionsCountAllDecisions
 versions-count-all config history state good legal =
-    let first : Opens config = opens config config.opening good refl in
-    let low = lows config config.opening good refl in
-    let c : Comes config (reverse history) = comes config first (reverse history) state legal in
+    let begins : Opens config × AreLow config (olds config) = opens config config.opening good refl in
+    let c : Comes config (reverse history) = comes config begins.0 (reverse history) state legal in
     let same : reverse (reverse history) ≡ history = reverse-reverse history in
     let n : ℕ = versions (reverse history) in
     let ds = filter_map decision_of history in
     let all : versions_of config history ≡ numbers_with config n =
     ap (λ ns. olds config ++ ns) (ap (λ h. numbers (loads 0 h)) (sym same) ∙ c.loaded) in
-    let fits : VersionsFit config n ds = subst (λ h. VersionsFit config n (filter_map decision_of h)) same c.fits in
+    let fits : All (IsByVersion config n) ds = subst (λ h. All (IsByVersion config n) (filter_map decision_of h)) same c.fits in
     let count : length ds ≡ count_by (λ (x : Entry). is_decided x.reply) history =
     subst (λ h. length (filter_map decision_of h) ≡ count_by (λ (x : Entry). is_decided x.reply) h) same c.count in
-    (λ i. sum_by (λ v. six v ds i) (all i)) ∙ all-versions config n ds low fits ∙ count
+    (λ i. sum_by (λ v. six v ds i) (all i)) ∙ all-versions config n ds begins.1 fits ∙ count

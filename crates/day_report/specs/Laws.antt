@@ -6,7 +6,6 @@ use Rattle.site_core.specs.Limits.{ConfigValue}
 use Rattle.site_core.specs.State.{SiteState, opening_state}
 use Rattle.site_core.specs.Decide.{is_decided}
 use Rattle.site_core.specs.Legal.{LegalHistory}
-use Rattle.day_report.specs.Walk.{points_after}
 use Rattle.day_report.specs.Carried.{HasValidOpening}
 use Rattle.day_report.specs.Sales.{sales_of}
 use Rattle.day_report.specs.Decisions.{decision_of}
@@ -16,14 +15,12 @@ use Rattle.day_report.specs.declared.counting.DecisionPart.TheVariants as decidi
 use Rattle.day_report.specs.declared.sales.SalesPart.TheVariants as part
 
 -- The sales in a journal agree with the state of its site:
--- - The points after the last entry are the site's points.
 -- - What was cleared before the day, plus the sales of the day, is what the site cleared: in number, and in cents.
 -- - The cents of the sales at each point of the configuration add up to the cents of the day, if the site begins with
 --   as many points as the configuration has.
 -- - The cents that each till from 1 to `tills` cleared add up to the cents of the day too, if these tills include all
 --   tills of the configuration.
 pub record AgreesWithItsSite (config : ConfigValue) (history : List Entry) (state : SiteState) : Type 0 where
-  pub points : points_after config history ≡ state.points
   pub count : (opening_state config).clears + count_in part.All (sales_of config history) ≡ state.clears
   pub cents : (opening_state config).cleared + cents_in part.All (sales_of config history) ≡ state.cleared
   pub by_point : length (opening_state config).points ≡ length config.points

@@ -1,24 +1,26 @@
 -- Definitions: how the picture of a day divides its history into steps, and what each step shows (source: this
--- project). The axis of the picture is time or the entries, divided into equal steps. For each point, a step shows the
--- state with the greatest `state_number` among the states that the point has before the step's entries and after each
--- of these entries.
+-- project). The picture is made from a mark of each entry. Its axis is time or the entries, divided into equal steps.
+-- For each point, a step shows the state with the greatest `state_number` among the states that the point has before
+-- the step's entries and after each of these entries.
 use Rattle.std.specs.Prelude.{◌≡◌, ◌<◌, ◌++◌, replicate, slice_index, ℕ, ◌+◌, ◌-◌, ◌*◌, ◌/◌, ◌==◌, ◌&&◌, nat_le, nat_lt, min, if◌then◌else◌, List, [], ◌∷◌, length, Option, Some, None, Bool, true, false}
-use Rattle.std.specs.Prelude.{map, take, drop, slice_index_or, slice_set}
-use Rattle.decision_journal.specs.declared.entries.Entry.{Entry}
+use Rattle.std.specs.Prelude.{fold, map, option_map, take, drop, slice_index_or, slice_set}
 use Rattle.fuelling_point.specs.declared.kinds.State.{State}
 use Rattle.fuelling_point.specs.States.{state_number}
 use Rattle.fuelling_point.specs.Table.{PointState}
-use Rattle.site_core.specs.State.{at_number}
-use Rattle.till_request.specs.declared.act.Act.{Act}
-use Rattle.till_request.specs.declared.act.Act.TheVariants as act
-use Rattle.till_request.specs.declared.form.AmountVerb.TheVariants as amount_verbs
-use Rattle.till_request.specs.declared.form.PointVerb.TheVariants as point_verbs
-use Rattle.till_request.specs.declared.form.RequestByForm.{RequestByForm}
-use Rattle.till_request.specs.declared.form.RequestByForm.TheVariants as request_forms
-use Rattle.till_request.specs.Grammar.{by_form}
-use Rattle.day_report.specs.Walk.{with_entry, replayed}
+use Rattle.site_core.specs.Limits.{ConfigValue}
+use Rattle.site_core.specs.State.{opening_state}
+use Rattle.site_core.specs.Steps.{StepValue}
 use Rattle.day_report.specs.declared.steps.Axis.{Axis}
 use Rattle.day_report.specs.declared.steps.Axis.TheVariants as axis
+use Rattle.day_report.specs.declared.steps.Mark.{Mark}
+
+-- The mark of an entry: its moment, and the number of the point that its act names with the point's state after the
+-- entry. `touched` is None if there is no such point.
+abbrev pub mark_of : StepValue → Mark
+mark_of step = record {
+  moment = step.entry.moment;
+  touched = option_map (λ (p : PointState). (step.change.point, p.state)) step.change.after;
+}
 
 -- The step, counted from 0, that `at` belongs to if the numbers below `most` are divided into `steps` equal steps:
 -- - It is step 0 if `most` is 0.
@@ -44,9 +46,9 @@ step_at (axis.Time first last) place moment steps =
     if moment == 0 then None else Some (step_of (moment - first) (last - first + 1) steps)
 
 -- The moments that the entries have, in their order. An entry whose moment is 0 has none.
-abbrev pub moments_in : List Entry → List ℕ
+abbrev pub moments_in : List Mark → List ℕ
 moments_in [] = []
-moments_in (entry ∷ entries) = if entry.moment == 0 then moments_in entries else entry.moment ∷ moments_in entries
+moments_in (m ∷ marks) = if m.moment == 0 then moments_in marks else m.moment ∷ moments_in marks
 
 -- Whether the numbers never decrease, and the first of them is at least n.
 abbrev pub never_fall : ℕ → List ℕ → Bool
@@ -69,23 +71,8 @@ abbrev pub axis_by : ℕ → Bool → ℕ → ℕ → Axis
 axis_by count steady first last =
     if steady && nat_le 600 (last - first) then axis.Time first last else axis.Entries count
 
-unfoldable pub axis_of : List Entry → Axis
-axis_of entries =
-    axis_by (length entries) (never_fall 0 (moments_in entries)) (first_in (moments_in entries)) (last_in 0 (moments_in entries))
-
--- The point that a till's request of this form can change; None if it can change none.
-abbrev pub point_changed_by_request : RequestByForm → Option ℕ
-point_changed_by_request (request_forms.Amount amount_verbs.Price product price) = None
-point_changed_by_request (request_forms.Point point_verbs.Show point) = None
-point_changed_by_request (request_forms.Amount verb point amount) = Some point
-point_changed_by_request (request_forms.Point verb point) = Some point
-point_changed_by_request (request_forms.Transaction verb point number) = Some point
-
--- The point that an act can change; None if it can change none.
-abbrev pub point_changed_by_act : Act → Option ℕ
-point_changed_by_act (act.Till till request) = point_changed_by_request (by_form request)
-point_changed_by_act (act.Dispenser n event) = Some n
-point_changed_by_act (act.Load slot mask layout bytes) = None
+unfoldable pub axis_of : List Mark → Axis
+axis_of marks = axis_by (length marks) (never_fall 0 (moments_in marks)) (first_in (moments_in marks)) (last_in 0 (moments_in marks))
 
 -- Whether the step of an entry is after step k; false if the entry has no step.
 abbrev pub is_behind : ℕ → Option ℕ → Bool
@@ -93,17 +80,22 @@ is_behind k None = false
 is_behind k (Some step) = nat_lt k step
 
 -- Where step k ends: the place of the first entry that belongs to a later step, or the place after the last entry if
--- there is none. `place` is the place of the list's first entry.
-abbrev pub cut_from : Axis → ℕ → ℕ → ℕ → List Entry → ℕ
+-- there is none. `place` is the place of the entry with the list's first mark.
+abbrev pub cut_from : Axis → ℕ → ℕ → ℕ → List Mark → ℕ
 cut_from axis steps k place [] = place
-cut_from axis steps k place (entry ∷ entries) =
-    if is_behind k (step_at axis place entry.moment steps) then place else cut_from axis steps k (place + 1) entries
+cut_from axis steps k place (m ∷ marks) =
+    if is_behind k (step_at axis place m.moment steps) then place else cut_from axis steps k (place + 1) marks
 
 -- `step_ends` has the end of each step: the place of the first entry that belongs to a later step, or the number of
 -- entries if there is none.
-pub record AreStepEnds (axis : Axis) (steps : ℕ) (entries : List Entry) (step_ends : List ℕ) : Type 0 where
+pub record AreStepEnds (axis : Axis) (steps : ℕ) (marks : List Mark) (step_ends : List ℕ) : Type 0 where
   pub long : length step_ends ≡ steps
-  pub each : (k : ℕ) → k < steps → slice_index step_ends k ≡ cut_from axis steps k 0 entries
+  pub each : (k : ℕ) → k < steps → slice_index step_ends k ≡ cut_from axis steps k 0 marks
+
+-- The states of the points after an entry that touched this point and left it in this state. None touches no point.
+abbrev pub put_state : List State → Option (ℕ × State) → List State
+put_state states None = states
+put_state states (Some (n, state)) = if nat_le 1 n then slice_set states (n - 1) state else states
 
 -- The list `states` with the state of point n replaced by `state`, if `state` has the greater `state_number` of the
 -- two. If there is no point n, the list stays the same.
@@ -112,43 +104,42 @@ raised states n state =
     if nat_le 1 n && nat_le n (length states) && nat_lt (state_number (slice_index_or states (n - 1) state)) (state_number state)
     then slice_set states (n - 1) state else states
 
--- The states that a step shows after an entry. `states` are the states that the step showed before the entry, and
--- `points` are the points after the entry. The third argument is the number of the only point whose state can change,
--- or None if no state can. If this point's state in `points` has a greater `state_number` than its state in `states`,
--- the state in `points` replaces the one in `states`. If there is no such point, the states stay the same.
-abbrev pub with_point : List State → List PointState → Option ℕ → List State
-with_point states points None = states
-with_point states points (Some n) = elim (at_number points n) [ None ↦ states | Some p ↦ raised states n p.state ]
-
--- The states that a step shows after these entries, if it showed `states` before them. `points` are the points before
--- the entries.
-abbrev pub with_points : List State → List PointState → List Entry → List State
-with_points states points [] = states
-with_points states points (entry ∷ entries) =
-    with_points (with_point states (with_entry points entry) (point_changed_by_act entry.act)) (with_entry points entry) entries
+-- The states that a step shows after an entry that touched this point and left it in this state, if it showed `states`
+-- before the entry.
+abbrev pub with_touched : List State → Option (ℕ × State) → List State
+with_touched states None = states
+with_touched states (Some (n, state)) = raised states n state
 
 -- The state that a step shows for each point: the one with the greatest `state_number` among the states that the point
--- has before the step's entries and after each of these entries. `points` are the points before the entries.
-abbrev pub step_shows : List PointState → List Entry → List State
-step_shows points entries = with_points (map (λ (p : PointState). p.state) points) points entries
+-- has before the step's entries and after each of these entries. `states` are the states before the entries.
+abbrev pub step_shows : List State → List Mark → List State
+step_shows states marks = fold (λ shown (m : Mark). with_touched shown m.touched) states marks
 
--- The entries from place `from` to before place `to`.
-abbrev pub entries_between : List Entry → ℕ → ℕ → List Entry
-entries_between entries from to = take (to - from) (drop from entries)
+-- The states of the points after some entries. `states` are their states before.
+abbrev pub states_after : List State → List Mark → List State
+states_after states marks = fold (λ now (m : Mark). put_state now m.touched) states marks
 
--- The states that some steps show, step after step. The last argument has the places in `entries` where these steps
--- end. The first step begins at place `from`. `points` are the points before all entries.
-abbrev pub steps_show : List PointState → List Entry → ℕ → List ℕ → List State
-steps_show points entries from [] = []
-steps_show points entries from (cut ∷ step_ends) =
-    step_shows (replayed points (take from entries)) (entries_between entries from cut) ++ steps_show points entries cut step_ends
+-- The marks from place `from` to before place `to`.
+abbrev pub marks_between : List Mark → ℕ → ℕ → List Mark
+marks_between marks from to = take (to - from) (drop from marks)
 
--- `states` is what a picture of these entries shows along the axis: first the states of all points in step 0, then
--- those in step 1, and so on. `points` are the points before the entries.
-pub record Shows (axis : Axis) (points : List PointState) (entries : List Entry) (states : List State) : Type 0 where
+-- The states that some steps show, step after step. The last argument has the places in `marks` where these steps end.
+-- The first step begins at place `from`. `states` are the states of the points before all entries.
+abbrev pub steps_show : List State → List Mark → ℕ → List ℕ → List State
+steps_show states marks from [] = []
+steps_show states marks from (cut ∷ step_ends) =
+    step_shows (states_after states (take from marks)) (marks_between marks from cut) ++ steps_show states marks cut step_ends
+
+-- `shown` is what a picture of entries with these marks shows along the axis: first the states of all points in step 0,
+-- then those in step 1, and so on. `states` are the states of the points before the entries.
+pub record Shows (axis : Axis) (states : List State) (marks : List Mark) (shown : List State) : Type 0 where
   pub step_ends : List ℕ
-  pub divided : AreStepEnds axis (steps_along axis) entries step_ends
-  pub shown : states ≡ steps_show points entries 0 step_ends
+  pub divided : AreStepEnds axis (steps_along axis) marks step_ends
+  pub shown_is : shown ≡ steps_show states marks 0 step_ends
+
+-- The states of the points of a site of this configuration before its first entry.
+abbrev pub opening_states : ConfigValue → List State
+opening_states config = map (λ (p : PointState). p.state) (opening_state config).points
 
 -- ---- The contracts of private functions use these definitions.
 

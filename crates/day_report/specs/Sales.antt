@@ -1,6 +1,6 @@
--- Definitions: the sales of a history. A sale is a transaction that a till cleared.
-use Rattle.std.specs.Prelude.{ℕ, List, [], ◌∷◌, Option, Some, None}
-use Rattle.std.specs.List.{cons_option}
+-- Definitions: the sales of a day. A sale is a transaction that a till cleared.
+use Rattle.std.specs.Prelude.{ℕ, ◌+◌, ◌-◌, ◌==◌, ◌&&◌, nat_le, not, if◌then◌else◌, Bool, List, [], ◌++◌, slice_index, option_map, option_to_list, fold}
+use Rattle.std.specs.Prelude.{filter, find, Option, Some, None}
 use Rattle.fuelling_point.specs.Table.{PointState, find_number}
 use Rattle.fuelling_point.specs.declared.kinds.Transaction.{Transaction}
 use Rattle.decision_journal.specs.declared.entries.Entry.{Entry}
@@ -10,10 +10,12 @@ use Rattle.till_request.specs.declared.act.Act.TheVariants as act
 use Rattle.till_request.specs.declared.act.Reply.{Reply}
 use Rattle.till_request.specs.declared.act.Reply.TheVariants as reply
 use Rattle.site_core.specs.Limits.{ConfigValue}
-use Rattle.site_core.specs.State.{at_number, opening_state}
-use Rattle.day_report.specs.Walk.{with_entry}
+use Rattle.site_core.specs.Steps.{StepValue, steps_of}
 use Rattle.day_report.specs.declared.sales.Clearing.{Clearing}
+use Rattle.day_report.specs.declared.sales.Delivery.{Delivery}
+use Rattle.day_report.specs.declared.sales.Ended.{Ended}
 use Rattle.day_report.specs.declared.sales.Sale.{Sale}
+use Rattle.day_report.specs.declared.sales.Sales.{Sales}
 
 -- What a till's request `Clear` asks to clear: the till, the point and the number of the transaction. None for any
 -- other act.
@@ -25,27 +27,90 @@ abbrev pub clearing_of : Act → Reply → Option Clearing
 clearing_of act reply.Done = cleared_by act
 clearing_of act _ = None
 
--- the unpaid transaction at point n that has this number; None if there is none
-abbrev pub unpaid_at : List PointState → ℕ → ℕ → Option Transaction
-unpaid_at points n number = elim (at_number points n) [ None ↦ None | Some p ↦ find_number number p.unpaid ]
+-- The unpaid transaction of this number at a point. None if there is no such transaction, or no point.
+abbrev pub unpaid_at : Option PointState → ℕ → Option Transaction
+unpaid_at None number = None
+unpaid_at (Some p) number = find_number number p.unpaid
 
--- The sale that an entry makes; None if it makes none. `points` are the points before the entry.
-unfoldable pub sale_of : List PointState → Entry → Option Sale
-sale_of points entry =
-    elim (clearing_of entry.act entry.reply) [
+-- The price of a product; 0 if there is no such product. Products are numbered from 1.
+abbrev pub price_of : List ℕ → ℕ → ℕ
+price_of prices product = if nat_le 1 product then slice_index prices (product - 1) else 0
+
+-- The delivery that an entry ended at a point; None unless the point gave out one more transaction number. The
+-- arguments are the prices before the entry, the numbers of the entry and of the point, and the point before and after
+-- the entry. The product is that of the nozzle that was lifted: nozzle n carries product n.
+abbrev pub ended_at : List ℕ → ℕ → ℕ → Option PointState → Option PointState → Option Ended
+ended_at prices number n (Some before) (Some after) =
+    if after.last == before.last + 1 then Some (record {
+      point = n;
+      transaction = after.last;
+      delivery = record { number = number; product = before.nozzle; price = price_of prices before.nozzle };
+    }) else None
+ended_at prices number n _ _ = None
+
+-- The delivery that a step ended; None if it ended none.
+unfoldable pub ended_by : StepValue → Option Ended
+ended_by step = ended_at step.change.prices step.entry.number step.change.point step.change.before step.change.after
+
+-- Whether a delivery has this point and this transaction number.
+abbrev pub is_delivery_of : ℕ → ℕ → Ended → Bool
+is_delivery_of n transaction e = e.point == n && e.transaction == transaction
+
+-- The first delivery in the list with this point and this transaction number; None if there is none.
+abbrev pub delivery_of : List Ended → ℕ → ℕ → Option Delivery
+delivery_of unpaid n transaction = option_map (λ (e : Ended). e.delivery) (find (λ (e : Ended). is_delivery_of n transaction e) unpaid)
+
+-- The list without the deliveries that have this point and this transaction number.
+abbrev pub without : List Ended → ℕ → ℕ → List Ended
+without unpaid n transaction = filter (λ (e : Ended). not (is_delivery_of n transaction e)) unpaid
+
+-- The sale that a step made; None if it made none. `unpaid` are the deliveries that ended in this day before the step
+-- and weren't cleared yet.
+unfoldable pub sale_of : List Ended → StepValue → Option Sale
+sale_of unpaid step =
+    elim (clearing_of step.entry.act step.entry.reply) [
       | None ↦ None
       | Some c ↦
-          elim (unpaid_at points c.point c.number) [
+          elim (unpaid_at step.change.before c.number) [
             | None ↦ None
-            | Some t ↦ Some (record { number = entry.number; moment = entry.moment; till = c.till; point = c.point; amount = t.amount; volume = t.volume })
+            | Some t ↦
+                Some (record {
+                  number = step.entry.number;
+                  moment = step.entry.moment;
+                  till = c.till;
+                  point = c.point;
+                  transaction = c.number;
+                  amount = t.amount;
+                  volume = t.volume;
+                  delivery = delivery_of unpaid c.point c.number;
+                })
           ]
     ]
 
--- The sales that the entries make, oldest first. `points` are the points before the entries.
-abbrev pub sales : List PointState → List Entry → List Sale
-sales points [] = []
-sales points (entry ∷ entries) = cons_option (sale_of points entry) (sales (with_entry points entry) entries)
+-- The deliveries that are still unpaid after a sale.
+abbrev pub uncleared : List Ended → Option Sale → List Ended
+uncleared unpaid None = unpaid
+uncleared unpaid (Some sale) = without unpaid sale.point sale.transaction
 
--- The sales in the history of a site of this configuration.
+-- The sales of a day so far, and the deliveries that ended in it and weren't cleared yet, both oldest first.
+pub record SalesValue : Type 0 where
+  pub sales : List Sale
+  pub unpaid : List Ended
+
+unfoldable pub sales_after : SalesValue → StepValue → SalesValue
+sales_after s step = record {
+  sales = s.sales ++ option_to_list (sale_of s.unpaid step);
+  unpaid = uncleared s.unpaid (sale_of s.unpaid step) ++ option_to_list (ended_by step);
+}
+
+abbrev pub no_sales : SalesValue
+no_sales = record { sales = []; unpaid = [] }
+
+-- The sales in the history of a site of this configuration, oldest first.
 abbrev pub sales_of : ConfigValue → List Entry → List Sale
-sales_of config history = sales (opening_state config).points history
+sales_of config history = (fold sales_after no_sales (steps_of config history)).sales
+
+-- ---- The contracts of private functions use these definitions.
+
+abbrev pub sales_value : Sales → SalesValue
+sales_value s = record { sales = s.sales.items; unpaid = s.unpaid.items }

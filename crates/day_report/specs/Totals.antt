@@ -27,6 +27,13 @@ use Rattle.fuelling_point.specs.Table.{PointState}
 use Rattle.day_report.specs.declared.counting.DecisionPart.{DecisionPart}
 use Rattle.day_report.specs.declared.counting.DecisionPart.TheVariants as deciding
 
+-- The most tills that a site can have.
+abbrev pub most_tills : ℕ
+most_tills = 64
+
+abbrev pub hours_of_day : ℕ
+hours_of_day = 24
+
 -- The hour of the day, 0 to 23 in UTC, of a moment in seconds.
 abbrev pub hour_of : ℕ → ℕ
 hour_of moment = moment / 3600 % 24

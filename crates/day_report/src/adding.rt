@@ -5,13 +5,11 @@ ghost use Rattle.std.specs.Prelude.{◌≡◌, ◌+◌, ◌++◌, ◌≤◌, [],
 ghost use Rattle.std.specs.Prelude.{length, map, not, sum_by, count_by, option_map};
 ghost use Rattle.std.specs.List.{filter_map};
 ghost use Rattle.site_core.specs.declared.site.TheConstants.{ENTRIES};
-ghost use Rattle.day_report.specs.Walk.{points_after};
 ghost use Rattle.day_report.specs.Carried.{carried_from, carried_rules};
-ghost use Rattle.day_report.specs.Sales.{sales_of};
 ghost use Rattle.day_report.specs.Decisions.{decision_of, refusal_of, price_change_of, loads};
 ghost use Rattle.day_report.specs.Totals.{IsSum, SumsUp, CountsRefusals, HasOutcomes, DecidedByTills, versions_of};
 ghost use Rattle.day_report.specs.Totals.{unpaid_transaction, unpaid_of, part_by, part_of_point, part_of_till, part_of_hour};
-ghost use Rattle.day_report.specs.Totals.{carried_in};
+ghost use Rattle.day_report.specs.Totals.{carried_in, hours_of_day, most_tills};
 ghost use Rattle.day_report.specs.declared.sales.SalesPart.TheVariants as part;
 ghost use Rattle.day_report.specs.declared.counting.DecisionPart.TheVariants as deciding;
 
@@ -20,14 +18,11 @@ use crate::loading::{Load, loads};
 use crate::opening::{CarriedRule, carried_rules, rules_in};
 use crate::pushing::push_some;
 use crate::rulings::{Decision, PriceChange, decisions, price_changes, refusals};
-use crate::sales::{Sale, SalesPart, Sum, find_sales, sum_of};
+use crate::sales::{Sale, SalesPart, Sum, sum_of};
 use decision_journal::{Entry, FIRST_REFUSAL, REFUSALS};
 use fuelling_point::{Point, Transaction};
 use site_core::{Config, Opening};
 use std::alloc::{AllocError, Global};
-
-/// The greatest number of parts (points, tills or hours) that `sums_by` can split sales into.
-const MOST_PARTS: usize = 64;
 
 /// The most tills that a site can have.
 pub const MAX_TILLS: u32 = 64;
@@ -102,7 +97,7 @@ enum SplitBy {
 /// Returns the part of the sales for point `place` + 1, for till `place` + 1 or for hour `place`, as `by` says. `place`
 /// must be at most 64.
 fn part_at(by: SplitBy, place: usize) -> SalesPart
-    requires { place ≤ MOST_PARTS }
+    requires { place ≤ 64 }
     ensures { result ≡ part_by by place }
 {
     match by {
@@ -115,7 +110,7 @@ fn part_at(by: SplitBy, place: usize) -> SalesPart
 /// Splits the sales by point, by till or by hour, as `by` says, and returns the total of each of the first `count`
 /// points, tills or hours. `count` must be at most 64. The error is that memory ran out.
 fn sums_by(alloc: Global, sales: &[Sale], by: SplitBy, count: usize) -> Result<Vec<Sum>, AllocError>
-    requires { count ≤ MOST_PARTS }
+    requires { count ≤ 64 }
     ensures { IfOk result (λ sums. SumsUp (part_by by) count sums.items sales.now) }
 {
     let mut sums = Vec::new(alloc);
@@ -169,7 +164,7 @@ fn outcomes_by_till(
     decisions: &[Decision],
     versions: &[u32],
 ) -> Result<Vec<Outcomes>, AllocError>
-    ensures { IfOk result (λ found. DecidedByTills MAX_TILLS versions.now decisions.now found.items) }
+    ensures { IfOk result (λ found. DecidedByTills most_tills versions.now decisions.now found.items) }
 {
     let mut found = Vec::new(alloc);
     for till in 0..MAX_TILLS {
@@ -229,10 +224,10 @@ struct Sums {
 }
 
 fn sums_of(alloc: Global, sales: &[Sale], points: usize) -> Result<Sums, AllocError>
-    requires { points ≤ MOST_PARTS }
+    requires { points ≤ 64 }
     ensures points { IfOk result (λ s. SumsUp part_of_point points s.points.items sales.now) }
-    ensures tills { IfOk result (λ s. SumsUp part_of_till MAX_TILLS s.tills.items sales.now) }
-    ensures hours { IfOk result (λ s. SumsUp part_of_hour HOURS s.hours.items sales.now) }
+    ensures tills { IfOk result (λ s. SumsUp part_of_till most_tills s.tills.items sales.now) }
+    ensures hours { IfOk result (λ s. SumsUp part_of_hour hours_of_day s.hours.items sales.now) }
 {
     Ok(Sums {
         points: sums_by(alloc, sales, SplitBy::Point, points)?,
@@ -258,7 +253,7 @@ fn verdicts_of(
     ensures releases { IfOk result (λ v. HasOutcomes deciding.Releases versions.now decisions.now v.releases) }
     ensures presets { IfOk result (λ v. HasOutcomes deciding.Presets versions.now decisions.now v.presets) }
     ensures prices { IfOk result (λ v. HasOutcomes deciding.Prices versions.now decisions.now v.prices) }
-    ensures tills { IfOk result (λ v. DecidedByTills MAX_TILLS versions.now decisions.now v.tills.items) }
+    ensures tills { IfOk result (λ v. DecidedByTills most_tills versions.now decisions.now v.tills.items) }
 {
     Ok(Verdicts {
         releases: outcomes(alloc, decisions, versions, DecisionPart::Releases)?,
@@ -278,29 +273,29 @@ struct SalesTotals {
     unpaid_cents: u128,
 }
 
-fn takings_of(alloc: Global, config: &Config, entries: &[Entry]) -> Result<SalesTotals, AllocError>
-    requires { length entries.now ≤ ENTRIES }
-    ensures sold { IfOk result (λ t. IsSum t.sold part.All (sales_of config.now entries.now)) }
-    ensures by_point { IfOk result
-        (λ t. SumsUp part_of_point (length config.now.points) t.sums.points.items
-        (sales_of config.now entries.now)) }
-    ensures by_till { IfOk result
-        (λ t. SumsUp part_of_till MAX_TILLS t.sums.tills.items (sales_of config.now entries.now)) }
-    ensures by_hour { IfOk result
-        (λ t. SumsUp part_of_hour HOURS t.sums.hours.items (sales_of config.now entries.now)) }
-    ensures points { IfOk result (λ t. t.points.items ≡ points_after config.now entries.now) }
-    ensures unpaid { IfOk result (λ t. t.unpaid.items ≡ unpaid_of (points_after config.now entries.now)) }
+/// `count` is the number of points of the configuration, at most 64.
+fn takings_of(
+    alloc: Global,
+    sales: &[Sale],
+    points: Vec<Point>,
+    count: usize,
+) -> Result<SalesTotals, AllocError>
+    requires { count ≤ 64 }
+    ensures sold { IfOk result (λ t. IsSum t.sold part.All sales.now) }
+    ensures by_point { IfOk result (λ t. SumsUp part_of_point count t.sums.points.items sales.now) }
+    ensures by_till { IfOk result (λ t. SumsUp part_of_till most_tills t.sums.tills.items sales.now) }
+    ensures by_hour { IfOk result (λ t. SumsUp part_of_hour hours_of_day t.sums.hours.items sales.now) }
+    ensures points { IfOk result (λ t. t.points.items ≡ points.items) }
+    ensures unpaid { IfOk result (λ t. t.unpaid.items ≡ unpaid_of points.items) }
     ensures unpaid_cents { IfOk result
-        (λ t. t.unpaid_cents
-        ≡ sum_by (λ (u : Unpaid). u.amount) (unpaid_of (points_after config.now entries.now))) }
+        (λ t. t.unpaid_cents ≡ sum_by (λ (u : Unpaid). u.amount) (unpaid_of points.items)) }
 {
-    let found = find_sales(alloc, config, entries)?;
-    let sums = sums_of(alloc, &found.sales, config.points().len())?;
-    let unpaid = unpaid_of(alloc, &found.points)?;
+    let sums = sums_of(alloc, sales, count)?;
+    let unpaid = unpaid_of(alloc, &points)?;
     Ok(SalesTotals {
-        sold: sum_of(&found.sales, SalesPart::All),
+        sold: sum_of(sales, SalesPart::All),
         sums,
-        points: found.points,
+        points,
         unpaid_cents: cents_of(&unpaid),
         unpaid,
     })
@@ -370,7 +365,7 @@ fn decided_in(alloc: Global, versions: &[u32], entries: &[Entry]) -> Result<Deci
     ensures prices { IfOk result
         (λ d. HasOutcomes deciding.Prices versions.now (filter_map decision_of entries.now) d.verdicts.prices) }
     ensures tills { IfOk result
-        (λ d. DecidedByTills MAX_TILLS versions.now (filter_map decision_of entries.now) d.verdicts.tills.items) }
+        (λ d. DecidedByTills most_tills versions.now (filter_map decision_of entries.now) d.verdicts.tills.items) }
 {
     let decisions = decisions(alloc, entries)?;
     let verdicts = verdicts_of(alloc, &decisions, versions)?;
@@ -381,35 +376,38 @@ fn decided_in(alloc: Global, versions: &[u32], entries: &[Entry]) -> Result<Deci
     })
 }
 
-/// Returns the totals of the history of a site of this configuration. There must be at most 1,048,576 entries. The
-/// error is that memory ran out.
-pub fn add_up(alloc: Global, config: &Config, entries: &[Entry]) -> Result<Totals, AllocError>
+/// Returns the totals of the history of a site of this configuration: of its entries, of which there must be at most
+/// 1,048,576, of its sales, and of the points after the last entry. The error is that memory ran out.
+pub fn add_up(
+    alloc: Global,
+    config: &Config,
+    entries: &[Entry],
+    sales: &[Sale],
+    points: Vec<Point>,
+) -> Result<Totals, AllocError>
     requires { length entries.now ≤ ENTRIES }
     ensures entries { IfOk result (λ t. t.entries ≡ length entries.now) }
-    ensures sold { IfOk result (λ t. IsSum t.sold part.All (sales_of config.now entries.now)) }
+    ensures sold { IfOk result (λ t. IsSum t.sold part.All sales.now) }
     ensures by_point { IfOk result
-        (λ t. SumsUp part_of_point (length config.now.points) t.by_point.items
-        (sales_of config.now entries.now)) }
-    ensures by_till { IfOk result
-        (λ t. SumsUp part_of_till MAX_TILLS t.by_till.items (sales_of config.now entries.now)) }
-    ensures by_hour { IfOk result
-        (λ t. SumsUp part_of_hour HOURS t.by_hour.items (sales_of config.now entries.now)) }
-    ensures points { IfOk result (λ t. t.points.items ≡ points_after config.now entries.now) }
+        (λ t. SumsUp part_of_point (length config.now.points) t.by_point.items sales.now) }
+    ensures by_till { IfOk result (λ t. SumsUp part_of_till most_tills t.by_till.items sales.now) }
+    ensures by_hour { IfOk result (λ t. SumsUp part_of_hour hours_of_day t.by_hour.items sales.now) }
+    ensures points { IfOk result (λ t. t.points.items ≡ points.items) }
     ensures refused { IfOk result (λ t. CountsRefusals t.refused.items (filter_map refusal_of entries.now)) }
     ensures carried { IfOk result (λ t. t.carried.items ≡ carried_rules config.now) }
     ensures loads { IfOk result (λ t. t.loads.items ≡ loads 0 entries.now) }
     ensures versions { IfOk result (λ t. t.versions.items ≡ versions_of config.now entries.now) }
     ensures prices { IfOk result (λ t. t.prices.items ≡ filter_map price_change_of entries.now) }
-    ensures unpaid { IfOk result (λ t. t.unpaid.items ≡ unpaid_of (points_after config.now entries.now)) }
+    ensures unpaid { IfOk result (λ t. t.unpaid.items ≡ unpaid_of points.items) }
     ensures unpaid_cents { IfOk result
         (λ t. t.unpaid_cents
-        ≡ sum_by (λ (u : Unpaid). u.amount) (unpaid_of (points_after config.now entries.now))) }
+        ≡ sum_by (λ (u : Unpaid). u.amount) (unpaid_of points.items)) }
     ensures granted { IfOk result
         (λ t. t.granted ≡ count_by (λ (d : Decision). d.is_granted) (filter_map decision_of entries.now)) }
     ensures denied { IfOk result
         (λ t. t.denied ≡ count_by (λ (d : Decision). not d.is_granted) (filter_map decision_of entries.now)) }
     ensures tills { IfOk result
-        (λ t. DecidedByTills MAX_TILLS (versions_of config.now entries.now) (filter_map decision_of entries.now)
+        (λ t. DecidedByTills most_tills (versions_of config.now entries.now) (filter_map decision_of entries.now)
         t.tills.items) }
     ensures releases { IfOk result
         (λ t. HasOutcomes deciding.Releases (versions_of config.now entries.now)
@@ -423,7 +421,7 @@ pub fn add_up(alloc: Global, config: &Config, entries: &[Entry]) -> Result<Total
 {
     let prices = price_changes(alloc, entries)?;
     let refused = refused_in(alloc, entries)?;
-    let takings = takings_of(alloc, config, entries)?;
+    let takings = takings_of(alloc, sales, points, config.points().len())?;
     let versions = versions_in(alloc, config, entries)?;
     let decided = decided_in(alloc, &versions.numbers, entries)?;
     Ok(Totals {

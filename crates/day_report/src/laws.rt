@@ -1,10 +1,10 @@
 //! Laws about the totals of a history.
 
+ghost use Rattle.day_report.specs.Deliveries.{SalesHaveTheirDeliveries};
 ghost use Rattle.day_report.specs.Laws.{SalesAgreeWithTheSite, VersionsCountAllDecisions};
 
 /// Does nothing. Its contract is a law: the sales in the journal of a site agree with the site's own state.
 ///
-/// - The points after the last entry are the site's points.
 /// - What was cleared before the day, plus the sales of the day, is what the site cleared: in number, and in cents.
 /// - The sales that each till cleared add up to all sales of the day, in cents.
 /// - The sales at each point add up to all sales of the day, in cents, if the site begins with as many points as the
@@ -19,4 +19,13 @@ pub fn law_of_sales()
 /// opening, or one that a site with the configuration's points can begin with.
 pub fn law_of_decisions()
     ensures { VersionsCountAllDecisions }
+{}
+
+/// Does nothing. Its contract is a law about each legal history (one that the site's steps can make):
+///
+/// - A sale has its delivery, unless its transaction was unpaid when the day began.
+/// - If the transaction was unpaid when the day began, then the sale has no delivery. For this, the configuration must
+///   have no opening, or an opening whose points are all valid (`IsPointState`).
+pub fn law_of_deliveries()
+    ensures { SalesHaveTheirDeliveries }
 {}

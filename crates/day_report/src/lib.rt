@@ -11,7 +11,6 @@ mod pushing;
 pub mod rulings;
 pub mod sales;
 pub mod steps;
-pub mod walk;
 
 pub use adding::{CarriedIn, MAX_TILLS, Totals, Unpaid};
 pub use counting::{DecisionPart, Outcomes};
@@ -19,5 +18,5 @@ pub use decision_journal::{FIRST_REFUSAL, REFUSALS};
 pub use loading::Load;
 pub use opening::CarriedRule;
 pub use rulings::{Decision, PriceChange, RequestKind};
-pub use sales::{Sale, SalesPart, Sold, Sum};
-pub use steps::{Axis, Bands};
+pub use sales::{Delivery, Sale, Sales, SalesPart, Sum};
+pub use steps::{Axis, Bands, Mark, Marks};

@@ -3,7 +3,6 @@
 ghost use Rattle.std.specs.Prelude.{◌≡◌, ◌≤◌, [], IfOk, IsOk, length, replicate};
 ghost use Rattle.fuelling_point.specs.Table.{fresh_point};
 ghost use Rattle.site_core.specs.State.{opening_state, opened_state, fresh_state};
-ghost use Rattle.day_report.specs.Following.{HaveNumbersUpTo};
 ghost use Rattle.day_report.specs.Carried.{carried_at, carried_from, carried_rules};
 
 use crate::pushing::push_some;
@@ -16,8 +15,7 @@ use std::alloc::{AllocError, Global};
 /// state that a day begins with), or, if there is no opening, a closed point for each point of the configuration. The
 /// error is that memory ran out.
 pub fn opening_points(alloc: Global, config: &Config) -> Result<Vec<Point>, AllocError>
-    ensures points { IfOk result (λ points. points.items ≡ (opening_state config.now).points) }
-    ensures within { IfOk result (λ points. HaveNumbersUpTo 4290000000 points.items) }
+    ensures { IfOk result (λ points. points.items ≡ (opening_state config.now).points) }
 {
     match config.opening() {
         None => closed_points(alloc, config),
@@ -27,8 +25,7 @@ pub fn opening_points(alloc: Global, config: &Config) -> Result<Vec<Point>, Allo
 
 /// Returns a closed point for each point of the configuration. The error is that memory ran out.
 fn closed_points(alloc: Global, config: &Config) -> Result<Vec<Point>, AllocError>
-    ensures points { IfOk result (λ points. points.items ≡ (fresh_state config.now).points) }
-    ensures within { IfOk result (λ points. HaveNumbersUpTo 4290000000 points.items) }
+    ensures { IfOk result (λ points. points.items ≡ (fresh_state config.now).points) }
 {
     new_points(alloc, config.points().len())
 }
@@ -39,12 +36,9 @@ fn new_points(alloc: Global, count: usize) -> Result<Vec<Point>, AllocError>
     vec![in alloc; Point::new(); count]
 }
 
-/// Returns a copy of the points of an opening (the state that a day begins with). The last transaction number of each
-/// point must be at most 4,290,000,000. The error is that memory ran out.
+/// Returns a copy of the points of an opening (the state that a day begins with). The error is that memory ran out.
 fn points_in(alloc: Global, opening: &Opening) -> Result<Vec<Point>, AllocError>
-    requires { HaveNumbersUpTo 4290000000 opening.now.points }
-    ensures points { IfOk result (λ points. points.items ≡ (opened_state opening.now).points) }
-    ensures within { IfOk result (λ points. HaveNumbersUpTo 4290000000 points.items) }
+    ensures { IfOk result (λ points. points.items ≡ (opened_state opening.now).points) }
 {
     Vec::from_slice(alloc, opening.points.as_slice())
 }

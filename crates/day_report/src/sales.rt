@@ -1,38 +1,45 @@
 //! The sales of a history. A sale is a transaction that a till cleared: it was paid, and is gone.
 
-ghost use Rattle.std.specs.Prelude.{◌≡◌, ◌≤◌, [], IfOk, IsOk, length};
-ghost use Rattle.site_core.specs.declared.site.TheConstants.{ENTRIES};
-ghost use Rattle.day_report.specs.Walk.{replayed, points_after};
-ghost use Rattle.day_report.specs.Following.{HaveFreeNumbers};
-ghost use Rattle.day_report.specs.Sales.{clearing_of, unpaid_at, sale_of, sales, sales_of};
+ghost use Rattle.std.specs.Prelude.{◌≡◌, ◌<◌, find, vec_capacity, vec_len};
+ghost use Rattle.day_report.specs.Sales.{clearing_of, delivery_of, ended_at, ended_by, is_delivery_of, price_of, sale_of, uncleared, unpaid_at, without};
 ghost use Rattle.day_report.specs.Totals.{is_in, count_in, cents_in, centilitres_in};
 
-use crate::opening::opening_points;
-use crate::pushing::push_some;
-use crate::walk::apply_entry;
 use decision_journal::Entry;
 use fuelling_point::{Point, Transaction};
-use site_core::Config;
+use site_core::{Change, Observer};
 use std::alloc::{AllocError, Global};
 use till_request::{Act, Reply, Request};
 
+/// A delivery of fuel that ended in the day: the number of the entry that ended it, the product's number, and the
+/// product's price before that entry, in thousandths of the currency per litre.
+#[derive(Clone, Copy)]
+pub struct Delivery {
+    pub number: u32,
+    pub product: u32,
+    pub price: u32,
+}
+
 /// A transaction that a till cleared. `number` is the number of the journal entry that cleared it, and `moment` is this
-/// entry's time in seconds, or 0 if the entry has none. `amount` is in cents, and `volume` in centilitres.
+/// entry's time in seconds, or 0 if the entry has none. `amount` is in cents, and `volume` in centilitres. Without a
+/// `delivery` the transaction was unpaid when the day began.
 #[derive(Clone, Copy)]
 pub struct Sale {
     pub number: u32,
     pub moment: u64,
     pub till: u32,
     pub point: u32,
+    pub transaction: u32,
     pub amount: u64,
     pub volume: u64,
+    pub delivery: Option<Delivery>,
 }
 
-/// The sales of a history, oldest first, and the points after its last entry.
-#[derive(Drop)]
-pub struct Sold {
-    pub sales: Vec<Sale>,
-    pub points: Vec<Point>,
+/// A delivery that isn't cleared yet, with its point and the number of the transaction that it became.
+#[derive(Clone, Copy)]
+pub(crate) struct Ended {
+    pub(crate) point: u32,
+    pub(crate) transaction: u32,
+    pub(crate) delivery: Delivery,
 }
 
 /// A request that cleared a transaction (its reply was `done`): the till, the point and the transaction's number.
@@ -41,6 +48,14 @@ struct Clearing {
     till: u32,
     point: u32,
     number: u32,
+}
+
+/// Finds the sales of a history while it is replayed. `sales` has them oldest first.
+#[derive(Drop)]
+pub struct Sales {
+    pub sales: Vec<Sale>,
+    /// The deliveries that ended and weren't cleared, oldest first.
+    unpaid: Vec<Ended>,
 }
 
 fn clearing_of(act: &Act, reply: &Reply) -> Option<Clearing>
@@ -62,65 +77,153 @@ fn clearing_of(act: &Act, reply: &Reply) -> Option<Clearing>
     }
 }
 
-/// Returns the unpaid transaction of point `n` that has this number, or `None` if there is none. Points are numbered
-/// from 1.
-fn unpaid_at(points: &[Point], n: u32, number: u32) -> Option<Transaction>
-    ensures { result ≡ unpaid_at points.now n number }
+/// Returns the unpaid transaction of a point that has this number, or `None` if there is none.
+fn unpaid_at(point: &Option<Point>, number: u32) -> Option<Transaction>
+    ensures { result ≡ unpaid_at point.now number }
 {
-    if n == 0 || n as usize > points.len() {
-        return None;
+    match point {
+        None => None,
+        Some(point) => point.find(number),
     }
-    points[n as usize - 1].find(number)
 }
 
-/// Returns the sale that an entry made, or `None` if it made none. `points` are the points before the entry.
+/// Returns the price of a product, or 0 if there is no such product.
+fn price_of(prices: &[u32; 8], product: u32) -> u32
+    ensures { result ≡ price_of prices.now product }
+{
+    if product == 0 || product > 8 {
+        return 0;
+    }
+    prices[product as usize - 1]
+}
+
+/// Returns the delivery that an entry ended, or `None` if it ended none.
+#[tactic(auto, unfolding(crate::specs::Sales::ended_by))]
+fn ended_by(entry: &Entry, change: &Change) -> Option<Ended>
+    ensures { result ≡ ended_by (record { entry = entry.now; change = change.now }) }
+{
+    let (Some(before), Some(after)) = (change.before, change.after) else {
+        return None;
+    };
+    if after.last().checked_sub(before.last()) != Some(1) {
+        return None;
+    }
+    let product = before.nozzle();
+    Some(Ended {
+        point: change.point,
+        transaction: after.last(),
+        delivery: Delivery {
+            number: entry.number,
+            product,
+            price: price_of(&change.prices, product),
+        },
+    })
+}
+
+/// Returns whether the delivery has point `n` and this transaction number.
+fn is_delivery_of(n: u32, transaction: u32, ended: &Ended) -> bool
+    ensures { result ≡ is_delivery_of n transaction ended.now }
+{
+    ended.point == n && ended.transaction == transaction
+}
+
+/// Returns the first delivery in `unpaid` with point `n` and this transaction number, or `None` if there is none.
+fn ended_of(unpaid: &[Ended], n: u32, transaction: u32) -> Option<Ended>
+    ensures { result ≡ find (λ (e : Ended). is_delivery_of n transaction e) unpaid.now }
+{
+    unpaid
+        .iter()
+        .copied()
+        .find(|ended| is_delivery_of(n, transaction, ended))
+}
+
+fn delivery_of(unpaid: &[Ended], n: u32, transaction: u32) -> Option<Delivery>
+    ensures { result ≡ delivery_of unpaid.now n transaction }
+{
+    match ended_of(unpaid, n, transaction) {
+        Some(ended) => Some(ended.delivery),
+        None => None,
+    }
+}
+
+/// Returns the sale that an entry made, or `None` if it made none. `unpaid` are the deliveries that weren't cleared
+/// before it.
 #[tactic(auto, unfolding(crate::specs::Sales::sale_of))]
-pub fn sale_of(points: &[Point], entry: &Entry) -> Option<Sale>
-    ensures { result ≡ sale_of points.now entry.now }
+fn sale_of(unpaid: &[Ended], entry: &Entry, change: &Change) -> Option<Sale>
+    ensures { result ≡ sale_of unpaid.now (record { entry = entry.now; change = change.now }) }
 {
     let clearing = clearing_of(&entry.act, &entry.reply)?;
-    let paid = unpaid_at(points, clearing.point, clearing.number)?;
+    let paid = unpaid_at(&change.before, clearing.number)?;
     Some(Sale {
         number: entry.number,
         moment: entry.moment,
         till: clearing.till,
         point: clearing.point,
+        transaction: clearing.number,
         amount: paid.amount,
         volume: paid.volume,
+        delivery: delivery_of(unpaid, clearing.point, clearing.number),
     })
 }
 
-/// Applies the entries to the points, and returns the sales that the entries made. The last transaction number of each
-/// point, plus the number of entries, must be at most 2^32 - 1. The error is that memory ran out; then nothing is
-/// promised about the points. Without a sale there is no error.
-fn replay_sales(
-    alloc: Global,
-    points: &mut [Point],
-    entries: &[Entry],
-) -> Result<Vec<Sale>, AllocError>
-    requires within_limit { HaveFreeNumbers points.old (length entries.now) }
-    ensures sales { IfOk result (λ found. found.items ≡ sales points.old entries.now) }
-    ensures points { IfOk result (λ found. points.new ≡ replayed points.old entries.now) }
-    ensures none { sales points.old entries.now ≡ [] → IsOk result }
+/// Removes the deliveries with point `n` and this transaction number.
+fn remove(unpaid: &mut Vec<Ended>, n: u32, transaction: u32)
+    ensures left { unpaid.new.items ≡ without unpaid.old.items n transaction }
+    ensures room { vec_len unpaid.old < vec_capacity unpaid.old → vec_len unpaid.new < vec_capacity unpaid.new }
 {
-    let mut sales = Vec::new(alloc);
-    for entry in entries {
-        push_some(&mut sales, sale_of(points, entry))?;
-        apply_entry(points, entry);
-    }
-    Ok(sales)
+    unpaid.retain(|ended| !is_delivery_of(n, transaction, ended));
 }
 
-/// Returns the sales in the history of a site of this configuration, and the points after the last entry. There must be
-/// at most 1,048,576 entries. The error is that memory ran out.
-pub fn find_sales(alloc: Global, config: &Config, entries: &[Entry]) -> Result<Sold, AllocError>
-    requires { length entries.now ≤ ENTRIES }
-    ensures sales { IfOk result (λ sold. sold.sales.items ≡ sales_of config.now entries.now) }
-    ensures points { IfOk result (λ sold. sold.points.items ≡ points_after config.now entries.now) }
+/// Removes the delivery of a sale.
+fn clear_paid(unpaid: &mut Vec<Ended>, sale: Option<Sale>)
+    ensures left { unpaid.new.items ≡ uncleared unpaid.old.items sale }
+    ensures room { vec_len unpaid.old < vec_capacity unpaid.old → vec_len unpaid.new < vec_capacity unpaid.new }
 {
-    let mut points = opening_points(alloc, config)?;
-    let sales = replay_sales(alloc, &mut points, entries)?;
-    Ok(Sold { sales, points })
+    if let Some(sale) = sale {
+        remove(unpaid, sale.point, sale.transaction);
+    }
+}
+
+impl Sales {
+    ghost use Rattle.day_report.specs.Sales.{no_sales, sales_value};
+
+    /// Returns an observer that has seen nothing.
+    pub fn new(alloc: Global) -> Sales
+        ensures { sales_value result ≡ no_sales }
+    {
+        Sales {
+            sales: Vec::new(alloc),
+            unpaid: Vec::new(alloc),
+        }
+    }
+}
+
+impl Observer for Sales {
+    ghost use Rattle.std.specs.Prelude.{fold, refl};
+    ghost use Rattle.day_report.specs.Sales.{sales_after, sales_value};
+
+    ghost saw = { λ before after steps. sales_value after ≡ fold sales_after (sales_value before) steps };
+
+    ghost saw_none = { λ _. refl };
+
+    ghost is_ready = { λ s. (vec_len s.sales < vec_capacity s.sales) × (vec_len s.unpaid < vec_capacity s.unpaid) };
+
+    fn make_ready(&mut self) -> Result<(), AllocError> {
+        self.sales.reserve(1)?;
+        self.unpaid.reserve(1)
+    }
+
+    #[tactic(auto, unfolding(crate::specs::Sales::sales_after))]
+    fn see(&mut self, _line: &[u8], entry: &Entry, change: &Change) {
+        let sale = sale_of(&self.unpaid, entry, change);
+        clear_paid(&mut self.unpaid, sale);
+        if let Some(sale) = sale {
+            self.sales.push_reserved(sale);
+        }
+        if let Some(ended) = ended_by(entry, change) {
+            self.unpaid.push_reserved(ended);
+        }
+    }
 }
 
 /// A part of the sales that is added up separately.

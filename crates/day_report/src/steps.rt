@@ -1,22 +1,17 @@
 //! The data for the picture of a history. The picture shows the states of the fuelling points along an axis, which is
 //! time or the entries. The axis is divided into steps, and each step shows one state of each point.
 
-ghost use Rattle.std.specs.Prelude.{◌≡◌, ◌+◌, ◌≤◌, ℕ, IfOk, IfSome, IsOk, OnOk, length, map};
+ghost use Rattle.std.specs.Prelude.{◌≡◌, ◌<◌, ◌≤◌, IfOk, IfSome, IsOk, OnOk, [], length, map, vec_capacity, vec_len};
 ghost use Rattle.fuelling_point.specs.Table.{PointState};
-ghost use Rattle.site_core.specs.declared.site.TheConstants.{ENTRIES};
 ghost use Rattle.site_core.specs.State.{opening_state};
-ghost use Rattle.day_report.specs.Following.{HaveNumbersUpTo, HaveFreeNumbers};
-ghost use Rattle.day_report.specs.Picture.{step_of, steps_along, step_at, axis_of, point_changed_by_act, first_or, with_cut, AreStepEnds};
-ghost use Rattle.day_report.specs.Picture.{raised, with_point, with_points, step_shows, Shows};
-ghost use Rattle.day_report.specs.Walk.{replayed};
+ghost use Rattle.day_report.specs.Picture.{step_of, steps_along, step_at, axis_of, first_or, with_cut, mark_of, AreStepEnds};
+ghost use Rattle.day_report.specs.Picture.{opening_states, put_state, raised, states_after, step_shows, Shows};
 
 use crate::opening::opening_points;
-use crate::walk::apply_entry;
 use decision_journal::Entry;
 use fuelling_point::{Point, State};
-use site_core::Config;
+use site_core::{Change, Config, Observer};
 use std::alloc::{AllocError, Global};
-use till_request::{Act, AmountVerb, PointVerb, RequestByForm};
 
 /// The most steps that the axis of a picture is divided into.
 const STEPS: usize = 2000;
@@ -24,6 +19,62 @@ const STEPS: usize = 2000;
 /// The axis of a history's picture can be time only if the last moment of the history is at least this many seconds
 /// after the first. Otherwise the axis is the entries.
 const SPAN: u64 = 600;
+
+/// What the picture needs of an entry: its moment, or 0 if it has none, and the number of the point that its act names
+/// with the point's state after the entry. `touched` is `None` if there is no such point.
+#[derive(Clone, Copy)]
+pub struct Mark {
+    pub moment: u64,
+    pub touched: Option<(u32, State)>,
+}
+
+/// Keeps a mark of each entry of a history while the history is replayed. `marks` has them oldest first.
+#[derive(Drop)]
+pub struct Marks {
+    pub marks: Vec<Mark>,
+}
+
+/// Returns the mark of an entry.
+fn mark_of(entry: &Entry, change: &Change) -> Mark
+    ensures { result ≡ mark_of (record { entry = entry.now; change = change.now }) }
+{
+    let n = change.point;
+    Mark {
+        moment: entry.moment,
+        touched: change.after.map(|point| (n, point.state())),
+    }
+}
+
+impl Marks {
+    /// Returns an observer that has seen nothing.
+    pub fn new(alloc: Global) -> Marks
+        ensures { result.marks.items ≡ [] }
+    {
+        Marks {
+            marks: Vec::new(alloc),
+        }
+    }
+}
+
+impl Observer for Marks {
+    ghost use Rattle.std.specs.Prelude.{◌++◌};
+    ghost use Rattle.std.proofs.Common.{sym};
+    ghost use Rattle.std.proofs.lemmas.List.{append-nil};
+
+    ghost saw = { λ before after steps. after.marks.items ≡ before.marks.items ++ map mark_of steps };
+
+    ghost saw_none = { λ observer. sym (append-nil observer.marks.items) };
+
+    ghost is_ready = { λ observer. vec_len observer.marks < vec_capacity observer.marks };
+
+    fn make_ready(&mut self) -> Result<(), AllocError> {
+        self.marks.reserve(1)
+    }
+
+    fn see(&mut self, _line: &[u8], entry: &Entry, change: &Change) {
+        self.marks.push_reserved(mark_of(entry, change));
+    }
+}
 
 /// The axis of a history's picture: the entries of the history, or time.
 #[derive(Clone, Copy)]
@@ -44,23 +95,23 @@ fn first_or(first: u64, moment: u64) -> u64
 /// Returns the axis for a history: time, if its moments never decrease and span at least ten minutes; else its entries.
 /// An entry whose moment is 0 has no moment.
 #[tactic(auto, unfolding(crate::specs::Picture::axis_of))]
-pub fn axis_of(entries: &[Entry]) -> Axis
-    ensures { result ≡ axis_of entries.now }
+pub fn axis_of(marks: &[Mark]) -> Axis
+    ensures { result ≡ axis_of marks.now }
 {
     let mut first = 0;
     let mut last = 0;
-    for entry in entries {
-        if entry.moment == 0 {
+    for mark in marks {
+        if mark.moment == 0 {
             continue;
         }
-        if entry.moment < last {
-            return Axis::Entries(entries.len());
+        if mark.moment < last {
+            return Axis::Entries(marks.len());
         }
-        first = first_or(first, entry.moment);
-        last = entry.moment;
+        first = first_or(first, mark.moment);
+        last = mark.moment;
     }
     if last.saturating_sub(first) < SPAN {
-        return Axis::Entries(entries.len());
+        return Axis::Entries(marks.len());
     }
     Axis::Time(first, last)
 }
@@ -95,17 +146,17 @@ fn steps_of(axis: Axis) -> usize
 
 /// Returns the step, counted from 0, that an entry belongs to if the axis is divided into `steps` steps. `place` is the
 /// entry's place in the history, counted from 0. Returns `None` if the axis is time and the entry has no moment.
-fn step_at(axis: Axis, place: usize, entry: &Entry, steps: usize) -> Option<usize>
-    ensures step { result ≡ step_at axis place entry.now.moment steps }
+fn step_at(axis: Axis, place: usize, mark: &Mark, steps: usize) -> Option<usize>
+    ensures step { result ≡ step_at axis place mark.now.moment steps }
     ensures within_limit { IfSome result (λ step. step ≤ steps) }
 {
     match axis {
         Axis::Entries(count) => Some(step_of(place as u64, count as u128, steps)),
         Axis::Time(first, last) => {
-            if entry.moment == 0 {
+            if mark.moment == 0 {
                 return None;
             }
-            let since = entry.moment.saturating_sub(first);
+            let since = mark.moment.saturating_sub(first);
             let span = last.saturating_sub(first) as u128 + 1;
             Some(step_of(since, span, steps))
         }
@@ -129,18 +180,18 @@ fn end_step(step_ends: &mut Vec<usize>, step: Option<usize>, place: usize) -> Re
 /// If `steps` is 0, there is no error.
 fn step_ends(
     alloc: Global,
-    entries: &[Entry],
+    marks: &[Mark],
     axis: Axis,
     steps: usize,
 ) -> Result<Vec<usize>, AllocError>
-    ensures divided { IfOk result (λ step_ends. AreStepEnds axis steps entries.now step_ends.items) }
+    ensures divided { IfOk result (λ step_ends. AreStepEnds axis steps marks.now step_ends.items) }
     ensures none { steps ≡ 0 → IsOk result }
 {
     let mut step_ends = Vec::new(alloc);
-    for (place, entry) in entries.iter().enumerate() {
-        end_step(&mut step_ends, step_at(axis, place, entry, steps), place)?;
+    for (place, mark) in marks.iter().enumerate() {
+        end_step(&mut step_ends, step_at(axis, place, mark, steps), place)?;
     }
-    end_step(&mut step_ends, Some(steps), entries.len())?;
+    end_step(&mut step_ends, Some(steps), marks.len())?;
     Ok(step_ends)
 }
 
@@ -155,24 +206,6 @@ pub struct Bands {
     pub states: Vec<State>,
 }
 
-/// Returns the number of the point that an entry's act (its request or event) can change, or `None` if it can change
-/// none.
-fn point_of(entry: &Entry) -> Option<u32>
-    ensures { result ≡ point_changed_by_act entry.now.act }
-{
-    match &entry.act {
-        Act::Till { request, .. } => match request.by_form() {
-            RequestByForm::Amount(AmountVerb::Price, _, _) => None,
-            RequestByForm::Point(PointVerb::Show, _) => None,
-            RequestByForm::Amount(_, n, _) => Some(n),
-            RequestByForm::Point(_, n) => Some(n),
-            RequestByForm::Transaction(_, n, _) => Some(n),
-        },
-        Act::Dispenser { point, .. } => Some(*point),
-        Act::Load { .. } => None,
-    }
-}
-
 /// Sets the state of point `n` in `states` to `state`, if `state` has a greater `State::number` than the state it
 /// replaces. If there is no point `n`, nothing changes.
 fn raise(states: &mut [State], n: u32, state: State)
@@ -183,31 +216,25 @@ fn raise(states: &mut [State], n: u32, state: State)
     }
 }
 
-/// Sets the state of point `n` in `states` to its state in `points`, if the one in `points` has the greater
-/// `State::number`. If `n` is `None` or there is no such point, nothing changes.
-fn show_point(states: &mut [State], points: &[Point], n: Option<u32>)
-    ensures { states.new ≡ with_point states.old points.now n }
+/// Sets the state of point `n` in `states` to `state`. If there is no point `n`, nothing changes.
+fn put(states: &mut [State], n: u32, state: State)
+    ensures { states.new ≡ put_state states.old (Some (n, state)) }
 {
-    if let Some(n) = n {
-        if n == 0 || n as usize > points.len() {
-            return;
-        }
-        raise(states, n, points[n as usize - 1].state());
+    if n >= 1 && n as usize <= states.len() {
+        states[n as usize - 1] = state;
     }
 }
 
-/// Applies the entries of a step to the points. An entry can change at most one point. After the entry, this point's
-/// new state replaces its state in `states`, if the new state has the greater `State::number`. The last transaction
-/// number of each point, plus the number of entries, must be at most 2^32 - 1.
-fn replay_step(points: &mut [Point], states: &mut [State], entries: &[Entry])
-    requires within_limit { HaveFreeNumbers points.old (length entries.now) }
-    ensures replayed { points.new ≡ replayed points.old entries.now }
-    ensures bounded { (n : ℕ) → HaveNumbersUpTo n points.old → HaveNumbersUpTo (n + length entries.now) points.new }
-    ensures shown { states.new ≡ with_points states.old points.old entries.now }
+/// Follows the entries of a step. `now` has the states of the points, and `shown` those that the step shows.
+fn replay_step(now: &mut [State], shown: &mut [State], marks: &[Mark])
+    ensures after { now.new ≡ states_after now.old marks.now }
+    ensures shown { shown.new ≡ step_shows shown.old marks.now }
 {
-    for entry in entries {
-        apply_entry(points, entry);
-        show_point(states, points, point_of(entry));
+    for mark in marks {
+        if let Some((n, state)) = mark.touched {
+            put(now, n, state);
+            raise(shown, n, state);
+        }
     }
 }
 
@@ -222,52 +249,43 @@ fn states_of(alloc: Global, points: &[Point]) -> Result<Vec<State>, AllocError>
     Ok(states)
 }
 
-/// Applies the entries of a step to the points. Returns for each point the state with the greatest `State::number`
-/// among its states before the entries and after each of them. The last transaction number of each point, plus the
-/// number of entries, must be at most 2^32 - 1. The error is that memory ran out; then nothing is promised about the
-/// points.
-fn step_states(
-    alloc: Global,
-    points: &mut [Point],
-    entries: &[Entry],
-) -> Result<Vec<State>, AllocError>
-    requires within_limit { HaveFreeNumbers points.old (length entries.now) }
-    ensures replayed { OnOk result (points.new ≡ replayed points.old entries.now) }
-    ensures bounded { OnOk result
-        ((n : ℕ) → HaveNumbersUpTo n points.old → HaveNumbersUpTo (n + length entries.now) points.new) }
-    ensures shown { IfOk result (λ states. states.items ≡ step_shows points.old entries.now) }
+/// Follows the entries of a step: `now` has the states of the points. Returns for each point the state with the
+/// greatest `State::number` among its states before the entries and after each of them. The error is that memory ran
+/// out; then nothing is promised about `now`.
+fn step_states(alloc: Global, now: &mut [State], marks: &[Mark]) -> Result<Vec<State>, AllocError>
+    ensures after { OnOk result (now.new ≡ states_after now.old marks.now) }
+    ensures shown { IfOk result (λ shown. shown.items ≡ step_shows now.old marks.now) }
 {
-    let mut states = states_of(alloc, points)?;
-    replay_step(points, &mut states, entries);
-    Ok(states)
+    let mut shown = Vec::from_slice(alloc, now)?;
+    replay_step(now, &mut shown, marks);
+    Ok(shown)
 }
 
 /// Returns the states that the picture of a day shows: for each step of the axis and each point, the state with the
 /// greatest `State::number` among those that the point has before the step's entries and after each of these entries.
-/// `entries` is the history of a site of this configuration; it must have at most 1,048,576 entries. The error is that
-/// memory ran out.
+/// `marks` are those of the history of a site of this configuration. The error is that memory ran out.
 pub fn states_by_step(
     alloc: Global,
     config: &Config,
-    entries: &[Entry],
+    marks: &[Mark],
     axis: Axis,
 ) -> Result<Bands, AllocError>
-    requires { length entries.now ≤ ENTRIES }
     ensures steps { IfOk result (λ bands. bands.steps ≡ steps_along axis) }
     ensures points { IfOk result (λ bands. bands.points ≡ length (opening_state config.now).points) }
     ensures states { IfOk result
-        (λ bands. Shows axis (opening_state config.now).points entries.now bands.states.items) }
+        (λ bands. Shows axis (opening_states config.now) marks.now bands.states.items) }
 {
     let steps = steps_of(axis);
-    let step_ends = step_ends(alloc, entries, axis, steps)?;
-    let mut replayed = opening_points(alloc, config)?;
-    let points = replayed.len();
-    let replayed = replayed.as_mut_slice();
+    let step_ends = step_ends(alloc, marks, axis, steps)?;
+    let opening = opening_points(alloc, config)?;
+    let points = opening.len();
+    let mut now = states_of(alloc, &opening)?;
+    let now = now.as_mut_slice();
     let mut states = Vec::new(alloc);
     let mut done = 0;
     for cut in &step_ends {
-        let end = (*cut).min(entries.len()).max(done);
-        let step = step_states(alloc, replayed, &entries[done..end])?;
+        let end = (*cut).min(marks.len()).max(done);
+        let step = step_states(alloc, now, &marks[done..end])?;
         states.extend_from_slice(&step)?;
         done = end;
     }

@@ -5,7 +5,8 @@ ghost use Rattle.site_files.specs.JobErrors.{Ends};
 
 use crate::audited::audited_site;
 use day_page::Page;
-use site_core::Site;
+use day_report::{Marks, Sales};
+use site_core::{Both, Site};
 use site_files::job_error::printed;
 use site_files::{JobError, SiteFiles};
 use std::io::{self, BufWriter, Write};
@@ -17,14 +18,18 @@ pub fn report_files(rt: &HostRuntime, site: SiteFiles<'_>, journal: &str) -> Res
     ensures { IsTrue (reads_twice site.entry.config.now (option_map (λ w. w.now) site.entry.opening) journal.now)
         → IsErrAnd result (Ends 2 []) }
 {
-    let site = audited_site(rt, site, journal)?;
-    print_page(rt, &site)
+    let seen = Both {
+        first: Sales::new(rt.alloc()),
+        second: Marks::new(rt.alloc()),
+    };
+    let (site, seen) = audited_site(rt, site, journal, seen)?;
+    print_page(rt, &site, &seen)
 }
 
-fn print_page(rt: &HostRuntime, site: &Site) -> Result<(), JobError>
+fn print_page(rt: &HostRuntime, site: &Site, seen: &Both<Sales, Marks>) -> Result<(), JobError>
     ensures { IfErr result (Ends 3 []) }
 {
-    let page = Page::of(rt.alloc(), site)?;
+    let page = Page::of(rt.alloc(), site, seen)?;
     let Ok(mut output) = BufWriter::new(rt.alloc(), io::writer(rt)) else {
         return Err(JobError::OutOfMemory);
     };

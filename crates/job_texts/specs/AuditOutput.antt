@@ -1,7 +1,6 @@
 -- Definitions: what `fc audit` prints for a journal (source: this project).
-use Rattle.std.specs.Prelude.{ℕ, List, [], ◌++◌, length, codes, Option, Some, None}
+use Rattle.std.specs.Prelude.{ℕ, List, [], ◌++◌, codes, Option, Some, None}
 use Rattle.std.specs.Fmt.{decimal}
-use Rattle.decision_journal.specs.declared.entries.Entry.{Entry}
 use Rattle.till_request.specs.declared.act.Answer.TheVariants.{Program}
 use Rattle.till_request.specs.Answer.{answer_line}
 use Rattle.reg_types.specs.Refusals.{refusal_numbers}
@@ -24,5 +23,6 @@ line_of_flaw (flaw.Program place slot bytes refusal) = program_text place (refus
 line_of_flaw (flaw.Entry place difference) = codes "F3 " ++ decimal place ++ codes "\n"
 line_of_flaw (flaw.Full place) = codes "F3 " ++ decimal place ++ codes "\n"
 
-abbrev pub legal_text : List Entry → List ℕ
-legal_text entries = codes "legal " ++ decimal (length entries) ++ codes "\n"
+-- The line for a legal journal with this many entries.
+abbrev pub legal_text : ℕ → List ℕ
+legal_text entries = codes "legal " ++ decimal entries ++ codes "\n"

@@ -27,3 +27,4 @@ pub mod Holders
 pub mod EachEvent
 pub mod Carries
 pub mod CounterBounds
+pub mod Heads

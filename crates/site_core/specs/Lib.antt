@@ -21,3 +21,5 @@ pub mod Differences
 pub mod Asked
 pub mod Outside
 pub mod Days
+pub mod Heads
+pub mod Steps

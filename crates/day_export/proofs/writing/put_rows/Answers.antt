@@ -1,24 +1,23 @@
-use Rattle.std.proofs.Common.{◌≡◌, ◌+◌, ◌<◌, length, arith, ap, ◌∙◌, sym, subst}
-use Rattle.std.proofs.lemmas.Grind.{common_steps}
-use Rattle.day_report.specs.Following.{HaveNumbersUpTo}
-use Rattle.day_export.specs.DayState.{state_after_entry, state_at_start, state_value}
-use Rattle.day_export.proofs.More.{state_after_entries-more, text-more}
+use Rattle.std.proofs.Common.{rules}
+use borrow.Author.Tests.{tests}
+use Rattle.std.proofs.lemmas.Iterator.{YieldsList-from_map, YieldsList-from_slice}
+use Rattle.std.proofs.lemmas.Iterator.Consumers.{YieldsList-from_filter_map}
+use Rattle.day_export.specs.declared.cells.Rows.TheVariants as rows
+use Rattle.day_export.specs.Rows.{sale_cells, decision_row, event_row}
+use Rattle.day_export.proofs.Yielded.{yielded}
 use Rattle.day_export.proofs.writing.put_rows.Goals as goal
 
-pub loop-entry-preserved : goal.loop-entry-preserved
-loop-entry-preserved g c =
-    let i = c.loop-entry.entry-index in
-    let entries = c.args.entries.now in
-    let e = c.entry-item.result in
-    let lt : i < length entries = grind (arith, common_steps) in
-    let start = state_at_start c.args.config.now in
-    let stood = c.loop-entry.invariant.state_is in
-    let same : 4290000000 + i + 1 ≡ 4290000000 + (i + 1) = omega arith in
-    record {
-      state_is = c.in_ok-apply_entry.ensures.moved.is ∙ ap (λ s. state_after_entry s e) stood ∙ sym (state_after_entries-more start entries i e lt c.entry-item.is);
-      bounded = subst (λ n. HaveNumbersUpTo n c.apply_entry.new.self.points.items) same (c.in_ok-apply_entry.ensures.moved.bounded (4290000000 + i) c.loop-entry.invariant.bounded);
-      ready = c.in_ok-put_row.ensures.ready;
-      text = text-more (g.T.RowWriter.written_bytes c.args.to.now) (g.T.RowWriter.written_bytes c.loop-entry.to) (g.T.RowWriter.written_bytes c.put_row.new.to) c.args.rows
-          g.T.RowWriter.format start (state_value c.loop-entry.day_state) entries i e lt c.entry-item.is stood c.loop-entry.invariant.text
-          c.in_ok-put_row.ensures.text;
-    }
+pub returns-in-Sales-clause-text : goal.returns-in-Sales-clause-text
+returns-in-Sales-clause-text g c =
+    yielded c.put_each.result _ _ g.T.RowWriter.format c.args.rows rows.Sales c.args.sales.now c.args.entries.now c.in-Sales.is
+    (YieldsList-from_map _ sale_cells (YieldsList-from_slice c.args.sales.now cc) c.map.ensures.closure (λ x r q k. search (rules, tests))) c.put_each.ensures.text
+
+pub returns-in-Decisions-clause-text : goal.returns-in-Decisions-clause-text
+returns-in-Decisions-clause-text g c =
+    yielded c.put_each-in-Decisions.result _ _ g.T.RowWriter.format c.args.rows rows.Decisions c.args.sales.now c.args.entries.now c.in-Decisions.is
+    (YieldsList-from_filter_map _ decision_row (YieldsList-from_slice c.args.entries.now cc) c.filter_map.ensures.closure (λ x r q k. search (rules, tests))) c.put_each-in-Decisions.ensures.text
+
+pub returns-in-Events-clause-text : goal.returns-in-Events-clause-text
+returns-in-Events-clause-text g c =
+    yielded c.put_each-in-Events.result _ _ g.T.RowWriter.format c.args.rows rows.Events c.args.sales.now c.args.entries.now c.in-Events.is
+    (YieldsList-from_map _ event_row (YieldsList-from_slice c.args.entries.now cc) c.map-in-Events.ensures.closure (λ x r q k. search (rules, tests))) c.put_each-in-Events.ensures.text

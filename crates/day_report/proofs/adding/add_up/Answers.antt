@@ -1,8 +1,7 @@
-use Rattle.std.proofs.Common.{◌∙◌, subst}
+use Rattle.std.proofs.Common.{◌∙◌, ℕ, List, length, subst}
 use Rattle.std.specs.List.{filter_map}
 use Rattle.day_report.specs.Decisions.{decision_of}
-use Rattle.day_report.specs.Totals.{HasOutcomes, DecidedByTills}
-use Rattle.day_report.specs.declared.adding.TheConstants.{MAX_TILLS}
+use Rattle.day_report.specs.Totals.{DecidedByTills, HasOutcomes, SumsUp, most_tills, part_of_point}
 use Rattle.day_report.specs.declared.counting.DecisionPart.TheVariants as deciding
 use Rattle.day_report.proofs.adding.add_up.Goals as goal
 
@@ -10,7 +9,9 @@ pub returns-clause-sold : goal.returns-clause-sold
 returns-clause-sold c = c.in_ok-takings.ensures.sold
 
 pub returns-clause-by_point : goal.returns-clause-by_point
-returns-clause-by_point c = c.in_ok-takings.ensures.by_point
+returns-clause-by_point c =
+    subst (λ (ps : List (ℕ × ℕ)). SumsUp part_of_point (length ps) c.in_ok-takings.takings.sums.points.items c.args.sales.now) c.points.ensures.points
+    c.in_ok-takings.ensures.by_point
 
 pub returns-clause-by_till : goal.returns-clause-by_till
 returns-clause-by_till c = c.in_ok-takings.ensures.by_till
@@ -59,5 +60,5 @@ returns-clause-price_requests c =
 
 pub returns-clause-tills : goal.returns-clause-tills
 returns-clause-tills c =
-    subst (λ ns. DecidedByTills MAX_TILLS ns (filter_map decision_of c.args.entries.now) c.in_ok-decided.decided.verdicts.tills.items)
+    subst (λ ns. DecidedByTills most_tills ns (filter_map decision_of c.args.entries.now) c.in_ok-decided.decided.verdicts.tills.items)
     (c.deref.ensures.value ∙ c.in_ok-versions.ensures.numbers) c.in_ok-decided.ensures.tills

@@ -35,24 +35,12 @@ returns-clause-found c =
 
 pub returns-in_err-push_some-clause-none : goal.returns-in_err-push_some-clause-none
 returns-in_err-push_some-clause-none c = λ none.
-    let i = c.loop-place.place in
-    let points = c.args.points.now in
-    let p : PointState = c.index-points-place.result in
-    let lt : i < length points = grind (arith, common_steps) in
-    let first = slice_index_or c.transactions.result 0 None in
-    let second = slice_index_or c.transactions.result 1 None in
-    let both : option_to_list first ++ option_to_list second ≡ p.unpaid = c.transactions.ensures.unpaid in
-    let neither = unpaid-neither points i p first second lt c.index-points-place.is both none in
-    absurd (false≢true (c.in_err-push_some.ensures.none (c.unpaid_as.ensures ∙ ap (option_map (unpaid_transaction (i + 1))) neither.0)))
+    let neither = unpaid-neither c.args.points.now c.loop-place.place c.index-points-place.result (slice_index_or c.transactions.result 0 None)
+    (slice_index_or c.transactions.result 1 None) (grind (arith, common_steps)) c.index-points-place.is c.transactions.ensures.unpaid none in
+    absurd (false≢true (c.in_err-push_some.ensures.none (c.unpaid_as.ensures ∙ ap (option_map (unpaid_transaction (c.loop-place.place + 1))) neither.0)))
 
 pub returns-in_err-push_some-2-clause-none : goal.returns-in_err-push_some-2-clause-none
 returns-in_err-push_some-2-clause-none c = λ none.
-    let i = c.loop-place.place in
-    let points = c.args.points.now in
-    let p : PointState = c.index-points-place.result in
-    let lt : i < length points = grind (arith, common_steps) in
-    let first = slice_index_or c.transactions.result 0 None in
-    let second = slice_index_or c.transactions.result 1 None in
-    let both : option_to_list first ++ option_to_list second ≡ p.unpaid = c.transactions.ensures.unpaid in
-    let neither = unpaid-neither points i p first second lt c.index-points-place.is both none in
-    absurd (false≢true (c.in_err-push_some-2.ensures.none (c.unpaid_as-in-loop-place.ensures ∙ ap (option_map (unpaid_transaction (i + 1))) neither.1)))
+    let neither = unpaid-neither c.args.points.now c.loop-place.place c.index-points-place.result (slice_index_or c.transactions.result 0 None)
+    (slice_index_or c.transactions.result 1 None) (grind (arith, common_steps)) c.index-points-place.is c.transactions.ensures.unpaid none in
+    absurd (false≢true (c.in_err-push_some-2.ensures.none (c.unpaid_as-in-loop-place.ensures ∙ ap (option_map (unpaid_transaction (c.loop-place.place + 1))) neither.1)))

@@ -3,7 +3,7 @@ use Rattle.std.specs.Prelude.{IfOk}
 use Rattle.day_report.proofs.OneMore.{closed-is}
 use Rattle.day_report.proofs.opening.closed_points.Goals as goal
 
-pub returns-clause-points : goal.returns-clause-points
-returns-clause-points c =
+pub returns : goal.returns
+returns c =
     subst (λ xs. IfOk c.new_points.result (λ points. points.items ≡ xs))
     (closed-is c.points.result.now c.args.config.now.points c.points.ensures.points) c.new_points.ensures

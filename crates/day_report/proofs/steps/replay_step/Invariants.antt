@@ -1,11 +1,7 @@
-use Rattle.std.proofs.Common.{◌≡◌, ℕ, ◌+◌, take}
-use Rattle.day_report.specs.Following.{HaveNumbersUpTo}
-use Rattle.day_report.specs.Picture.{with_points}
-use Rattle.day_report.specs.Walk.{replayed}
+use Rattle.std.proofs.Common.{◌≡◌, take}
+use Rattle.day_report.specs.Picture.{states_after, step_shows}
 use Rattle.day_report.proofs.steps.replay_step.Given as goal
 
-abbrev pub invariant-loop-entry : goal.invariant-loop-entry
-invariant-loop-entry l =
-    (l.points ≡ replayed l.initial.points (take l.entry-index l.entries))
-    × ((n : ℕ) → HaveNumbersUpTo n l.initial.points → HaveNumbersUpTo (n + l.entry-index) l.points)
-    × (l.states ≡ with_points l.initial.states l.initial.points (take l.entry-index l.entries))
+abbrev pub invariant-loop-mark : goal.invariant-loop-mark
+invariant-loop-mark l =
+    (l.now ≡ states_after l.initial.now (take l.mark-index l.marks)) × (l.shown ≡ step_shows l.initial.shown (take l.mark-index l.marks))

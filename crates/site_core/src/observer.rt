@@ -1,0 +1,90 @@
+//! What an entry did at its site, and who is shown it.
+
+use decision_journal::Entry;
+use fuelling_point::Point;
+use std::alloc::AllocError;
+
+/// What an entry changed at its site.
+#[derive(Clone, Copy)]
+pub struct Change {
+    /// The number of the point that the entry's act names, or 0 if it names none.
+    pub point: u32,
+    /// This point before the entry. `None` if there is no such point.
+    pub before: Option<Point>,
+    /// The same point after the entry.
+    pub after: Option<Point>,
+    /// The prices of products 1 to 8 before the entry, in thousandths of the currency per litre. 0 means no price.
+    pub prices: [u32; 8],
+}
+
+/// Is shown what each entry of a history did, while the history is replayed.
+pub trait Observer {
+    ghost use Rattle.std.specs.Prelude.{List, [], ◌∷◌, ◌++◌, OnOk};
+    ghost use Rattle.decision_journal.specs.Journal.{IsEntry};
+    ghost use Rattle.site_core.specs.Steps.{StepValue};
+
+    /// For proofs: says of two states of an observer that it gets from the first to the second by seeing these steps, in
+    /// order.
+    ghost saw: { Self → Self → List StepValue → Type 0 };
+
+    /// For proofs: seeing no step changes nothing.
+    ghost saw_none: { (observer : Self) → saw observer observer [] };
+
+    /// For proofs: the observer has memory for one more step.
+    ghost is_ready: { Self → Type 0 };
+
+    /// Makes room for what the next step may show. The error is that memory ran out.
+    fn make_ready(&mut self) -> Result<(), AllocError>
+        ensures kept { (before : Self) (steps : List StepValue) → saw before self.old steps → saw before self.new steps }
+        ensures ready { OnOk result (is_ready self.new) };
+
+    /// Sees a step: an entry, the text of its line without LF, and what the entry changed. Takes no memory.
+    fn see(&mut self, line: &[u8], entry: &Entry, change: &Change)
+        requires text { IsEntry line.now entry.now }
+        requires ready { is_ready self.old }
+        ensures seen { (before : Self) (steps : List StepValue) → saw before self.old steps
+            → saw before self.new (steps ++ (record { entry = entry.now; change = change.now }) ∷ []) };
+}
+
+/// The observer of a replay that nobody watches.
+#[derive(Clone, Copy)]
+pub struct Unwatched;
+
+impl Observer for Unwatched {
+    ghost saw = { λ _ _ _. Unit {0} };
+
+    ghost saw_none = { λ _. tt };
+
+    ghost is_ready = { λ _. Unit {0} };
+
+    fn make_ready(&mut self) -> Result<(), AllocError> {
+        Ok(())
+    }
+
+    fn see(&mut self, _line: &[u8], _entry: &Entry, _change: &Change) {}
+}
+
+/// Two observers that are shown the same replay.
+#[derive(Drop)]
+pub struct Both<A, B> {
+    pub first: A,
+    pub second: B,
+}
+
+impl<A: Observer, B: Observer> Observer for Both<A, B> {
+    ghost saw = { λ before after steps. A.saw before.first after.first steps × B.saw before.second after.second steps };
+
+    ghost saw_none = { λ both. (A.saw_none both.first, B.saw_none both.second) };
+
+    ghost is_ready = { λ both. A.is_ready both.first × B.is_ready both.second };
+
+    fn make_ready(&mut self) -> Result<(), AllocError> {
+        self.first.make_ready()?;
+        self.second.make_ready()
+    }
+
+    fn see(&mut self, line: &[u8], entry: &Entry, change: &Change) {
+        self.first.see(line, entry, change);
+        self.second.see(line, entry, change);
+    }
+}
