@@ -1,18 +1,13 @@
 -- The bytes that are removed piece by piece from a block, a buffer in front of a device, add up to a line.
 use Rattle.std.proofs.Common.{◌≡◌, ◌≤◌, ◌<◌, ◌+◌, ◌-◌, ℕ, zero, suc, List, [], ◌∷◌, ◌++◌, Option, Some, None, MatchOption}
-use Rattle.std.proofs.Common.{false, refl, sym, ap, subst, ◌∙◌, arith, append_assoc, append-nil, length, length-append, length-take}
-use Rattle.std.proofs.Common.{length-take-le, take, take-append-drop, drop, drop-drop, slice_range, slice_set}
+use Rattle.std.proofs.Common.{refl, sym, ap, subst, ◌∙◌, arith, append_assoc, length, length-append, length-take}
+use Rattle.std.proofs.Common.{take, take-append-drop, drop, drop-drop, slice_range, slice_set}
 use Rattle.std.proofs.lemmas.List.{drop_more, drop-take, take_all}
 use Rattle.std.proofs.lemmas.Bool.{eq-eqb, eqb-true}
-use Rattle.std.proofs.lemmas.Bool.Decides.{nat_tests}
 use Rattle.memchr.specs.Find.{IsFirstByte, Nowhere, Passes, is_byte}
-use Rattle.std.specs.Prelude.{◌==◌, if◌then◌else◌}
-use Rattle.std.specs.Io.KnownBytes.{Consumes, IsAtEnd, Keeps, append_known, prepend_known}
-use Rattle.till_request.specs.Line.{HasNoLf, IsLine, LacksRoom, Takes, ReadsIntoLine, TakesTooLong}
-use Rattle.till_request.specs.Blocks.{Belongs, HasFirstLfAt, MovesIntoLine, LineGrows, LosesPart}
-use Rattle.till_request.specs.declared.block.Piece.TheVariants.{Ended, TooLong}
-use Rattle.till_request.specs.declared.line.NextLine.{NextLine}
-use Rattle.till_request.specs.declared.line.NextLine.TheVariants.{Cut, End}
+use Rattle.std.specs.Io.KnownBytes.{Consumes, append_known, prepend_known}
+use Rattle.till_request.specs.Line.{HasNoLf, IsLine, LacksRoom, ReadsIntoLine}
+use Rattle.till_request.specs.Blocks.{Belongs, HasFirstLfAt, MovesIntoLine}
 
 -- if no place before n has an LF, the first n bytes have no LF
 no_lf_before : (bytes : List ℕ) (n : ℕ) → n ≤ length bytes → Nowhere (Passes (is_byte 10) bytes) 0 n → HasNoLf (take n bytes)
@@ -56,121 +51,6 @@ no_lf_less n zero xs l h = tt
 no_lf_less zero (suc k) xs l h = absurd (omega (arith, l))
 no_lf_less (suc n) (suc k) [] l h = tt
 no_lf_less (suc n) (suc k) (x ∷ xs) l h = (h.0, no_lf_less n k xs (omega (arith, l)) h.1)
-
-beyond : (there line : List ℕ) (room : ℕ) → IsLine line → room ≡ 8400 - length line → room + 1 ≤ length there → HasNoLf (take (room + 1) there)
-    → LineGrows there line (drop (room + 1) there) [] TooLong
-beyond there line room l e o h = (
-  take (room + 1) there,
-  sym (take-append-drop (room + 1) there),
-  no_lf_both line (take (room + 1) there) l.0 h,
-  omega (arith, e, l.1, length-append line (take (room + 1) there), length-take-le (room + 1) there o),
-)
-
--- If more than `room` bytes come before the block's first LF, and the first `room` + 1 of them are removed, then the
--- line is too long: the line and the removed bytes are 8,401 bytes without an LF, one more than a line can have
--- (`LineGrows` for `TooLong`). `room` must be how many more bytes the line can have.
-pub ends_too_late : (there line : List ℕ) (room count : ℕ) → IsLine line → room ≡ 8400 - length line → HasFirstLfAt count there → room < count
-    → LineGrows there line (drop (room + 1) there) [] TooLong
-ends_too_late there line room count l e h o =
-    beyond there line room l e (omega (arith, o, h.0)) (no_lf_less count (room + 1) there (omega (arith, o)) h.1)
-
--- If the block has no LF and more than `room` bytes, and the first `room` + 1 of them are removed, then the line is too
--- long: the line and the removed bytes are 8,401 bytes without an LF, one more than a line can have (`LineGrows` for
--- `TooLong`). `room` must be how many more bytes the line can have.
-pub ends_nowhere : (there line : List ℕ) (room : ℕ) → IsLine line → room ≡ 8400 - length line → HasNoLf there → room < length there
-    → LineGrows there line (drop (room + 1) there) [] TooLong
-ends_nowhere there line room l e h o =
-    beyond there line room l e (omega (arith, o))
-    (no_lf_less (length there) (room + 1) there (omega (arith, o)) (subst (λ l. HasNoLf l) (sym (take_all (length there) there (omega arith))) h))
-
--- If one or more bytes, none of them an LF, were removed from the front of the block, and the line with these bytes has
--- more than `place` bytes but at most 8,400, then the removed bytes belong to the line, but the line with them doesn't
--- fit into a vector with room for `place` bytes (`LosesPart`).
-pub part_lost : (there line left : List ℕ) (count place : ℕ) → IsLine line → HasNoLf (take count there) → count ≤ length there
-    → count ≤ 8400 - length line → 0 < count → place < length line + count → left ≡ drop count there → LosesPart there line place left
-part_lost there line left count place l h long room some full rest = (
-  take count there,
-  sym (ap (λ r. take count there ++ r) rest ∙ take-append-drop count there),
-  (no_lf_both line (take count there) l.0 h, omega (arith, length-append line (take count there), length-take-le count there long, l.1, room)),
-  omega (arith, length-take-le count there long, some),
-  omega (arith, length-append line (take count there), length-take-le count there long, full),
-)
-
--- If the bytes before the block's first LF were moved to the end of the line, the LF was removed, and the line has at
--- most 8,400 bytes now, then the line is whole, and the bytes after its LF are left in the block (`LineGrows` for
--- `Ended`).
-pub line_ended : (there line left grown : List ℕ) (count : ℕ) → IsLine line → HasFirstLfAt count there → count ≤ 8400 - length line
-    → grown ≡ line ++ take count there → left ≡ drop 1 (drop count there) → LineGrows there line left grown Ended
-line_ended there line left grown count l h room is rest =
-    let long : length (take count there) ≡ count = length-take-le count there (omega (arith, h.0)) in
-    let whole : IsLine (line ++ take count there) =
-    (no_lf_both line (take count there) l.0 h.1, omega (arith, length-append line (take count there), long, l.1, room)) in (
-      take count there,
-      h.2 ∙ ap (λ r. take count there ++ 10 ∷ r) (sym (rest ∙ drop-drop 1 count there)),
-      is,
-      subst (λ w. IsLine w) (sym is) whole,
-    )
-
--- If `line` was taken from an input (a block and a device together), and after it `piece`, the first bytes of the
--- block, then `line` followed by `piece` was taken in all. Before `piece` was taken, the block had the bytes `there`,
--- and the device had `ahead`.
-pub piece_taken : (a b ahead : Option (List ℕ)) (line there left piece : List ℕ) → Consumes a b line → Keeps b (prepend_known there ahead)
-    → there ≡ piece ++ left → Consumes a (prepend_known left ahead) (line ++ piece)
-piece_taken None b ahead line there left piece h k e = tt
-piece_taken (Some ps) None ahead line there left piece h k e = absurd h
-piece_taken (Some ps) (Some qs) None line there left piece h k e = absurd k
-piece_taken (Some ps) (Some qs) (Some rs) line there left piece h k e =
-    h ∙ ap (λ t. line ++ t) (sym k ∙ ap (λ t. t ++ rs) e ∙ append_assoc piece left rs) ∙ sym (append_assoc line piece (left ++ rs))
-
--- if all bytes of the block were taken after `line`, then `line` followed by these bytes was taken in all
-pub all_taken : (a b ahead : Option (List ℕ)) (line there left : List ℕ) → Consumes a b line → Keeps b (prepend_known there ahead)
-    → left ≡ [] → Consumes a (prepend_known left ahead) (line ++ there)
-all_taken a b ahead line there left h k e =
-    piece_taken a b ahead line there left there h k (sym (append-nil there) ∙ ap (λ l. there ++ l) (sym e))
-
--- if `line` was taken, and then bytes were only moved from the device into the block, what was taken is still `line`
-pub still_taken : (a b c : Option (List ℕ)) (line : List ℕ) → Consumes a b line → Keeps b c → Consumes a c line
-still_taken None b c line h k = tt
-still_taken (Some ps) None c line h k = absurd h
-still_taken (Some ps) (Some qs) None line h k = absurd k
-still_taken (Some ps) (Some qs) (Some rs) line h k = h ∙ ap (λ t. line ++ t) (sym k)
-
--- if the end of a line was found in the block, then the whole line and its LF have been taken from the input
-pub line_taken : (a b ahead : Option (List ℕ)) (line there left grown : List ℕ) → Consumes a b line → Keeps b (prepend_known there ahead)
-    → LineGrows there line left grown Ended → Consumes a (prepend_known left ahead) (grown ++ 10 ∷ []) × IsLine grown
-line_taken a b ahead line there left grown h k g =
-    let place : line ++ (g.0 ++ 10 ∷ []) ≡ grown ++ 10 ∷ [] = sym (append_assoc line g.0 (10 ∷ [])) ∙ ap (λ t. t ++ 10 ∷ []) (sym g.2) in (
-      subst (λ l. Consumes a (prepend_known left ahead) l) place
-          (piece_taken a b ahead line there left (g.0 ++ 10 ∷ []) h k (g.1 ∙ sym (append_assoc g.0 (10 ∷ []) left))),
-      g.3,
-    )
-
--- if a line became too long with bytes of the block, then the first 8,401 bytes of a line were taken
-pub too_long_taken : (a b ahead : Option (List ℕ)) (line there left grown : List ℕ) → Consumes a b line → Keeps b (prepend_known there ahead)
-    → LineGrows there line left grown TooLong → TakesTooLong a (prepend_known left ahead)
-too_long_taken a b ahead line there left grown h k g = (line ++ g.0, piece_taken a b ahead line there left g.0 h k g.1, g.2, g.3)
-
-at_end_too : (ahead : Option (List ℕ)) → IsAtEnd ahead → IsAtEnd (prepend_known [] ahead)
-at_end_too None h = h
-at_end_too (Some rest) h = h
-
-end_by : (a b ahead : Option (List ℕ)) (line : List ℕ) → Consumes a b line → IsLine line → Keeps b (prepend_known [] ahead) → IsAtEnd ahead
-    → Takes a (prepend_known [] ahead) (if length line == 0 then End else Cut)
-end_by a b ahead [] h l k z = (still_taken a b (prepend_known [] ahead) [] h k, at_end_too ahead z)
-end_by a b ahead (x ∷ xs) h l k z =
-    let some : (length (x ∷ xs) == 0) ≡ false = grind (arith, nat_tests) in
-    subst (λ e. Takes a (prepend_known [] ahead) (if e then End else Cut)) (sym some)
-    (x ∷ xs, still_taken a b (prepend_known [] ahead) (x ∷ xs) h k, l, omega arith, at_end_too ahead z)
-
--- If the input has ended after `line` was taken, then what was taken is what `Takes` says for `found`: nothing if
--- `found` is `End`, and at least one byte and no LF if it is `Cut`. `found` must be `End` if `line` is empty, else
--- `Cut`.
-pub end_taken : (a b ahead : Option (List ℕ)) (line there : List ℕ) (found : NextLine) → Consumes a b line → IsLine line
-    → Keeps b (prepend_known there ahead) → there ≡ [] → IsAtEnd ahead → found ≡ (if length line == 0 then End else Cut)
-    → Takes a (prepend_known there ahead) found
-end_taken a b ahead line there found h l k none z is =
-    subst (λ t. Takes a (prepend_known t ahead) found) (sym none)
-    (subst (λ f. Takes a (prepend_known [] ahead) f) (sym is) (end_by a b ahead line h l (subst (λ t. Keeps b (prepend_known t ahead)) none k) z))
 
 -- if the block's first `count` bytes belong to the line and were moved to its end, then the line has no LF and at most
 -- 8,400 bytes now, as `MovesIntoLine` says
@@ -224,14 +104,3 @@ pub buffered_with_device : (ahead : Option (List ℕ)) (there line left grown : 
     → ReadsIntoLine (prepend_known there ahead) (prepend_known left ahead) line grown
 buffered_with_device None there line left grown count h = (h.0, tt, h.2, h.3)
 buffered_with_device (Some rest) there line left grown count h = (h.0, ap (λ t. t ++ rest) h.1 ∙ append_assoc h.0 left rest, h.2, h.3)
-
--- if a line has ended, the block has fewer bytes than before
-pub ended_shorter : (there line left grown : List ℕ) → LineGrows there line left grown Ended → length left < length there
-ended_shorter there line left grown g = omega (arith, ap length g.1, length-append g.0 (10 ∷ left))
-
-pub too_long_shorter : (there line left grown : List ℕ) → IsLine line → LineGrows there line left grown TooLong → length left < length there
-too_long_shorter there line left grown l g =
-    omega (arith, ap length g.1, length-append g.0 left, length-append line g.0, g.3, l.1)
-
-pub lost_shorter : (there line left : List ℕ) (place : ℕ) → LosesPart there line place left → length left < length there
-lost_shorter there line left place g = omega (arith, ap length g.1, length-append g.0 left, g.3)

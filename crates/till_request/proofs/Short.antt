@@ -14,16 +14,20 @@ words_joined text word [] = refl
 words_joined text word (next ∷ words) =
     words_joined (text ++ 32 ∷ word) next words ∙ append_assoc text (32 ∷ word) (32 ∷ join_with_byte 32 (next ∷ words))
 
-pub entered : (number : ℕ) (reply : Reply) → with_words (decimal number) (reply_words reply) ≡ answer_text (Entered number reply)
-entered n replies.Done = words_joined (decimal n) (codes "done") []
-entered n (replies.Granted amount version) = words_joined (decimal n) (codes "granted") (decimal amount ∷ codes "by" ∷ decimal version ∷ [])
-entered n (replies.Version version) = words_joined (decimal n) (codes "version") (decimal version ∷ [])
-entered n (replies.Order order) = words_joined (decimal n) (codes "order") (order_words order)
-entered n (replies.Point state nozzle unpaid amount volume limit preset) =
-    words_joined (decimal n) (codes "point")
+-- a text and then a reply's words, with a space before each, are the text, a space and the reply's text
+pub replied : (text : List ℕ) (reply : Reply) → with_words text (reply_words reply) ≡ text ++ 32 ∷ reply_text reply
+replied text replies.Done = words_joined text (codes "done") []
+replied text (replies.Granted amount version) = words_joined text (codes "granted") (decimal amount ∷ codes "by" ∷ decimal version ∷ [])
+replied text (replies.Version version) = words_joined text (codes "version") (decimal version ∷ [])
+replied text (replies.Order order) = words_joined text (codes "order") (order_words order)
+replied text (replies.Point state nozzle unpaid amount volume limit preset) =
+    words_joined text (codes "point")
     (decimal state ∷ decimal nozzle ∷ decimal amount ∷ decimal volume ∷ decimal limit ∷ decimal preset ∷ decimal unpaid ∷ [])
-entered n (replies.Refused number None) = words_joined (decimal n) (codes "S" ++ decimal number) []
-entered n (replies.Refused number (Some value)) = words_joined (decimal n) (codes "S" ++ decimal number) (decimal value ∷ [])
+replied text (replies.Refused number None) = words_joined text (codes "S" ++ decimal number) []
+replied text (replies.Refused number (Some value)) = words_joined text (codes "S" ++ decimal number) (decimal value ∷ [])
+
+pub entered : (number : ℕ) (reply : Reply) → with_words (decimal number) (reply_words reply) ≡ answer_text (Entered number reply)
+entered number reply = replied (decimal number) reply
 
 pub refused : (number : ℕ) (unit part : Option ℕ)
     → with_words (with_words (codes "V" ++ decimal number) (map decimal (option_to_list unit))) (map decimal (option_to_list part))
@@ -33,20 +37,8 @@ refused number None (Some part) = words_joined (codes "V" ++ decimal number) (de
 refused number (Some unit) None = words_joined (codes "V" ++ decimal number) (decimal unit) []
 refused number (Some unit) (Some part) = words_joined (codes "V" ++ decimal number) (decimal unit) (decimal part ∷ [])
 
--- a reply's words, with a space before each, are a space and then the reply's text
-pub replied : (reply : Reply) → with_words [] (reply_words reply) ≡ 32 ∷ reply_text reply
-replied replies.Done = words_joined [] (codes "done") []
-replied (replies.Granted amount version) = words_joined [] (codes "granted") (decimal amount ∷ codes "by" ∷ decimal version ∷ [])
-replied (replies.Version version) = words_joined [] (codes "version") (decimal version ∷ [])
-replied (replies.Order order) = words_joined [] (codes "order") (order_words order)
-replied (replies.Point state nozzle unpaid amount volume limit preset) =
-    words_joined [] (codes "point")
-    (decimal state ∷ decimal nozzle ∷ decimal amount ∷ decimal volume ∷ decimal limit ∷ decimal preset ∷ decimal unpaid ∷ [])
-replied (replies.Refused number None) = words_joined [] (codes "S" ++ decimal number) []
-replied (replies.Refused number (Some value)) = words_joined [] (codes "S" ++ decimal number) (decimal value ∷ [])
-
 -- if a text is a reply's words, with a space before each, then what follows its first space is the reply's text
 pub behind_space : (reply : Reply) (text : List ℕ) (found : Option (Bor (List ℕ))) → text ≡ with_words [] (reply_words reply)
     → MatchOption found ((rest : List ℕ) → text ≢ 32 ∷ rest) (λ x. text ≡ 32 ∷ x.now) → MatchOption found ⊥ (λ x. x.now ≡ reply_text reply)
-behind_space reply text None e h = h (reply_text reply) (e ∙ replied reply)
-behind_space reply text (Some x) e h = let same : 32 ∷ x.now ≡ 32 ∷ reply_text reply = sym h ∙ e ∙ replied reply in cc
+behind_space reply text None e h = h (reply_text reply) (e ∙ replied [] reply)
+behind_space reply text (Some x) e h = let same : 32 ∷ x.now ≡ 32 ∷ reply_text reply = sym h ∙ e ∙ replied [] reply in cc

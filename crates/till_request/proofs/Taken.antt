@@ -1,7 +1,7 @@
 -- If bytes are read or written in pieces, one after another, then all the pieces joined are read or written.
 use Rattle.std.proofs.Common.{◌≡◌, ◌≢◌, ◌≤◌, ◌+◌, ℕ, arith, length, length-append, List, [], ◌∷◌, ◌++◌, Some, None, Option, Result, Ok, Err, OnErr, sym, ◌∙◌, ap, subst, append_assoc, append-nil, MatchOption, IfOk}
 use Rattle.std.specs.Io.KnownBytes.{Consumes, Appends, IsAtEnd}
-use Rattle.till_request.specs.Line.{ReadsIntoLineThenByte, ReadsBytesOfLine, HasNoLf, IsLine, LacksRoom, ReadsIntoLine, TakesPart}
+use Rattle.till_request.specs.Line.{HasLongerLine, ReadsIntoLineThenByte, ReadsBytesOfLine, HasNoLf, IsLine, LacksRoom, ReadsIntoLine, TakesPart}
 
 pub consumes_more : (a b c : Option (List ℕ)) (xs ys : List ℕ) → Consumes a b xs → Consumes b c ys → Consumes a c (xs ++ ys)
 consumes_more None b c xs ys h k = tt
@@ -76,6 +76,12 @@ lacks_behind a b line least room all before after h fits counted l =
       omega (arith, long, counted, l.6),
       omega (arith, long, counted, l.7),
     )
+
+-- If `line` was read, and with bytes that come next is longer than `room` (`LacksRoom`), then more than `least` bytes of a
+-- line came next before `line` was read. `least` must be at most `room`.
+pub longer_behind : (a b : Option (List ℕ)) (line : List ℕ) (least room before after : ℕ) → Consumes a b line → least ≤ room
+    → LacksRoom b line room before after → HasLongerLine a least
+longer_behind a b line least room before after h fits l = (line ++ l.0, l.1, consumes_more a b l.1 line l.0 h l.2, l.3, omega (arith, fits, l.5))
 
 -- In the input `a`, more than `room` bytes of a line come next (`LacksRoom` with an empty line). This holds if `line`
 -- and then `byte` were read from `a`, and `room` is at most `length line`. Together `line` and `byte` must have no LF

@@ -2,8 +2,6 @@
 -- block, and then those that the device still has.
 use Rattle.std.specs.Prelude.{◌≡◌, ◌⊎◌, ℕ, ◌+◌, ◌*◌, ◌<◌, ◌≤◌, List, [], ◌∷◌, ◌++◌, length, take, drop}
 use Rattle.till_request.specs.Line.{HasNoLf, IsLine}
-use Rattle.till_request.specs.declared.block.Piece.{Piece}
-use Rattle.till_request.specs.declared.block.Piece.TheVariants.{Ended, TooLong, More}
 use Rattle.till_request.specs.declared.line.InputFault.{InputFault}
 use Rattle.till_request.specs.declared.line.InputFault.TheVariants.{Read, ReadsSpent, OutOfMemory}
 
@@ -21,25 +19,6 @@ IsEmptyAfterInputFault OutOfMemory unread = Unit {0}
 -- the first LF in `bytes` comes after `count` bytes
 abbrev pub HasFirstLfAt : ℕ → List ℕ → Type 0
 HasFirstLfAt count bytes = (count < length bytes) × HasNoLf (take count bytes) × (bytes ≡ take count bytes ++ 10 ∷ drop (count + 1) bytes)
-
--- What was done to a block and a line, for each result of taking bytes of the line from the block. The block had the
--- bytes `there` and has the bytes `left` now. The line was `line` and is `grown` now.
--- - Ended: the bytes before the first LF were moved to the end of the line, and the LF was removed. `grown` has no LF
---   and at most 8,400 bytes.
--- - TooLong: as many bytes were removed as would make `line` 8,401 bytes long, one more than a line can have. `line`
---   and these bytes have no LF. `grown` can be any bytes.
--- - More: all bytes were moved to the end of the line. `grown` has no LF and at most 8,400 bytes.
-abbrev pub LineGrows : List ℕ → List ℕ → List ℕ → List ℕ → Piece → Type 0
-LineGrows there line left grown Ended = (bytes : List ℕ) × (there ≡ bytes ++ 10 ∷ left) × (grown ≡ line ++ bytes) × IsLine grown
-LineGrows there line left grown TooLong = (bytes : List ℕ) × (there ≡ bytes ++ left) × HasNoLf (line ++ bytes) × (length (line ++ bytes) ≡ 8401)
-LineGrows there line left grown More = (left ≡ []) × (grown ≡ line ++ there) × IsLine grown
-
--- The block had the bytes `there` and has the bytes `left` now. One or more bytes were removed from the front of the
--- block and are lost. They belong to the line: `line` and these bytes together have no LF and at most 8,400 bytes, but
--- more than `room` bytes.
-abbrev pub LosesPart : List ℕ → List ℕ → ℕ → List ℕ → Type 0
-LosesPart there line room left =
-    (bytes : List ℕ) × (there ≡ bytes ++ left) × IsLine (line ++ bytes) × (0 < length bytes) × (room < length (line ++ bytes))
 
 -- `count` is how many of the bytes belong to the line: those before the first LF, or all if there is no LF, but at most
 -- `room`

@@ -1,8 +1,8 @@
 -- Promises: which bytes are read from an input that is read line by line. `old` is the bytes that the input has left
 -- before the reads, and `new` those that it has left after the reads. Each is None if the bytes aren't known. A line
 -- has no LF and is allowed at most 8,400 bytes. With more it is too long. A line is cut if the input ends after at
--- least one of its bytes and before its LF. `IsLine` (what a line is) and `Takes` (what was read, for each result of
--- reading a line) are also definitions, so only a reader can check that they say what is meant.
+-- least one of its bytes and before its LF. `IsLine` (what a line is) and `ReadsFound` (what was read, for each result
+-- of reading a line) are also definitions, so only a reader can check that they say what is meant.
 use Rattle.std.specs.Prelude.{◌≡◌, ◌≢◌, ◌⊎◌, ℕ, ◌+◌, ◌<◌, ◌≤◌, List, [], ◌∷◌, ◌++◌, length, Option, Some, None, Result, Ok, Err, Bool, true, false}
 use Rattle.std.specs.List.{AllByRecursion}
 use Rattle.std.specs.Io.KnownBytes.{Consumes, IsAtEnd}
@@ -11,8 +11,6 @@ use Rattle.till_request.specs.declared.act.Act.{Act}
 use Rattle.till_request.specs.declared.act.Role.{Role}
 use Rattle.till_request.specs.declared.act.LineFault.{LineFault}
 use Rattle.till_request.specs.declared.act.LineFault.TheVariants as line
-use Rattle.till_request.specs.declared.line.NextLine.{NextLine}
-use Rattle.till_request.specs.declared.line.NextLine.TheVariants.{Line, TooLong, Cut, End}
 use Rattle.till_request.specs.declared.line.Found.{Found}
 use Rattle.till_request.specs.declared.line.Found.TheVariants as found
 use Rattle.till_request.specs.declared.line.InputFault.{InputFault}
@@ -40,9 +38,9 @@ TakesCut old new = (bytes : List ℕ) × Consumes old new bytes × IsLine bytes 
 abbrev pub TakesPart : Option (List ℕ) → Option (List ℕ) → Type 0
 TakesPart old new = (bytes : List ℕ) × Consumes old new bytes × IsLine bytes
 
--- at least one byte of a line was read, and not its LF
-abbrev pub TakesBytes : Option (List ℕ) → Option (List ℕ) → Type 0
-TakesBytes old new = (bytes : List ℕ) × Consumes old new bytes × IsLine bytes × (0 < length bytes)
+-- more than `room` bytes of a line come next
+abbrev pub HasLongerLine : Option (List ℕ) → ℕ → Type 0
+HasLongerLine old room = (bytes : List ℕ) × (rest : Option (List ℕ)) × Consumes old rest bytes × IsLine bytes × (room < length bytes)
 
 -- `line` is the beginning of a line. One or more further bytes of this line come next in the input `old`, and with them
 -- the line is longer than `room`. `before` and `after` are numbers of reads of one byte: how many were still allowed
@@ -79,13 +77,6 @@ ReadsBytesOfLine old new line = (bytes : List ℕ) × Consumes old new bytes × 
 -- zero or more bytes were read
 abbrev pub TakesSome : Option (List ℕ) → Option (List ℕ) → Type 0
 TakesSome old new = (bytes : List ℕ) × Consumes old new bytes
-
--- what was read, for each result of reading a line
-abbrev pub Takes : Option (List ℕ) → Option (List ℕ) → NextLine → Type 0
-Takes old new (Line line) = Consumes old new (line.items ++ 10 ∷ []) × IsLine line.items
-Takes old new TooLong = TakesTooLong old new
-Takes old new Cut = TakesCut old new
-Takes old new End = Consumes old new [] × IsAtEnd new
 
 -- what was read, for each result of reading a line into the buffer `line`
 abbrev pub ReadsFound : Option (List ℕ) → Option (List ℕ) → List ℕ → Found → Type 0

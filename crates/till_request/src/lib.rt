@@ -21,6 +21,6 @@ pub use block::Block;
 pub use device::{DeviceFault, LineIn, LineOut};
 pub use form::{AmountVerb, Form, PointVerb, ReportVerb, RequestByForm, TransactionVerb};
 pub use grammar::LINE_WORDS;
-pub use line::{Found, InputFault, LINE_BYTES, LineReadFault, NextLine};
+pub use line::{Found, InputFault, LINE_BYTES, LineReadFault};
 pub use short_text::ShortText;
 pub use write::WriteFault;
