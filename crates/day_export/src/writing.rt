@@ -4,6 +4,7 @@ ghost use Rattle.std.specs.Prelude.{◌≤◌, IfOk, List, OnOk, map};
 ghost use Rattle.std.specs.Iterator.{Drains, IsFinite};
 ghost use Rattle.std.specs.List.{concat};
 ghost use Rattle.std.specs.Io.KnownBytes.{Appends};
+ghost use Rattle.day_report.specs.Sales.{sales_of};
 ghost use Rattle.day_export.specs.Rows.{rows_from};
 ghost use Rattle.day_export.specs.Text.{row_bytes, rows_text};
 
@@ -13,8 +14,9 @@ use crate::fault::RowsFault;
 use crate::json_rows::JsonRows;
 use crate::row_writer::RowWriter;
 use crate::rows::{decision_row, event_row, sale_cells};
-use day_report::Sale;
+use day_report::{Sale, Sales};
 use decision_journal::Entry;
+use site_core::Watched;
 use std::alloc::Global;
 use std::io::Write;
 
@@ -96,20 +98,19 @@ fn write_json<W: Write + Drop>(
     Ok(to.out)
 }
 
-/// Writes the rows of a day with these sales and these entries to `out`, and returns `out`. In CSV the names of the
-/// columns come first. The error is that memory ran out, or an error of `out`. After an error, some of the rows were
-/// perhaps written.
+/// Writes the rows of an audited day to `out`, and returns `out`. In CSV the names of the columns come first. The error
+/// is that memory ran out, or an error of `out`. After an error, some of the rows were perhaps written.
 pub fn write_rows<W: Write + Drop>(
     alloc: Global,
-    sales: &[Sale],
-    entries: &[Entry],
+    day: &Watched<Sales>,
     rows: Rows,
     format: Format,
     out: W,
 ) -> Result<W, RowsFault>
     ensures { IfOk result (λ after. Appends (W.contents out) (W.contents after)
-        (rows_text rows format sales.now entries.now)) }
+        (rows_text rows format (sales_of day.now.site.config day.now.site.history) day.now.site.history)) }
 {
+    let (sales, entries) = (&day.seen().sales, day.site().history());
     match format {
         Format::Csv => write_csv(alloc, sales, entries, rows, out),
         Format::Json => write_json(alloc, sales, entries, rows, out),

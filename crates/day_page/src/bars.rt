@@ -60,7 +60,7 @@ fn most_sold(sums: &[Sum]) -> u128 {
 
 /// Adds the picture of sales by point: one bar for each fuelling point. `sums` has the sales of each point, point 1
 /// first.
-pub(crate) fn add_points(html: &mut TextBuilder, sums: &[Sum]) {
+pub fn add_points(html: &mut TextBuilder, sums: &[Sum]) {
     add_bars_head(
         html,
         sums.len(),

@@ -2,7 +2,7 @@
 //! parts of this crate.
 #![tactic(auto)]
 
-mod bars;
+pub mod bars;
 mod builder;
 mod drawn;
 pub mod names;

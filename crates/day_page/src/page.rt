@@ -7,8 +7,8 @@ use crate::{bars, drawn, prices, tables};
 use day_report::adding::{add_up, carried_in};
 use day_report::opening::opening_prices;
 use day_report::steps::{axis_of, states_by_step};
-use day_report::{Axis, Bands, CarriedIn, Marks, PriceChange, Sales, Sum, Totals, Unpaid};
-use site_core::{Both, Opening, Site};
+use day_report::{Axis, Bands, CarriedIn, DayWatch, PriceChange, Sum, Totals, Unpaid};
+use site_core::{Head, Replayed};
 use std::alloc::{AllocError, Global};
 use std::fmt;
 
@@ -20,10 +20,9 @@ pub struct Page {
 }
 
 impl Page {
-    /// Makes the page of a site's history. `seen` has the sales and the marks that were seen while the history was
-    /// replayed. The error is that memory ran out.
-    pub fn of(alloc: Global, site: &Site, seen: &Both<Sales, Marks>) -> Result<Page, AllocError> {
-        let day = Day::of(alloc, site, seen)?;
+    /// Makes the page of a replayed history. The error is that memory ran out.
+    pub fn of(alloc: Global, replayed: &Replayed<DayWatch>) -> Result<Page, AllocError> {
+        let day = Day::of(alloc, replayed)?;
         page_of(alloc, &day)
     }
 }
@@ -48,11 +47,11 @@ struct Day {
     bands: Bands,
 }
 
-/// Returns the value and the bound of each of a site's 32 counters, counter 0 first.
-fn counters_of(site: &Site) -> [(u64, u64); 32] {
+/// Returns the value and the bound of each of the 32 counters, counter 0 first.
+fn counters_of(head: &Head) -> [(u64, u64); 32] {
     let mut counters = [(0, 0); 32];
     for c in 0..32 {
-        if let Some(pair) = site.counter(c) {
+        if let Some(pair) = head.counter(c) {
             counters[c as usize] = pair;
         }
     }
@@ -60,16 +59,16 @@ fn counters_of(site: &Site) -> [(u64, u64); 32] {
 }
 
 impl Day {
-    fn of(alloc: Global, site: &Site, seen: &Both<Sales, Marks>) -> Result<Day, AllocError> {
-        let config = site.config();
-        let marks = &seen.second.marks;
+    fn of(alloc: Global, replayed: &Replayed<DayWatch>) -> Result<Day, AllocError> {
+        let head = replayed.head();
+        let config = head.config();
+        let marks = &replayed.seen().second.second.marks;
         let axis = axis_of(marks);
         let bands = states_by_step(alloc, config, marks, axis)?;
-        let Opening { points, .. } = site.carry_unchecked()?;
         Ok(Day {
-            totals: add_up(alloc, config, site.history(), &seen.first.sales, points)?,
+            totals: add_up(alloc, replayed)?,
             carried: carried_in(alloc, config)?,
-            counters: counters_of(site),
+            counters: counters_of(head),
             opening: opening_prices(config),
             axis,
             bands,
@@ -122,12 +121,16 @@ fn add_headline(html: &mut TextBuilder, totals: &Totals, axis: Axis) {
 
 fn add_figures(html: &mut TextBuilder, totals: &Totals) {
     html.add("<ul class=\"figures\">\n");
-    add_figure(html, "Sold", Text::Hundredths(totals.sold.cents));
-    add_figure(html, "Sales", Text::Thousands(totals.sold.count as u128));
+    add_figure(html, "Sold", Text::Hundredths(totals.sums.all.cents));
+    add_figure(
+        html,
+        "Sales",
+        Text::Thousands(totals.sums.all.count as u128),
+    );
     add_figure(
         html,
         "Litres sold",
-        Text::Hundredths(totals.sold.centilitres),
+        Text::Hundredths(totals.sums.all.centilitres),
     );
     add_figure(
         html,
@@ -186,9 +189,9 @@ fn add_carried(html: &mut TextBuilder, carried: CarriedIn) {
 
 fn add_sales(html: &mut TextBuilder, totals: &Totals) {
     html.add("<section id=\"sales\"><h2>Sales</h2>\n");
-    bars::add_points(html, &totals.by_point);
+    bars::add_points(html, totals.by_point());
     add_sums(html, totals);
-    add_hours(html, &totals.by_hour);
+    add_hours(html, &totals.sums.hours);
     add_unpaid(html, &totals.unpaid);
     html.add(SECTION_END);
 }
@@ -198,9 +201,9 @@ fn add_sales(html: &mut TextBuilder, totals: &Totals) {
 fn add_sums(html: &mut TextBuilder, totals: &Totals) {
     html.add("<div class=\"side\"><div><h3>By point</h3>");
     tables::add_points(html, totals);
-    if totals.sold.count > 0 {
+    if totals.sums.all.count > 0 {
         html.add("</div><div><h3>By the till that cleared</h3>");
-        tables::add_parts(html, tables::BY_TILL, &totals.by_till, 1);
+        tables::add_parts(html, tables::BY_TILL, &totals.sums.tills, 1);
     }
     html.add("</div></div>\n");
 }
@@ -215,8 +218,9 @@ fn has_sale(sums: &[Sum]) -> bool {
     false
 }
 
-/// Adds the picture and the table of sales by hour, or a note if no sale has a moment.
-fn add_hours(html: &mut TextBuilder, sums: &[Sum]) {
+/// Adds the picture and the table of sales by hour, or a note if no sale has a moment. `sums` has the sales of each hour,
+/// hour 0 first.
+pub fn add_hours(html: &mut TextBuilder, sums: &[Sum]) {
     if !has_sale(sums) {
         return html.add("<p class=\"note\">No sale tells its moment, so there are no hours.</p>\n");
     }

@@ -53,10 +53,10 @@ fn add_point(html: &mut TextBuilder, name: Text, sum: &Sum, unpaid: usize, state
     add_row(html, name, &cells);
 }
 
-/// Adds the row of `point`, which is at `place`, counted from 0, in `totals.points`. If `totals.by_point` has no such
-/// place, nothing is added.
+/// Adds the row of `point`, which is at `place`, counted from 0, in `totals.points`. If there is no sum of this point,
+/// nothing is added.
 fn add_place(html: &mut TextBuilder, totals: &Totals, place: usize, point: &Point) {
-    if let Some(sum) = totals.by_point.get(place) {
+    if let Some(sum) = totals.sums.points.get(place) {
         let state = state_name(point.state());
         add_point(
             html,
@@ -81,22 +81,25 @@ pub(crate) fn add_points(html: &mut TextBuilder, totals: &Totals) {
     add_point(
         html,
         Text::Words("All"),
-        &totals.sold,
+        &totals.sums.all,
         totals.unpaid.len(),
         "",
     );
     html.add(FOOT);
 }
 
+/// The start of the table of sales by point, where the table shows nothing else of the points.
+pub const POINT_SALES: &str = head!("by-point"; "Point", "Sales", "Money", "Litres");
+
 /// The start of the table of sales by till.
-pub(crate) const BY_TILL: &str = head!("by-till"; "Till", "Sales", "Money", "Litres");
+pub const BY_TILL: &str = head!("by-till"; "Till", "Sales", "Money", "Litres");
 
 /// The start of the table of sales by hour.
-pub(crate) const BY_HOUR: &str = head!("by-hour"; "Hour", "Sales", "Money", "Litres");
+pub const BY_HOUR: &str = head!("by-hour"; "Hour", "Sales", "Money", "Litres");
 
-/// Adds a table of sales by till or by hour, with a row for each till or hour that has a sale. `head` is `BY_TILL` or
-/// `BY_HOUR`. `first` is the number of the till or hour to which the first of `sums` belongs.
-pub(crate) fn add_parts(html: &mut TextBuilder, head: &str, sums: &[Sum], first: u64) {
+/// Adds a table of sales by point, by till or by hour, with a row for each that has a sale. `head` is `POINT_SALES`,
+/// `BY_TILL` or `BY_HOUR`. `first` is the number of the point, till or hour to which the first of `sums` belongs.
+pub fn add_parts(html: &mut TextBuilder, head: &str, sums: &[Sum], first: u64) {
     html.add(head);
     for (place, sum) in sums.iter().enumerate() {
         if sum.count > 0 {

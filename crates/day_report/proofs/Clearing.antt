@@ -40,7 +40,7 @@ pub record Sells (config : ConfigValue) (s t : SiteState) (us : List Ended) (sal
   pub cents : t.cleared ≡ s.cleared + cents_in part.All (option_to_list sale)
 
 -- The sale of an entry that cleared this transaction, if it is there.
-abbrev sale_with : List Ended → Entry → Clearing → Option Transaction → Option Sale
+abbrev pub sale_with : List Ended → Entry → Clearing → Option Transaction → Option Sale
 sale_with us entry c None = None
 sale_with us entry c (Some t) = Some (record {
   number = entry.number;
@@ -53,7 +53,7 @@ sale_with us entry c (Some t) = Some (record {
   delivery = delivery_of us c.point c.number;
 })
 
-abbrev sale_by : List Ended → Entry → Option PointState → Option Clearing → Option Sale
+abbrev pub sale_by : List Ended → Entry → Option PointState → Option Clearing → Option Sale
 sale_by us entry before None = None
 sale_by us entry before (Some c) = sale_with us entry c (unpaid_at before c.number)
 

@@ -1,4 +1,5 @@
 pub mod OneMore
+pub mod Listing
 pub mod SiteSales
 pub mod SiteDecisions
 pub mod Axes
@@ -10,3 +11,5 @@ pub mod Changing
 pub mod Clearing
 pub mod Earlier
 pub mod Deliveries
+pub mod OneSale
+pub mod Wholes

@@ -21,7 +21,7 @@ cons-append : {A : Type 0} (o : Option A) (xs ys : List A) → cons_option o (xs
 cons-append None xs ys = refl
 cons-append (Some x) xs ys = refl
 
-cons-nil : {A : Type 0} (o : Option A) → cons_option o [] ≡ option_to_list o
+pub cons-nil : {A : Type 0} (o : Option A) → cons_option o [] ≡ option_to_list o
 cons-nil None = refl
 cons-nil (Some x) = refl
 

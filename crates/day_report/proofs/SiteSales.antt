@@ -135,20 +135,20 @@ no-keys [] = refl
 no-keys (x ∷ xs) = sum_by-cons (λ (k : ℕ). 0) x xs ∙ (λ i. 0 + no-keys xs i)
 
 -- The key of the sale is one of the n numbers from a on.
-abbrev KeyFits : (Sale → ℕ) → ℕ → ℕ → Sale → Type 0
+abbrev pub KeyFits : (Sale → ℕ) → ℕ → ℕ → Sale → Type 0
 KeyFits key a n sale = (a ≤ key sale) × (key sale < a + n)
 
-all-keys : (key : Sale → ℕ) (a n : ℕ) (sales : List Sale) → All (KeyFits key a n) sales
-    → sum_by (λ k. sum_by (λ (sale : Sale). if key sale == k then sale.amount else 0) sales) (range_with_len a n) ≡ sum_by (λ (sale : Sale). sale.amount) sales
-all-keys key a n [] fits = no-keys (range_with_len a n)
-all-keys key a n (s ∷ sales) fits =
-    let one : ℕ → ℕ = λ k. if key s == k then s.amount else 0 in
-    let rest : ℕ → ℕ = λ k. sum_by (λ (sale : Sale). if key sale == k then sale.amount else 0) sales in
+pub all-keys : (key worth : Sale → ℕ) (a n : ℕ) (sales : List Sale) → All (KeyFits key a n) sales
+    → sum_by (λ k. sum_by (λ (sale : Sale). if key sale == k then worth sale else 0) sales) (range_with_len a n) ≡ sum_by worth sales
+all-keys key worth a n [] fits = no-keys (range_with_len a n)
+all-keys key worth a n (s ∷ sales) fits =
+    let one : ℕ → ℕ = λ k. if key s == k then worth s else 0 in
+    let rest : ℕ → ℕ = λ k. sum_by (λ (sale : Sale). if key sale == k then worth sale else 0) sales in
     let here : KeyFits key a n s = All-head (KeyFits key a n) s sales fits in
-    (λ i. sum_by (λ k. sum_by-cons (λ (sale : Sale). if key sale == k then sale.amount else 0) s sales i) (range_with_len a n))
+    (λ i. sum_by (λ k. sum_by-cons (λ (sale : Sale). if key sale == k then worth sale else 0) s sales i) (range_with_len a n))
     ∙ add-keys one rest (range_with_len a n)
-    ∙ (λ i. one-key a n (key s) s.amount here.0 here.1 i + all-keys key a n sales (All-tail (KeyFits key a n) s sales fits) i)
-    ∙ sym (sum_by-cons (λ (sale : Sale). sale.amount) s sales)
+    ∙ (λ i. one-key a n (key s) (worth s) here.0 here.1 i + all-keys key worth a n sales (All-tail (KeyFits key a n) s sales fits) i)
+    ∙ sym (sum_by-cons worth s sales)
 
 pub sales-agree : SalesAgreeWithTheSite
 sales-agree config history state legal =
@@ -162,11 +162,11 @@ sales-agree config history state legal =
       count = c.count ∙ ap (λ (x : SiteState). x.clears) is;
       cents = cents;
       by_point = λ long. ap (λ x. before + x)
-          (all-keys (λ (s : Sale). s.point) 1 (length config.points) sales
+          (all-keys (λ (s : Sale). s.point) (λ (s : Sale). s.amount) 1 (length config.points) sales
           (All-weaker (FitsOne config) (KeyFits (λ (s : Sale). s.point) 1 (length config.points))
           (λ s (f : FitsOne config s). (f.some_point, let le = f.point in omega (arith, le, long))) sales c.fits)) ∙ cents;
       by_till = λ tills most. ap (λ x. before + x)
-          (all-keys (λ (s : Sale). s.till) 1 tills sales
+          (all-keys (λ (s : Sale). s.till) (λ (s : Sale). s.amount) 1 tills sales
           (All-weaker (FitsOne config) (KeyFits (λ (s : Sale). s.till) 1 tills)
           (λ s (f : FitsOne config s). (f.some_till, let le = f.till in omega (arith, le, most))) sales c.fits)) ∙ cents;
     }

@@ -1,5 +1,5 @@
 -- Promises: a history's sales agree with its site, and the decisions of all versions add up to all decisions.
-use Rattle.std.specs.Prelude.{◌≡◌, ◌≤◌, ℕ, ◌+◌, true, false, List, length, sum_by, count_by}
+use Rattle.std.specs.Prelude.{◌≡◌, ◌≤◌, ℕ, ◌+◌, All, true, false, List, length, sum_by, count_by}
 use Rattle.std.specs.List.{range_with_len, filter_map}
 use Rattle.decision_journal.specs.declared.entries.Entry.{Entry}
 use Rattle.site_core.specs.Limits.{ConfigValue}
@@ -12,7 +12,11 @@ use Rattle.day_report.specs.Decisions.{decision_of}
 use Rattle.day_report.specs.Totals.{count_in, cents_in, decided_by, versions_of}
 use Rattle.day_report.specs.declared.rulings.Decision.{Decision}
 use Rattle.day_report.specs.declared.counting.DecisionPart.TheVariants as deciding
+use Rattle.day_report.specs.declared.sales.Sale.{Sale}
 use Rattle.day_report.specs.declared.sales.SalesPart.TheVariants as part
+use Rattle.day_report.specs.declared.sales.Sum.{Sum}
+use Rattle.day_report.specs.declared.sums.Sums.{Sums}
+use Rattle.day_report.specs.Sums.{AddsUp}
 
 -- The sales in a journal agree with the state of its site:
 -- - What was cleared before the day, plus the sales of the day, is what the site cleared: in number, and in cents.
@@ -48,3 +52,17 @@ VersionsCountAllDecisions =
     (config : ConfigValue) (history : List Entry) (state : SiteState) → HasValidOpening config → LegalHistory config history state →
     sum_by (λ v. decided_in_all v (filter_map decision_of history)) (versions_of config history) ≡ count_by
     (λ (entry : Entry). is_decided entry.reply) history
+
+-- The sums are together this one: in number, in cents and in centilitres.
+pub record ComeTo (sums : List Sum) (whole : Sum) : Type 0 where
+  pub count : sum_by (λ (s : Sum). s.count) sums ≡ whole.count
+  pub cents : sum_by (λ (s : Sum). s.cents) sums ≡ whole.cents
+  pub centilitres : sum_by (λ (s : Sum). s.centilitres) sums ≡ whole.centilitres
+
+-- In sums that add up sales at points 1 to 32, the sums of the points come to the sum of all sales. So do the sums of
+-- the tills if all sales are by tills 1 to 64.
+abbrev pub PartsComeToTheWhole : Type 0
+PartsComeToTheWhole =
+    (sums : Sums) (sales : List Sale) → AddsUp sums sales →
+    (All (λ (s : Sale). (1 ≤ s.point) × (s.point ≤ 32)) sales → ComeTo sums.points sums.all)
+    × (All (λ (s : Sale). (1 ≤ s.till) × (s.till ≤ 64)) sales → ComeTo sums.tills sums.all)

@@ -1,7 +1,10 @@
 pub mod Carried
 pub mod Sales
+pub mod Sums
 pub mod Decisions
+pub mod Rulings
 pub mod Totals
+pub mod DayTotals
 pub mod Laws
 pub mod Picture
 pub mod Deliveries

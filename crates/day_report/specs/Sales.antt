@@ -106,9 +106,13 @@ sales_after s step = record {
 abbrev pub no_sales : SalesValue
 no_sales = record { sales = []; unpaid = [] }
 
+-- The sales that these steps made, oldest first.
+abbrev pub sales_in : List StepValue → List Sale
+sales_in steps = (fold sales_after no_sales steps).sales
+
 -- The sales in the history of a site of this configuration, oldest first.
 abbrev pub sales_of : ConfigValue → List Entry → List Sale
-sales_of config history = (fold sales_after no_sales (steps_of config history)).sales
+sales_of config history = sales_in (steps_of config history)
 
 -- ---- The contracts of private functions use these definitions.
 

@@ -7,8 +7,6 @@ use Rattle.day_report.specs.declared.sales.Sale.{Sale}
 use Rattle.day_report.specs.declared.sales.Sum.{Sum}
 use Rattle.day_report.specs.declared.sales.SalesPart.{SalesPart}
 use Rattle.day_report.specs.declared.sales.SalesPart.TheVariants as part
-use Rattle.day_report.specs.declared.adding.SplitBy.{SplitBy}
-use Rattle.day_report.specs.declared.adding.SplitBy.TheVariants as by
 use Rattle.day_report.specs.declared.rulings.RequestKind.{RequestKind}
 use Rattle.day_report.specs.declared.rulings.RequestKind.TheVariants as asked
 use Rattle.day_report.specs.declared.rulings.Decision.{Decision}
@@ -107,11 +105,6 @@ part_of_till k = part.Till (k + 1)
 abbrev pub part_of_hour : ℕ → SalesPart
 part_of_hour k = part.Hour k
 
-abbrev pub part_by : SplitBy → ℕ → SalesPart
-part_by by.Point k = part_of_point k
-part_by by.Till k = part_of_till k
-part_by by.Hour k = part_of_hour k
-
 -- There are `count` sums. The sum at place k adds up the sales in the part `part_at k`.
 pub record SumsUp (part_at : ℕ → SalesPart) (count : ℕ) (sums : List Sum) (sales : List Sale) : Type 0 where
   pub long : length sums ≡ count
@@ -127,11 +120,14 @@ CountsNumbers long counts numbers =
 abbrev pub CountsRefusals : List ℕ → List ℕ → Type 0
 CountsRefusals counts numbers = CountsNumbers 15 counts numbers
 
--- The version numbers of a day: first those of the rules that the opening carries in, in the order of their slots, then
--- those of the day's loads, oldest first.
+-- The version numbers of a day with these loads: first those of the rules that the opening carries in, in the order of
+-- their slots, then those of the loads.
+abbrev pub version_numbers : ConfigValue → List Load → List ℕ
+version_numbers config loads = map (λ (rule : CarriedRule). rule.version) (carried_rules config) ++ map (λ (load : Load). load.version) loads
+
+-- The version numbers of a day with this history.
 abbrev pub versions_of : ConfigValue → List Entry → List ℕ
-versions_of config entries =
-    map (λ (rule : CarriedRule). rule.version) (carried_rules config) ++ map (λ (load : Load). load.version) (loads 0 entries)
+versions_of config history = version_numbers config (loads 0 history)
 
 -- For each version, in the order of `versions`, `found` has how often the version granted and how often it denied. Only
 -- decisions in the part are counted.

@@ -1,47 +1,57 @@
 //! The totals of a history: sums of its sales, counts of its decisions and refusals, and lists of its loads, its price
 //! changes and its unpaid transactions.
 
-ghost use Rattle.std.specs.Prelude.{◌≡◌, ◌+◌, ◌++◌, ◌≤◌, [], IfOk, IfSome, IsOk};
-ghost use Rattle.std.specs.Prelude.{length, map, not, sum_by, count_by, option_map};
-ghost use Rattle.std.specs.List.{filter_map};
-ghost use Rattle.site_core.specs.declared.site.TheConstants.{ENTRIES};
+ghost use Rattle.std.specs.Prelude.{◌≡◌, ◌++◌, ◌≤◌, [], IfOk, IfSome, IsOk, List};
+ghost use Rattle.std.specs.Prelude.{length, map, not, sum_by, count_by, option_map, take};
+ghost use Rattle.decision_journal.specs.declared.entries.Entry.{Entry};
 ghost use Rattle.day_report.specs.Carried.{carried_from, carried_rules};
-ghost use Rattle.day_report.specs.Decisions.{decision_of, refusal_of, price_change_of, loads};
-ghost use Rattle.day_report.specs.Totals.{IsSum, SumsUp, CountsRefusals, HasOutcomes, DecidedByTills, versions_of};
-ghost use Rattle.day_report.specs.Totals.{unpaid_transaction, unpaid_of, part_by, part_of_point, part_of_till, part_of_hour};
-ghost use Rattle.day_report.specs.Totals.{carried_in, hours_of_day, most_tills};
-ghost use Rattle.day_report.specs.declared.sales.SalesPart.TheVariants as part;
+ghost use Rattle.day_report.specs.DayTotals.{IsDay, IsTotals};
+ghost use Rattle.day_report.specs.Rulings.{ListsRulings};
+ghost use Rattle.day_report.specs.Sums.{AddsUp};
+ghost use Rattle.day_report.specs.Totals.{CountsRefusals, HasOutcomes, DecidedByTills, version_numbers};
+ghost use Rattle.day_report.specs.Totals.{unpaid_transaction, unpaid_of, carried_in, most_tills};
 ghost use Rattle.day_report.specs.declared.counting.DecisionPart.TheVariants as deciding;
 
 use crate::counting::{DecisionPart, Outcomes, count_of, count_outcome, tally};
-use crate::loading::{Load, loads};
+use crate::loading::Load;
 use crate::opening::{CarriedRule, carried_rules, rules_in};
 use crate::pushing::push_some;
-use crate::rulings::{Decision, PriceChange, decisions, price_changes, refusals};
-use crate::sales::{Sale, SalesPart, Sum, sum_of};
-use decision_journal::{Entry, FIRST_REFUSAL, REFUSALS};
+use crate::rulings::{Decision, PriceChange, Rulings};
+use crate::sales::Sum;
+use crate::steps::Marks;
+use crate::sums::Sums;
+use decision_journal::{FIRST_REFUSAL, REFUSALS};
 use fuelling_point::{Point, Transaction};
-use site_core::{Config, Opening};
+use site_core::{Both, Config, Opening, Replayed};
 use std::alloc::{AllocError, Global};
 
 /// The most tills that a site can have.
 pub const MAX_TILLS: u32 = 64;
 
-const HOURS: u32 = 24;
+/// What is watched while a day is replayed, for its totals and its picture.
+pub type DayWatch = Both<Sums, Both<Rulings, Marks>>;
+
+/// Returns the watch of a day, which has seen nothing.
+pub fn watch_day(alloc: Global) -> DayWatch
+    ensures sums { AddsUp result.first [] }
+    ensures rulings { ListsRulings result.second.first [] }
+    ensures marks { result.second.second.marks.items ≡ [] }
+{
+    Both {
+        first: Sums::new(),
+        second: Both {
+            first: Rulings::new(alloc),
+            second: Marks::new(alloc),
+        },
+    }
+}
 
 /// The totals of a history: its sales, refusals, versions of rules, price changes and decisions. Also the fuelling
 /// points and the unpaid transactions after its last entry.
 #[derive(Drop)]
 pub struct Totals {
-    pub entries: usize,
-    /// Everything that was sold.
-    pub sold: Sum,
-    /// What was sold at each point, point 1 first.
-    pub by_point: Vec<Sum>,
-    /// What each of the tills 1 to 64 cleared, till 1 first.
-    pub by_till: Vec<Sum>,
-    /// What was sold in each of the hours 0 to 23 of the day, in UTC. A sale without a moment is in no hour.
-    pub by_hour: Vec<Sum>,
+    pub entries: u32,
+    pub sums: Sums,
     /// The fuelling points as they are after the last entry.
     pub points: Vec<Point>,
     /// How many entries have each of the refusals S20 to S34 as their reply, S20 first.
@@ -65,6 +75,16 @@ pub struct Totals {
     pub tills: Vec<Outcomes>,
 }
 
+impl Totals {
+    /// Returns what was sold at each point of the site, point 1 first.
+    pub fn by_point(&self) -> &[Sum]
+        ensures { result.now ≡ take (length self.now.points.items) self.now.sums.points }
+    {
+        let count = self.points.len().min(self.sums.points.len());
+        &self.sums.points[..count]
+    }
+}
+
 /// What a day takes over from the day before: the number and the total cents of unpaid transactions, the number of
 /// rules, and the total cents that were cleared before the day.
 #[derive(Clone, Copy)]
@@ -86,40 +106,6 @@ pub struct Unpaid {
     pub holder: u32,
 }
 
-/// How sales are split into parts: by point, by till, or by hour of the day.
-#[derive(Clone, Copy)]
-enum SplitBy {
-    Point,
-    Till,
-    Hour,
-}
-
-/// Returns the part of the sales for point `place` + 1, for till `place` + 1 or for hour `place`, as `by` says. `place`
-/// must be at most 64.
-fn part_at(by: SplitBy, place: usize) -> SalesPart
-    requires { place ≤ 64 }
-    ensures { result ≡ part_by by place }
-{
-    match by {
-        SplitBy::Point => SalesPart::Point(place as u32 + 1),
-        SplitBy::Till => SalesPart::Till(place as u32 + 1),
-        SplitBy::Hour => SalesPart::Hour(place as u32),
-    }
-}
-
-/// Splits the sales by point, by till or by hour, as `by` says, and returns the total of each of the first `count`
-/// points, tills or hours. `count` must be at most 64. The error is that memory ran out.
-fn sums_by(alloc: Global, sales: &[Sale], by: SplitBy, count: usize) -> Result<Vec<Sum>, AllocError>
-    requires { count ≤ 64 }
-    ensures { IfOk result (λ sums. SumsUp (part_by by) count sums.items sales.now) }
-{
-    let mut sums = Vec::new(alloc);
-    for place in 0..count {
-        sums.push(sum_of(sales, part_at(by, place)))?;
-    }
-    Ok(sums)
-}
-
 /// Returns how often each of the numbers 20 to 34 is in `numbers`, 20 first. These are the numbers of the refusals S20
 /// to S34. The error is that memory ran out.
 fn refusal_counts(alloc: Global, numbers: &[u32]) -> Result<Vec<usize>, AllocError>
@@ -130,15 +116,6 @@ fn refusal_counts(alloc: Global, numbers: &[u32]) -> Result<Vec<usize>, AllocErr
         counts.push(count_of(numbers, FIRST_REFUSAL + place))?;
     }
     Ok(counts)
-}
-
-/// Returns how many of the entries have each of the refusals S20 to S34 as their reply, S20 first. The error is that
-/// memory ran out.
-fn refused_in(alloc: Global, entries: &[Entry]) -> Result<Vec<usize>, AllocError>
-    ensures { IfOk result (λ counts. CountsRefusals counts.items (filter_map refusal_of entries.now)) }
-{
-    let numbers = refusals(alloc, entries)?;
-    refusal_counts(alloc, &numbers)
 }
 
 /// Returns how often each version in `versions` granted requests and how often it denied them, among the decisions in
@@ -215,27 +192,6 @@ fn cents_of(unpaid: &[Unpaid]) -> u128
     cents
 }
 
-/// The totals of the sales by fuelling point, by the till that cleared them (1 to 64), and by hour of the day.
-#[derive(Drop)]
-struct Sums {
-    points: Vec<Sum>,
-    tills: Vec<Sum>,
-    hours: Vec<Sum>,
-}
-
-fn sums_of(alloc: Global, sales: &[Sale], points: usize) -> Result<Sums, AllocError>
-    requires { points ≤ 64 }
-    ensures points { IfOk result (λ s. SumsUp part_of_point points s.points.items sales.now) }
-    ensures tills { IfOk result (λ s. SumsUp part_of_till most_tills s.tills.items sales.now) }
-    ensures hours { IfOk result (λ s. SumsUp part_of_hour hours_of_day s.hours.items sales.now) }
-{
-    Ok(Sums {
-        points: sums_by(alloc, sales, SplitBy::Point, points)?,
-        tills: sums_by(alloc, sales, SplitBy::Till, MAX_TILLS as usize)?,
-        hours: sums_by(alloc, sales, SplitBy::Hour, HOURS as usize)?,
-    })
-}
-
 /// How often each version of a rule granted and denied requests, counted for each kind of request and for each till.
 #[derive(Drop)]
 struct Verdicts {
@@ -260,44 +216,6 @@ fn verdicts_of(
         presets: outcomes(alloc, decisions, versions, DecisionPart::Presets)?,
         prices: outcomes(alloc, decisions, versions, DecisionPart::Prices)?,
         tills: outcomes_by_till(alloc, decisions, versions)?,
-    })
-}
-
-/// What the sales of a history add up to, the points after the last entry, and the unpaid transactions of these points.
-#[derive(Drop)]
-struct SalesTotals {
-    sold: Sum,
-    sums: Sums,
-    points: Vec<Point>,
-    unpaid: Vec<Unpaid>,
-    unpaid_cents: u128,
-}
-
-/// `count` is the number of points of the configuration, at most 64.
-fn takings_of(
-    alloc: Global,
-    sales: &[Sale],
-    points: Vec<Point>,
-    count: usize,
-) -> Result<SalesTotals, AllocError>
-    requires { count ≤ 64 }
-    ensures sold { IfOk result (λ t. IsSum t.sold part.All sales.now) }
-    ensures by_point { IfOk result (λ t. SumsUp part_of_point count t.sums.points.items sales.now) }
-    ensures by_till { IfOk result (λ t. SumsUp part_of_till most_tills t.sums.tills.items sales.now) }
-    ensures by_hour { IfOk result (λ t. SumsUp part_of_hour hours_of_day t.sums.hours.items sales.now) }
-    ensures points { IfOk result (λ t. t.points.items ≡ points.items) }
-    ensures unpaid { IfOk result (λ t. t.unpaid.items ≡ unpaid_of points.items) }
-    ensures unpaid_cents { IfOk result
-        (λ t. t.unpaid_cents ≡ sum_by (λ (u : Unpaid). u.amount) (unpaid_of points.items)) }
-{
-    let sums = sums_of(alloc, sales, count)?;
-    let unpaid = unpaid_of(alloc, &points)?;
-    Ok(SalesTotals {
-        sold: sum_of(sales, SalesPart::All),
-        sums,
-        points,
-        unpaid_cents: cents_of(&unpaid),
-        unpaid,
     })
 }
 
@@ -328,17 +246,16 @@ fn numbers_of(
         .collect(alloc)
 }
 
-fn versions_in(alloc: Global, config: &Config, entries: &[Entry]) -> Result<Versions, AllocError>
+fn versions_in(alloc: Global, config: &Config, loads: &[Load]) -> Result<Versions, AllocError>
     ensures carried { IfOk result (λ v. v.carried.items ≡ carried_rules config.now) }
-    ensures loads { IfOk result (λ v. v.loads.items ≡ loads 0 entries.now) }
-    ensures numbers { IfOk result (λ v. v.numbers.items ≡ versions_of config.now entries.now) }
+    ensures loads { IfOk result (λ v. v.loads.items ≡ loads.now) }
+    ensures numbers { IfOk result (λ v. v.numbers.items ≡ version_numbers config.now loads.now) }
 {
     let carried = carried_rules(alloc, config)?;
-    let loads = loads(alloc, entries)?;
-    let numbers = numbers_of(alloc, &carried, &loads)?;
+    let numbers = numbers_of(alloc, &carried, loads)?;
     Ok(Versions {
         carried,
-        loads,
+        loads: Vec::from_slice(alloc, loads)?,
         numbers,
     })
 }
@@ -352,92 +269,51 @@ struct Decided {
     verdicts: Verdicts,
 }
 
-fn decided_in(alloc: Global, versions: &[u32], entries: &[Entry]) -> Result<Decided, AllocError>
-    requires { length entries.now ≤ ENTRIES }
-    ensures granted { IfOk result
-        (λ d. d.granted ≡ count_by (λ (d : Decision). d.is_granted) (filter_map decision_of entries.now)) }
-    ensures denied { IfOk result
-        (λ d. d.denied ≡ count_by (λ (d : Decision). not d.is_granted) (filter_map decision_of entries.now)) }
+fn decided_in(
+    alloc: Global,
+    versions: &[u32],
+    decisions: &[Decision],
+) -> Result<Decided, AllocError>
+    ensures granted { IfOk result (λ d. d.granted ≡ count_by (λ (d : Decision). d.is_granted) decisions.now) }
+    ensures denied { IfOk result (λ d. d.denied ≡ count_by (λ (d : Decision). not d.is_granted) decisions.now) }
     ensures releases { IfOk result
-        (λ d. HasOutcomes deciding.Releases versions.now (filter_map decision_of entries.now) d.verdicts.releases) }
-    ensures presets { IfOk result
-        (λ d. HasOutcomes deciding.Presets versions.now (filter_map decision_of entries.now) d.verdicts.presets) }
-    ensures prices { IfOk result
-        (λ d. HasOutcomes deciding.Prices versions.now (filter_map decision_of entries.now) d.verdicts.prices) }
+        (λ d. HasOutcomes deciding.Releases versions.now decisions.now d.verdicts.releases) }
+    ensures presets { IfOk result (λ d. HasOutcomes deciding.Presets versions.now decisions.now d.verdicts.presets) }
+    ensures prices { IfOk result (λ d. HasOutcomes deciding.Prices versions.now decisions.now d.verdicts.prices) }
     ensures tills { IfOk result
-        (λ d. DecidedByTills most_tills versions.now (filter_map decision_of entries.now) d.verdicts.tills.items) }
+        (λ d. DecidedByTills most_tills versions.now decisions.now d.verdicts.tills.items) }
 {
-    let decisions = decisions(alloc, entries)?;
-    let verdicts = verdicts_of(alloc, &decisions, versions)?;
+    let verdicts = verdicts_of(alloc, decisions, versions)?;
     Ok(Decided {
-        granted: count_outcome(&decisions, true),
-        denied: count_outcome(&decisions, false),
+        granted: count_outcome(decisions, true),
+        denied: count_outcome(decisions, false),
         verdicts,
     })
 }
 
-/// Returns the totals of the history of a site of this configuration: of its entries, of which there must be at most
-/// 1,048,576, of its sales, and of the points after the last entry. The error is that memory ran out.
-pub fn add_up(
-    alloc: Global,
-    config: &Config,
-    entries: &[Entry],
-    sales: &[Sale],
-    points: Vec<Point>,
-) -> Result<Totals, AllocError>
-    requires { length entries.now ≤ ENTRIES }
-    ensures entries { IfOk result (λ t. t.entries ≡ length entries.now) }
-    ensures sold { IfOk result (λ t. IsSum t.sold part.All sales.now) }
-    ensures by_point { IfOk result
-        (λ t. SumsUp part_of_point (length config.now.points) t.by_point.items sales.now) }
-    ensures by_till { IfOk result (λ t. SumsUp part_of_till most_tills t.by_till.items sales.now) }
-    ensures by_hour { IfOk result (λ t. SumsUp part_of_hour hours_of_day t.by_hour.items sales.now) }
-    ensures points { IfOk result (λ t. t.points.items ≡ points.items) }
-    ensures refused { IfOk result (λ t. CountsRefusals t.refused.items (filter_map refusal_of entries.now)) }
-    ensures carried { IfOk result (λ t. t.carried.items ≡ carried_rules config.now) }
-    ensures loads { IfOk result (λ t. t.loads.items ≡ loads 0 entries.now) }
-    ensures versions { IfOk result (λ t. t.versions.items ≡ versions_of config.now entries.now) }
-    ensures prices { IfOk result (λ t. t.prices.items ≡ filter_map price_change_of entries.now) }
-    ensures unpaid { IfOk result (λ t. t.unpaid.items ≡ unpaid_of points.items) }
-    ensures unpaid_cents { IfOk result
-        (λ t. t.unpaid_cents
-        ≡ sum_by (λ (u : Unpaid). u.amount) (unpaid_of points.items)) }
-    ensures granted { IfOk result
-        (λ t. t.granted ≡ count_by (λ (d : Decision). d.is_granted) (filter_map decision_of entries.now)) }
-    ensures denied { IfOk result
-        (λ t. t.denied ≡ count_by (λ (d : Decision). not d.is_granted) (filter_map decision_of entries.now)) }
-    ensures tills { IfOk result
-        (λ t. DecidedByTills most_tills (versions_of config.now entries.now) (filter_map decision_of entries.now)
-        t.tills.items) }
-    ensures releases { IfOk result
-        (λ t. HasOutcomes deciding.Releases (versions_of config.now entries.now)
-        (filter_map decision_of entries.now) t.releases) }
-    ensures presets { IfOk result
-        (λ t. HasOutcomes deciding.Presets (versions_of config.now entries.now)
-        (filter_map decision_of entries.now) t.presets) }
-    ensures price_requests { IfOk result
-        (λ t. HasOutcomes deciding.Prices (versions_of config.now entries.now)
-        (filter_map decision_of entries.now) t.price_requests) }
+/// Returns the totals of a replayed history. The error is that memory ran out.
+pub fn add_up(alloc: Global, replayed: &Replayed<DayWatch>) -> Result<Totals, AllocError>
+    ensures { IfOk result
+        (λ t. (history : List Entry) → IsDay replayed.now history
+        → IsTotals replayed.now.head.config history replayed.now.head.state.points t) }
 {
-    let prices = price_changes(alloc, entries)?;
-    let refused = refused_in(alloc, entries)?;
-    let takings = takings_of(alloc, sales, points, config.points().len())?;
-    let versions = versions_in(alloc, config, entries)?;
-    let decided = decided_in(alloc, &versions.numbers, entries)?;
+    let head = replayed.head();
+    let (sums, rulings) = (&replayed.seen().first, &replayed.seen().second.first);
+    let points = head.points();
+    let unpaid = unpaid_of(alloc, points)?;
+    let versions = versions_in(alloc, head.config(), &rulings.loads)?;
+    let decided = decided_in(alloc, &versions.numbers, &rulings.decisions)?;
     Ok(Totals {
-        entries: entries.len(),
-        sold: takings.sold,
-        by_point: takings.sums.points,
-        by_till: takings.sums.tills,
-        by_hour: takings.sums.hours,
-        points: takings.points,
-        refused,
+        entries: head.count(),
+        sums: *sums,
+        points: Vec::from_slice(alloc, points)?,
+        refused: refusal_counts(alloc, &rulings.refusals)?,
         carried: versions.carried,
         loads: versions.loads,
         versions: versions.numbers,
-        prices,
-        unpaid: takings.unpaid,
-        unpaid_cents: takings.unpaid_cents,
+        prices: Vec::from_slice(alloc, &rulings.prices)?,
+        unpaid_cents: cents_of(&unpaid),
+        unpaid,
         granted: decided.granted,
         denied: decided.denied,
         releases: decided.verdicts.releases,

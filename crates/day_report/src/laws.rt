@@ -1,7 +1,7 @@
 //! Laws about the totals of a history.
 
 ghost use Rattle.day_report.specs.Deliveries.{SalesHaveTheirDeliveries};
-ghost use Rattle.day_report.specs.Laws.{SalesAgreeWithTheSite, VersionsCountAllDecisions};
+ghost use Rattle.day_report.specs.Laws.{PartsComeToTheWhole, SalesAgreeWithTheSite, VersionsCountAllDecisions};
 
 /// Does nothing. Its contract is a law: the sales in the journal of a site agree with the site's own state.
 ///
@@ -28,4 +28,10 @@ pub fn law_of_decisions()
 ///   have no opening, or an opening whose points are all valid (`IsPointState`).
 pub fn law_of_deliveries()
     ensures { SalesHaveTheirDeliveries }
+{}
+
+/// Does nothing. Its contract is a law: sums that add up sales at points 1 to 32 have, at all points together, the
+/// number, the cents and the centilitres of all sales. So have the tills if all sales are by tills 1 to 64.
+pub fn law_of_sums()
+    ensures { PartsComeToTheWhole }
 {}

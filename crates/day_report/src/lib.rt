@@ -5,18 +5,20 @@
 pub mod adding;
 pub mod counting;
 pub mod laws;
-pub mod loading;
+mod loading;
 pub mod opening;
 mod pushing;
 pub mod rulings;
 pub mod sales;
 pub mod steps;
+pub mod sums;
 
-pub use adding::{CarriedIn, MAX_TILLS, Totals, Unpaid};
+pub use adding::{CarriedIn, DayWatch, MAX_TILLS, Totals, Unpaid};
 pub use counting::{DecisionPart, Outcomes};
 pub use decision_journal::{FIRST_REFUSAL, REFUSALS};
 pub use loading::Load;
 pub use opening::CarriedRule;
-pub use rulings::{Decision, PriceChange, RequestKind};
+pub use rulings::{Decision, PriceChange, RequestKind, Rulings};
 pub use sales::{Delivery, Sale, Sales, SalesPart, Sum};
 pub use steps::{Axis, Bands, Mark, Marks};
+pub use sums::Sums;

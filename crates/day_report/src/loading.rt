@@ -1,11 +1,9 @@
 //! The loads of programs in a history.
 
-ghost use Rattle.std.specs.Prelude.{◌≡◌, [], IfOk, IsOk};
-ghost use Rattle.day_report.specs.Decisions.{load_of, loads, moment_after};
+ghost use Rattle.std.specs.Prelude.{◌≡◌};
+ghost use Rattle.day_report.specs.Decisions.{load_of, moment_after};
 
-use crate::pushing::push_some;
 use decision_journal::Entry;
-use std::alloc::{AllocError, Global};
 use till_request::{Act, Reply};
 
 /// An accepted load of a program: the number of its entry, its slot and its version. The entry of a load has no time.
@@ -19,7 +17,7 @@ pub struct Load {
 }
 
 #[tactic(auto, unfolding(crate::specs::Decisions::load_of))]
-fn load_of(moment: u64, entry: &Entry) -> Option<Load>
+pub(crate) fn load_of(moment: u64, entry: &Entry) -> Option<Load>
     ensures { result ≡ load_of moment entry.now }
 {
     match &entry.act {
@@ -38,7 +36,7 @@ fn load_of(moment: u64, entry: &Entry) -> Option<Load>
 
 /// Returns the moment of an entry (its time in seconds), or `moment` if the entry has none. `moment` is the moment of
 /// the last earlier entry that has one, or 0 if none has.
-fn moment_after(moment: u64, entry: &Entry) -> u64
+pub(crate) fn moment_after(moment: u64, entry: &Entry) -> u64
     ensures { result ≡ moment_after moment entry.now }
 {
     if entry.moment == 0 {
@@ -46,19 +44,4 @@ fn moment_after(moment: u64, entry: &Entry) -> u64
     } else {
         entry.moment
     }
-}
-
-/// Returns the accepted loads of programs in the entries, oldest first. The error is that memory ran out. Without a
-/// load there is no error.
-pub fn loads(alloc: Global, entries: &[Entry]) -> Result<Vec<Load>, AllocError>
-    ensures found { IfOk result (λ found. found.items ≡ loads 0 entries.now) }
-    ensures none { loads 0 entries.now ≡ [] → IsOk result }
-{
-    let mut found = Vec::new(alloc);
-    let mut moment = 0;
-    for entry in entries {
-        push_some(&mut found, load_of(moment, entry))?;
-        moment = moment_after(moment, entry);
-    }
-    Ok(found)
 }

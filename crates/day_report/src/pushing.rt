@@ -1,5 +1,5 @@
-//! The function that adds an optional item to a list.
-ghost use Rattle.std.specs.Prelude.{◌≡◌, ◌++◌, IsOk, None, OnOk, option_to_list};
+//! The functions that add an optional item to a list.
+ghost use Rattle.std.specs.Prelude.{◌≡◌, ◌++◌, ◌<◌, IsOk, None, OnOk, option_to_list, vec_capacity, vec_len};
 
 use std::alloc::AllocError;
 
@@ -16,4 +16,14 @@ pub(crate) fn push_some<T: Copy + Drop>(
         items.push(item)?;
     }
     Ok(())
+}
+
+/// Adds the item, unless it is `None`, at the end of the list, which must have room for it.
+pub(crate) fn push_ready<T: Copy + Drop>(items: &mut Vec<T>, item: Option<T>)
+    requires { vec_len items.old < vec_capacity items.old }
+    ensures { items.new.items ≡ items.old.items ++ option_to_list item }
+{
+    if let Some(item) = item {
+        items.push_reserved(item);
+    }
 }

@@ -2,7 +2,6 @@
 
 ghost use Rattle.std.specs.Prelude.{◌≡◌, ◌<◌, find, vec_capacity, vec_len};
 ghost use Rattle.day_report.specs.Sales.{clearing_of, delivery_of, ended_at, ended_by, is_delivery_of, price_of, sale_of, uncleared, unpaid_at, without};
-ghost use Rattle.day_report.specs.Totals.{is_in, count_in, cents_in, centilitres_in};
 
 use decision_journal::Entry;
 use fuelling_point::{Point, Transaction};
@@ -149,7 +148,7 @@ fn delivery_of(unpaid: &[Ended], n: u32, transaction: u32) -> Option<Delivery>
 /// Returns the sale that an entry made, or `None` if it made none. `unpaid` are the deliveries that weren't cleared
 /// before it.
 #[tactic(auto, unfolding(crate::specs::Sales::sale_of))]
-fn sale_of(unpaid: &[Ended], entry: &Entry, change: &Change) -> Option<Sale>
+pub(crate) fn sale_of(unpaid: &[Ended], entry: &Entry, change: &Change) -> Option<Sale>
     ensures { result ≡ sale_of unpaid.now (record { entry = entry.now; change = change.now }) }
 {
     let clearing = clearing_of(&entry.act, &entry.reply)?;
@@ -199,12 +198,10 @@ impl Sales {
 }
 
 impl Observer for Sales {
-    ghost use Rattle.std.specs.Prelude.{fold, refl};
-    ghost use Rattle.day_report.specs.Sales.{sales_after, sales_value};
+    ghost use Rattle.std.specs.Prelude.{fold};
+    ghost use Rattle.day_report.specs.Sales.{no_sales, sales_after, sales_value};
 
-    ghost saw = { λ before after steps. sales_value after ≡ fold sales_after (sales_value before) steps };
-
-    ghost saw_none = { λ _. refl };
+    ghost has_seen = { λ s steps. sales_value s ≡ fold sales_after no_sales steps };
 
     ghost is_ready = { λ s. (vec_len s.sales < vec_capacity s.sales) × (vec_len s.unpaid < vec_capacity s.unpaid) };
 
@@ -245,36 +242,4 @@ pub struct Sum {
     pub count: u64,
     pub cents: u128,
     pub centilitres: u128,
-}
-
-fn is_in(part: SalesPart, sale: &Sale) -> bool
-    ensures { result ≡ is_in part sale.now }
-{
-    match part {
-        SalesPart::All => true,
-        SalesPart::Point(n) => sale.point == n,
-        SalesPart::Till(till) => sale.till == till,
-        SalesPart::Hour(hour) => sale.moment != 0 && sale.moment / 3600 % 24 == hour as u64,
-    }
-}
-
-/// Returns how many of the sales are in this part, and their totals in cents and in centilitres.
-pub fn sum_of(sales: &[Sale], part: SalesPart) -> Sum
-    ensures count { result.count ≡ count_in part sales.now }
-    ensures cents { result.cents ≡ cents_in part sales.now }
-    ensures centilitres { result.centilitres ≡ centilitres_in part sales.now }
-{
-    let mut sum = Sum {
-        count: 0,
-        cents: 0,
-        centilitres: 0,
-    };
-    for sale in sales {
-        if is_in(part, sale) {
-            sum.count += 1;
-            sum.cents += sale.amount as u128;
-            sum.centilitres += sale.volume as u128;
-        }
-    }
-    sum
 }

@@ -57,13 +57,7 @@ impl Marks {
 }
 
 impl Observer for Marks {
-    ghost use Rattle.std.specs.Prelude.{◌++◌};
-    ghost use Rattle.std.proofs.Common.{sym};
-    ghost use Rattle.std.proofs.lemmas.List.{append-nil};
-
-    ghost saw = { λ before after steps. after.marks.items ≡ before.marks.items ++ map mark_of steps };
-
-    ghost saw_none = { λ observer. sym (append-nil observer.marks.items) };
+    ghost has_seen = { λ m steps. m.marks.items ≡ map mark_of steps };
 
     ghost is_ready = { λ observer. vec_len observer.marks < vec_capacity observer.marks };
 

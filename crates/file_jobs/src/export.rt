@@ -9,8 +9,8 @@ use crate::audited::audited_site;
 use command_line::{Format, Rows};
 use day_export::RowsFault;
 use day_export::writing::write_rows;
-use day_report::{Sale, Sales};
-use decision_journal::Entry;
+use day_report::Sales;
+use site_core::Watched;
 use site_files::job_error::printed;
 use site_files::{JobError, SiteFiles};
 use std::io::{self, BufWriter, Write};
@@ -27,14 +27,8 @@ pub fn export_files(
     ensures { IsTrue (reads_twice site.entry.config.now (option_map (λ w. w.now) site.entry.opening) journal.now)
         → IsErrAnd result (Ends 2 []) }
 {
-    let (site, seen) = audited_site(rt, site, journal, Sales::new(rt.alloc()))?;
-    print_rows(
-        rt,
-        &seen.sales,
-        site.history(),
-        rows_of(rows),
-        format_of(format),
-    )
+    let day = audited_site(rt, site, journal, Sales::new(rt.alloc()))?;
+    print_rows(rt, &day, rows_of(rows), format_of(format))
 }
 
 fn rows_of(rows: Rows) -> day_export::Rows
@@ -58,8 +52,7 @@ fn format_of(format: Format) -> day_export::Format
 
 fn print_rows(
     rt: &HostRuntime,
-    sales: &[Sale],
-    entries: &[Entry],
+    day: &Watched<Sales>,
     rows: day_export::Rows,
     format: day_export::Format,
 ) -> Result<(), JobError>
@@ -68,7 +61,7 @@ fn print_rows(
     let Ok(output) = BufWriter::new(rt.alloc(), io::writer(rt)) else {
         return Err(JobError::OutOfMemory);
     };
-    let written = match write_rows(rt.alloc(), sales, entries, rows, format, output) {
+    let written = match write_rows(rt.alloc(), day, rows, format, output) {
         Ok(mut output) => output.flush(),
         Err(RowsFault::Io(error)) => Err(error),
         Err(RowsFault::OutOfMemory) => return Err(JobError::OutOfMemory),

@@ -3,10 +3,11 @@ ghost use Rattle.std.specs.Prelude.{[], IfErr, IsErrAnd, IsTrue, option_map};
 ghost use Rattle.site_files.specs.Asked.{reads_twice};
 ghost use Rattle.site_files.specs.JobErrors.{Ends};
 
-use crate::audited::audited_site;
+use crate::audited::replayed;
 use day_page::Page;
-use day_report::{Marks, Sales};
-use site_core::{Both, Site};
+use day_report::DayWatch;
+use day_report::adding::watch_day;
+use site_core::Replayed;
 use site_files::job_error::printed;
 use site_files::{JobError, SiteFiles};
 use std::io::{self, BufWriter, Write};
@@ -18,18 +19,14 @@ pub fn report_files(rt: &HostRuntime, site: SiteFiles<'_>, journal: &str) -> Res
     ensures { IsTrue (reads_twice site.entry.config.now (option_map (λ w. w.now) site.entry.opening) journal.now)
         → IsErrAnd result (Ends 2 []) }
 {
-    let seen = Both {
-        first: Sales::new(rt.alloc()),
-        second: Marks::new(rt.alloc()),
-    };
-    let (site, seen) = audited_site(rt, site, journal, seen)?;
-    print_page(rt, &site, &seen)
+    let day = replayed(rt, site, journal, watch_day(rt.alloc()))?;
+    print_page(rt, &day)
 }
 
-fn print_page(rt: &HostRuntime, site: &Site, seen: &Both<Sales, Marks>) -> Result<(), JobError>
+fn print_page(rt: &HostRuntime, day: &Replayed<DayWatch>) -> Result<(), JobError>
     ensures { IfErr result (Ends 3 []) }
 {
-    let page = Page::of(rt.alloc(), site, seen)?;
+    let page = Page::of(rt.alloc(), day)?;
     let Ok(mut output) = BufWriter::new(rt.alloc(), io::writer(rt)) else {
         return Err(JobError::OutOfMemory);
     };

@@ -98,7 +98,7 @@ decided-iff-run : (config : ConfigValue) (past : List Entry) (s : SiteState) (ti
 decided-iff-run config past s till moment (Ok q) undecided = version-iff-run config past s till moment q (in_force config q.slot past) refl
 decided-iff-run config past s till moment (Err r) undecided = subst DecidedIffRun (sym (decided-refused config past s till moment r)) undecided
 
-fault-no : (f : PointFault) → is_decided (fault_reply f) ≡ false
+pub fault-no : (f : PointFault) → is_decided (fault_reply f) ≡ false
 fault-no (WrongState state) = refl
 fault-no TransactionsFull = refl
 fault-no NotYourTransaction = refl
@@ -116,7 +116,7 @@ till_command_effect-iff-run s till n c None at = subst DecidedIffRun (sym (till_
 till_command_effect-iff-run s till n c (Some p) at =
     subst DecidedIffRun (sym (till_command_effect-some s till n c p at)) (command-iff-run s n (command_step p till c))
 
-order-no : (order : Option Order) → is_decided (order_reply order) ≡ false
+pub order-no : (order : Option Order) → is_decided (order_reply order) ≡ false
 order-no None = refl
 order-no (Some order) = refl
 
@@ -129,7 +129,7 @@ dispenser_effect-iff-run : (s : SiteState) (n : ℕ) (event : DispenserEvent) (o
 dispenser_effect-iff-run s n event None at = subst DecidedIffRun (sym (dispenser_effect-none s n event at)) refl
 dispenser_effect-iff-run s n event (Some p) at = subst DecidedIffRun (sym (dispenser_effect-some s n event p at)) (event-iff-run s n (event_step p event))
 
-show-no : (s : SiteState) (n : ℕ) (o : Option PointState) → at_number s.points n ≡ o → is_decided (show_reply s n) ≡ false
+pub show-no : (s : SiteState) (n : ℕ) (o : Option PointState) → at_number s.points n ≡ o → is_decided (show_reply s n) ≡ false
 unfolding show_reply
 show-no s n None at = rw (at, show_reply) refl
 show-no s n (Some p) at = rw (at, show_reply) refl

@@ -22,4 +22,5 @@ pub mod Asked
 pub mod Outside
 pub mod Days
 pub mod Heads
+pub mod Replays
 pub mod Steps

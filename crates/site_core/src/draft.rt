@@ -11,7 +11,7 @@ use crate::comparing::{
     is_version,
 };
 use crate::config::Config;
-use crate::events::Answered;
+use crate::events::{Answered, point_asked};
 use crate::perform::{asked_question, routed};
 use crate::question::Question;
 use crate::station::Station;
@@ -312,6 +312,14 @@ impl Ready {
     ghost use Rattle.site_core.specs.Differences.{IsFresh};
     ghost use Rattle.site_core.specs.Asked.{DiffersIfStale, basis_in};
     ghost use Rattle.site_core.specs.Outside.{IsRunOf};
+    ghost use Rattle.site_core.specs.Steps.{point_asked};
+
+    /// Returns the number of the point that the till's request names, or 0 if it names none.
+    pub fn point(&self) -> u32
+        ensures { result ≡ point_asked self.now.draft.request }
+    {
+        point_asked(&self.draft.request)
+    }
 
     /// Returns the memory and the program of the run, for another draft.
     pub fn into_draft_memory(self) -> DraftMemory {

@@ -22,6 +22,7 @@ mod same;
 mod seeing;
 mod site;
 mod station;
+mod watched;
 mod why;
 
 pub use auditing::AuditFault;
@@ -35,4 +36,5 @@ pub use head::Head;
 pub use observer::{Both, Change, Observer, Unwatched};
 pub use opening::{Opening, OpeningFault};
 pub use site::Site;
+pub use watched::{Replayed, Watched};
 pub use why::Why;

@@ -23,27 +23,23 @@ pub trait Observer {
     ghost use Rattle.decision_journal.specs.Journal.{IsEntry};
     ghost use Rattle.site_core.specs.Steps.{StepValue};
 
-    /// For proofs: says of two states of an observer that it gets from the first to the second by seeing these steps, in
-    /// order.
-    ghost saw: { Self → Self → List StepValue → Type 0 };
-
-    /// For proofs: seeing no step changes nothing.
-    ghost saw_none: { (observer : Self) → saw observer observer [] };
+    /// For proofs: the observer has seen these steps, in order, and no others.
+    ghost has_seen: { Self → List StepValue → Type 0 };
 
     /// For proofs: the observer has memory for one more step.
     ghost is_ready: { Self → Type 0 };
 
     /// Makes room for what the next step may show. The error is that memory ran out.
     fn make_ready(&mut self) -> Result<(), AllocError>
-        ensures kept { (before : Self) (steps : List StepValue) → saw before self.old steps → saw before self.new steps }
+        ensures kept { (steps : List StepValue) → has_seen self.old steps → has_seen self.new steps }
         ensures ready { OnOk result (is_ready self.new) };
 
     /// Sees a step: an entry, the text of its line without LF, and what the entry changed. Takes no memory.
     fn see(&mut self, line: &[u8], entry: &Entry, change: &Change)
         requires text { IsEntry line.now entry.now }
         requires ready { is_ready self.old }
-        ensures seen { (before : Self) (steps : List StepValue) → saw before self.old steps
-            → saw before self.new (steps ++ (record { entry = entry.now; change = change.now }) ∷ []) };
+        ensures seen { (steps : List StepValue) → has_seen self.old steps
+            → has_seen self.new (steps ++ (record { entry = entry.now; change = change.now }) ∷ []) };
 }
 
 /// The observer of a replay that nobody watches.
@@ -51,9 +47,7 @@ pub trait Observer {
 pub struct Unwatched;
 
 impl Observer for Unwatched {
-    ghost saw = { λ _ _ _. Unit {0} };
-
-    ghost saw_none = { λ _. tt };
+    ghost has_seen = { λ _ _. Unit {0} };
 
     ghost is_ready = { λ _. Unit {0} };
 
@@ -72,9 +66,7 @@ pub struct Both<A, B> {
 }
 
 impl<A: Observer, B: Observer> Observer for Both<A, B> {
-    ghost saw = { λ before after steps. A.saw before.first after.first steps × B.saw before.second after.second steps };
-
-    ghost saw_none = { λ both. (A.saw_none both.first, B.saw_none both.second) };
+    ghost has_seen = { λ both steps. A.has_seen both.first steps × B.has_seen both.second steps };
 
     ghost is_ready = { λ both. A.is_ready both.first × B.is_ready both.second };
 

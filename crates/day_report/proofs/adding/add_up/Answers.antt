@@ -1,64 +1,66 @@
-use Rattle.std.proofs.Common.{◌∙◌, ℕ, List, length, subst}
+use Rattle.std.proofs.Common.{◌≡◌, List, ℕ, ap, ◌∙◌, subst, sym}
+use Rattle.std.specs.Prelude.{count_by, not, sum_by}
 use Rattle.std.specs.List.{filter_map}
+use Rattle.site_core.specs.Heads.{HeadValue}
+use Rattle.site_core.specs.declared.observer.Both.{Both}
+use Rattle.day_report.specs.Carried.{carried_rules}
 use Rattle.day_report.specs.Decisions.{decision_of}
-use Rattle.day_report.specs.Totals.{DecidedByTills, HasOutcomes, SumsUp, most_tills, part_of_point}
+use Rattle.day_report.specs.Sales.{sales_of}
+use Rattle.day_report.specs.Sums.{AddsUp}
+use Rattle.day_report.specs.Totals.{CountsRefusals, DecidedByTills, HasOutcomes, most_tills, unpaid_of, version_numbers, versions_of}
+use Rattle.day_report.specs.declared.adding.Unpaid.{Unpaid}
+use Rattle.day_report.specs.declared.counting.DecisionPart.{DecisionPart}
 use Rattle.day_report.specs.declared.counting.DecisionPart.TheVariants as deciding
+use Rattle.day_report.specs.declared.counting.Outcomes.{Outcomes}
+use Rattle.day_report.specs.declared.rulings.Decision.{Decision}
+use Rattle.day_report.specs.declared.rulings.Rulings.{Rulings}
+use Rattle.day_report.specs.declared.steps.Marks.{Marks}
+use Rattle.day_report.specs.declared.sums.Sums.{Sums}
 use Rattle.day_report.proofs.adding.add_up.Goals as goal
 
-pub returns-clause-sold : goal.returns-clause-sold
-returns-clause-sold c = c.in_ok-takings.ensures.sold
+abbrev Seen : Type 0
+Seen = Both Sums (Both Rulings Marks)
 
-pub returns-clause-by_point : goal.returns-clause-by_point
-returns-clause-by_point c =
-    subst (λ (ps : List (ℕ × ℕ)). SumsUp part_of_point (length ps) c.in_ok-takings.takings.sums.points.items c.args.sales.now) c.points.ensures.points
-    c.in_ok-takings.ensures.by_point
+-- outcomes of equal versions and decisions
+same-outcomes : (part : DecisionPart) (old new : List ℕ) (had have : List Decision) (found : Outcomes) → old ≡ new → had ≡ have
+    → HasOutcomes part old had found → HasOutcomes part new have found
+same-outcomes part old new had have found versions decisions h =
+    subst (λ ds. HasOutcomes part new ds found) decisions (subst (λ vs. HasOutcomes part vs had found) versions h)
 
-pub returns-clause-by_till : goal.returns-clause-by_till
-returns-clause-by_till c = c.in_ok-takings.ensures.by_till
-
-pub returns-clause-by_hour : goal.returns-clause-by_hour
-returns-clause-by_hour c = c.in_ok-takings.ensures.by_hour
-
-pub returns-clause-points : goal.returns-clause-points
-returns-clause-points c = c.in_ok-takings.ensures.points
-
-pub returns-clause-unpaid : goal.returns-clause-unpaid
-returns-clause-unpaid c = c.in_ok-takings.ensures.unpaid
-
-pub returns-clause-unpaid_cents : goal.returns-clause-unpaid_cents
-returns-clause-unpaid_cents c = c.in_ok-takings.ensures.unpaid_cents
-
-pub returns-clause-carried : goal.returns-clause-carried
-returns-clause-carried c = c.in_ok-versions.ensures.carried
-
-pub returns-clause-loads : goal.returns-clause-loads
-returns-clause-loads c = c.in_ok-versions.ensures.loads
-
-pub returns-clause-versions : goal.returns-clause-versions
-returns-clause-versions c = c.in_ok-versions.ensures.numbers
-
-pub returns-clause-granted : goal.returns-clause-granted
-returns-clause-granted c = c.in_ok-decided.ensures.granted
-
-pub returns-clause-denied : goal.returns-clause-denied
-returns-clause-denied c = c.in_ok-decided.ensures.denied
-
-pub returns-clause-releases : goal.returns-clause-releases
-returns-clause-releases c =
-    subst (λ ns. HasOutcomes deciding.Releases ns (filter_map decision_of c.args.entries.now) c.in_ok-decided.decided.verdicts.releases)
-    (c.deref.ensures.value ∙ c.in_ok-versions.ensures.numbers) c.in_ok-decided.ensures.releases
-
-pub returns-clause-presets : goal.returns-clause-presets
-returns-clause-presets c =
-    subst (λ ns. HasOutcomes deciding.Presets ns (filter_map decision_of c.args.entries.now) c.in_ok-decided.decided.verdicts.presets)
-    (c.deref.ensures.value ∙ c.in_ok-versions.ensures.numbers) c.in_ok-decided.ensures.presets
-
-pub returns-clause-price_requests : goal.returns-clause-price_requests
-returns-clause-price_requests c =
-    subst (λ ns. HasOutcomes deciding.Prices ns (filter_map decision_of c.args.entries.now) c.in_ok-decided.decided.verdicts.prices)
-    (c.deref.ensures.value ∙ c.in_ok-versions.ensures.numbers) c.in_ok-decided.ensures.prices
-
-pub returns-clause-tills : goal.returns-clause-tills
-returns-clause-tills c =
-    subst (λ ns. DecidedByTills most_tills ns (filter_map decision_of c.args.entries.now) c.in_ok-decided.decided.verdicts.tills.items)
-    (c.deref.ensures.value ∙ c.in_ok-versions.ensures.numbers) c.in_ok-decided.ensures.tills
+pub returns : goal.returns
+returns c = λ history day.
+    let head = c.args.replayed.now.head in
+    let same = c.head-head.ensures.same in
+    let rulings = c.seen-2.ensures.same in
+    let points = c.points-points.ensures ∙ ap (λ (h : HeadValue). h.state.points) same in
+    let config = c.config.ensures ∙ ap (λ (h : HeadValue). h.config) same in
+    let have = filter_map decision_of history in
+    let decided = c.in_ok-decided.ensures in
+    let found = c.in_ok-decided.decided.verdicts in
+    let old = c.in_ok-versions.versions.numbers.items in
+    let new = versions_of head.config history in
+    let loads = c.deref.ensures.value ∙ ap (λ (s : Seen). s.second.first.loads.items) rulings ∙ day.rulings_are.loads in
+    let versions : old ≡ new = c.in_ok-versions.ensures.numbers ∙ (λ i. version_numbers (config i) (loads i)) in
+    let unpaid = c.in_ok-unpaid.ensures.found ∙ ap unpaid_of points in
+    let decisions = c.deref-3.ensures.value ∙ ap (λ (s : Seen). s.second.first.decisions.items) rulings ∙ day.rulings_are.decisions in
+    let listed = c.deref-2.ensures.value ∙ versions in
+    record {
+      entries = c.count.ensures ∙ ap (λ (h : HeadValue). h.count) same ∙ day.leads.count;
+      sums_are = subst (λ (s : Seen). AddsUp s.first (sales_of head.config history)) (sym c.seen.ensures.same) day.sums_are;
+      points_are = c.in_ok-from_slice.ensures.items ∙ points;
+      refused = subst (CountsRefusals c.in_ok-refusal_counts.field-0.items) (c.deref-4.ensures.value ∙ ap (λ (s : Seen). s.second.first.refusals.items) rulings ∙ day.rulings_are.refusals)
+          c.in_ok-refusal_counts.ensures;
+      carried = c.in_ok-versions.ensures.carried ∙ ap carried_rules config;
+      loads_are = c.in_ok-versions.ensures.loads ∙ loads;
+      versions = versions;
+      prices = c.in_ok-from_slice-2.ensures.items ∙ c.deref-5.ensures.value ∙ ap (λ (s : Seen). s.second.first.prices.items) rulings ∙ day.rulings_are.prices;
+      unpaid = unpaid;
+      unpaid_cents = c.cents_of.ensures ∙ ap (λ us. sum_by (λ (u : Unpaid). u.amount) us) (c.deref-6.ensures.value ∙ unpaid);
+      granted = decided.granted ∙ ap (λ ds. count_by (λ (d : Decision). d.is_granted) ds) decisions;
+      denied = decided.denied ∙ ap (λ ds. count_by (λ (d : Decision). not d.is_granted) ds) decisions;
+      releases = same-outcomes deciding.Releases c.deref-2.result.now new c.deref-3.result.now have found.releases listed decisions decided.releases;
+      presets = same-outcomes deciding.Presets c.deref-2.result.now new c.deref-3.result.now have found.presets listed decisions decided.presets;
+      price_requests = same-outcomes deciding.Prices c.deref-2.result.now new c.deref-3.result.now have found.prices listed decisions decided.prices;
+      tills = subst (λ ds. DecidedByTills most_tills new ds found.tills.items) decisions
+          (subst (λ vs. DecidedByTills most_tills vs c.deref-3.result.now found.tills.items) listed decided.tills);
+    }

@@ -1,0 +1,129 @@
+//! What the sales of a history come to, counted while the history grows.
+
+ghost use Rattle.std.specs.Prelude.{◌≡◌, ◌↔◌, ◌<◌, ◌^◌, ◌++◌, ◌∷◌, [], List, OnErr, OnOk, true};
+ghost use Rattle.site_core.specs.Steps.{StepValue};
+ghost use Rattle.day_report.specs.Sales.{sales_in};
+ghost use Rattle.day_report.specs.Sums.{AddsUp, HasRoom, hour_number, no_sum, plus, plus_at, with_sale};
+
+use crate::sales::{Sale, Sum, sale_of};
+use decision_journal::Entry;
+use site_core::{Change, Observer};
+use std::alloc::AllocError;
+
+const NO_SUM: Sum = Sum {
+    count: 0,
+    cents: 0,
+    centilitres: 0,
+};
+
+/// What the sales of a history come to so far: all of them, those at each of the points 1 to 32, those that each of the
+/// tills 1 to 64 cleared, and those in each of the hours 0 to 23 of the day, in UTC. A sale without a moment is in no
+/// hour.
+#[derive(Clone, Copy)]
+pub struct Sums {
+    pub all: Sum,
+    pub points: [Sum; 32],
+    pub tills: [Sum; 64],
+    pub hours: [Sum; 24],
+}
+
+/// Returns the sum with one sale more, of this amount and volume. A number that would be too great stays its greatest.
+fn plus(sum: Sum, amount: u64, volume: u64) -> Sum
+    ensures { result ≡ plus sum amount volume }
+{
+    Sum {
+        count: sum.count.saturating_add(1),
+        cents: sum.cents.saturating_add(amount as u128),
+        centilitres: sum.centilitres.saturating_add(volume as u128),
+    }
+}
+
+/// Adds a sale of this amount and volume to the `n`-th sum, counted from 1. If there is no such sum, nothing changes.
+fn add_at(sums: &mut [Sum], n: u64, amount: u64, volume: u64)
+    ensures { sums.new ≡ plus_at sums.old n amount volume }
+{
+    if n >= 1 && n <= sums.len() as u64 {
+        let place = n as usize - 1;
+        sums[place] = plus(sums[place], amount, volume);
+    }
+}
+
+/// Returns the number of the hour of a moment, counted from 1, or 0 if `moment` is 0.
+fn hour_number(moment: u64) -> u64
+    ensures { result ≡ hour_number moment }
+{
+    if moment == 0 {
+        0
+    } else {
+        moment / 3600 % 24 + 1
+    }
+}
+
+impl Sums {
+    /// Returns the sums of no sales.
+    pub fn new() -> Sums
+        ensures { AddsUp result [] }
+    {
+        Sums {
+            all: NO_SUM,
+            points: [NO_SUM; 32],
+            tills: [NO_SUM; 64],
+            hours: [NO_SUM; 24],
+        }
+    }
+
+    /// Returns whether one more sale can be counted, which is so until there are 2^64 - 1.
+    pub fn has_room(&self) -> bool
+        ensures { result ≡ true ↔ HasRoom self.now }
+    {
+        self.all.count < u64::MAX
+    }
+
+    /// Counts the sale that an entry made, if it made one.
+    pub fn count(&mut self, entry: &Entry, change: &Change)
+        requires { HasRoom self.old }
+        ensures { (steps : List StepValue) → AddsUp self.old (sales_in steps)
+            → AddsUp self.new (sales_in (steps ++ (record { entry = entry.now; change = change.now }) ∷ [])) }
+    {
+        match sale_of(&[], entry, change) {
+            Some(sale) => self.add(sale),
+            None => {}
+        }
+    }
+
+    fn add(&mut self, sale: Sale)
+        ensures added { self.new ≡ with_sale self.old sale }
+        ensures in_range { (sale.amount < 2 ^ 64) × (sale.volume < 2 ^ 64) }
+    {
+        let (amount, volume) = (sale.amount, sale.volume);
+        self.all = plus(self.all, amount, volume);
+        add_at(&mut self.points, sale.point as u64, amount, volume);
+        add_at(&mut self.tills, sale.till as u64, amount, volume);
+        add_at(&mut self.hours, hour_number(sale.moment), amount, volume);
+    }
+}
+
+impl Observer for Sums {
+    ghost use Rattle.day_report.specs.Sales.{sales_in};
+    ghost use Rattle.day_report.specs.Sums.{AddsUp, HasRoom};
+
+    ghost has_seen = { λ sums steps. AddsUp sums (sales_in steps) };
+
+    ghost is_ready = { HasRoom };
+
+    fn make_ready(&mut self) -> Result<(), AllocError>
+        ensures kept { (steps : List StepValue) → AddsUp self.old (sales_in steps) → AddsUp self.new (sales_in steps) }
+        ensures ready { OnOk result (HasRoom self.new) }
+        ensures full { OnErr result (¬ HasRoom self.old) }
+    {
+        if self.has_room() {
+            Ok(())
+        } else {
+            Err(AllocError)
+        }
+    }
+
+    fn see(&mut self, _line: &[u8], entry: &Entry, change: &Change) {
+        self.count(entry, change);
+    }
+}
