@@ -1,14 +1,11 @@
 pub mod Broken
+pub mod Compared
 pub mod Going
 pub mod Hashing
 pub mod Joining
-pub mod None
 pub mod Numbered
-pub mod OneLine
-pub mod Read
 pub mod ReadBack
+pub mod ReadWhole
 pub mod Spelled
-pub mod Stands
-pub mod Taken
 pub mod Unfitting
 pub mod Written

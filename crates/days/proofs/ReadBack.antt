@@ -1,9 +1,11 @@
 -- If the numbers and bytes of a line are in range, a digest has 32 bytes, and the values of a point have no unpaid
 -- transactions (`LineFits`), then reading the line's spelling gives this line.
-use Rattle.std.proofs.Common.{◌≡◌, ℕ, ◌<◌, ◌^◌, List, [], ◌∷◌, ◌++◌, length, codes, cond, nat_lt, true, false}
-use Rattle.std.proofs.Common.{Bool, Option, Some, None, Result, Ok, refl, sym, ◌∙◌, ap, arith, rules, lit<}
+use Rattle.std.proofs.Common.{◌≡◌, ℕ, ◌<◌, ◌^◌, List, [], ◌∷◌, ◌++◌, length, map, codes, nat_lt, eqb, true, false, append_assoc}
+use Rattle.std.proofs.Common.{Bool, Option, Some, None, Ok, refl, sym, ◌∙◌, ap, arith, rules, lit<}
+use Rattle.std.specs.Prelude.{◌||◌}
+use Rattle.std.specs.Char.{is_ascii_alphanumeric}
 use Rattle.std.specs.Fmt.{decimal}
-use Rattle.std.specs.List.{AllByRecursion, join_with_byte}
+use Rattle.std.specs.List.{AllByRecursion, flat_map, join_with_byte, list_all, slice_split}
 use Rattle.std.specs.Str.{bytes_eq}
 use Rattle.std.proofs.lemmas.Fmt.{decimal_nonempty}
 use Rattle.std.proofs.lemmas.Grind.{common_steps}
@@ -18,17 +20,20 @@ use Rattle.fuelling_point.specs.declared.kinds.State.TheVariants as states
 use Rattle.fuelling_point.specs.declared.kinds.Transaction.{Transaction}
 use Rattle.fuelling_point.specs.declared.snapshot.Snapshot.{Snapshot}
 use Rattle.fuelling_point.specs.States.{state_number}
-use Rattle.till_request.specs.declared.act.LineFault.{LineFault}
-use Rattle.till_request.specs.Grammar.{number, bytes_from, ◌>>=◌}
+use Rattle.till_request.specs.Grammar.{bytes_from}
 use Rattle.till_request.specs.Spelling.{load_word}
-use Rattle.till_request.proofs.Apart.{NoSpace, NoSpace-decimal, NoSpace-small, NoSpace-hex, number-small, number-large, split_joined}
+use Rattle.std.proofs.lemmas.Bool.{and_parts}
+use Rattle.till_request.proofs.Apart.{Without, all_without, decimal_alphanumeric, hex_alphanumeric, number-small, number-large, split_list, split_word}
+use Rattle.decision_journal.proofs.Parts.{without_join}
 use Rattle.days.specs.declared.line.Line.{Line}
 use Rattle.days.specs.declared.line.Line.TheVariants as lines
 use Rattle.days.specs.Ranges.{OrderFits}
-use Rattle.days.specs.Parsing.{bytes_by, digest_by, layout_with, counter_with, cleared_with, ending_of, journal_with, line_of_words, line_read}
-use Rattle.days.specs.Parsing.{order_read, point_begun, point_ended, point_with, price_with, short_order, state_with, unpaid_with, version_with}
-use Rattle.days.specs.Reading.{ReadsBack}
-use Rattle.days.specs.Text.{order_word, yes_or_no}
+use Rattle.days.specs.Parsing.{bytes_by, digest_by, layout_with, line_of_words, line_read, order_read, state_with}
+use Rattle.days.specs.Text.{line_spelling, line_text, line_words, order_word, yes_or_no}
+
+-- The line is read back from its own spelling.
+abbrev pub ReadsBack : Line → Type 0
+ReadsBack line = line_read (line_spelling line) ≡ Ok line
 
 -- The snapshot `s` fits into a point's line: its numbers are in range, and it has no unpaid transactions, which would
 -- need lines of their own.
@@ -53,27 +58,9 @@ LineFits (lines.Point n s) = (n < 2 ^ 64) × ValuesFit s
 LineFits (lines.Unpaid n t) = (n < 2 ^ 64) × (t.number < 2 ^ 32) × (t.amount < 2 ^ 64) × (t.volume < 2 ^ 64) × (t.holder < 2 ^ 32)
 LineFits (lines.Journal entries digest) = (entries < 2 ^ 32) × IsBytes digest × (length digest ≡ 32)
 
-bound : {A B : Type 0} (r : Result A LineFault) (x : A) (f : A → Result B LineFault) → r ≡ Ok x → (r >>= f) ≡ f x
-bound r x f e = ap (λ r. r >>= f) e
-
-small : {B : Type 0} (n : ℕ) (f : ℕ → Result B LineFault) → n < 2 ^ 32 → (number 32 (decimal n) >>= f) ≡ f n
-small n f h = bound (number 32 (decimal n)) n f (number-small n h)
-
-large : {B : Type 0} (n : ℕ) (f : ℕ → Result B LineFault) → n < 2 ^ 64 → (number 64 (decimal n) >>= f) ≡ f n
-large n f h = bound (number 64 (decimal n)) n f (number-large n h)
-
--- if a line is read from words that have no spaces, it is also read from these words joined by spaces
-worded : (w : List ℕ) (ws : List (List ℕ)) (l : Line) → NoSpace w → AllByRecursion NoSpace ws → line_of_words (w ∷ ws) ≡ Ok l
-    → line_read (join_with_byte 32 (w ∷ ws)) ≡ Ok l
-worded w ws l h hs e = ap line_of_words (split_joined 32 w ws h hs) ∙ e
-
 layout_back : (layout : Layout) → layout_with (load_word layout) ≡ layout
 layout_back layouts.One = refl
 layout_back layouts.Two = refl
-
-layout_apart : (layout : Layout) → NoSpace (load_word layout)
-layout_apart layouts.One = refl
-layout_apart layouts.Two = refl
 
 state_back : (s : State) → state_with (state_number s) ≡ s
 state_back states.Inoperative = refl
@@ -111,169 +98,121 @@ order_back (Some orders.Suspend) h = refl
 order_back (Some orders.Resume) h = refl
 order_back (Some orders.Stop) h = refl
 order_back (Some (orders.Authorise a)) h =
-    ap (λ b. cond b (number 64 (decimal a) >>= (λ n. Ok (Some (orders.Authorise n)))) (Ok (short_order (order_word (Some (orders.Authorise a))))))
-    (long_word (decimal a) (decimal_nonempty a h))
-    ∙ large a (λ n. Ok (Some (orders.Authorise n))) h
-
-order_apart : (o : Option Order) → OrderFits o → NoSpace (order_word o)
-order_apart None h = refl
-order_apart (Some orders.Suspend) h = refl
-order_apart (Some orders.Resume) h = refl
-order_apart (Some orders.Stop) h = refl
-order_apart (Some (orders.Authorise a)) h = NoSpace-decimal a h
-
-answer_apart : (b : Bool) → NoSpace (yes_or_no b)
-answer_apart true = refl
-answer_apart false = refl
+    search (long_word (decimal a) (decimal_nonempty a h), number-large a h)
 
 digest_back : (digest : List ℕ) → IsBytes digest → length digest ≡ 32 → digest_by (encode_lower digest) ≡ Ok digest
 digest_back digest h e = ap bytes_from (decode_sized-encode_lower digest 32 e h)
-
-cleared_back : (total count : ℕ) → total < 2 ^ 64 → count < 2 ^ 64 → cleared_with (decimal total) (decimal count) ≡ Ok (lines.Cleared total count)
-cleared_back total count h k =
-    large total (λ t. number 64 (decimal count) >>= (λ c. Ok (lines.Cleared t c))) h ∙ large count (λ c. Ok (lines.Cleared total c)) k
-
-price_back : (p v : ℕ) → p < 2 ^ 32 → v < 2 ^ 32 → price_with (decimal p) (decimal v) ≡ Ok (lines.Price p v)
-price_back p v h k = small p (λ x. number 32 (decimal v) >>= (λ y. Ok (lines.Price x y))) h ∙ small v (λ y. Ok (lines.Price p y)) k
-
-counter_back : (c v b : ℕ) → c < 2 ^ 32 → v < 2 ^ 64 → b < 2 ^ 64 → counter_with (decimal c) (decimal v) (decimal b) ≡ Ok (lines.Counter c v b)
-counter_back c v b h k m =
-    small c (λ x. number 64 (decimal v) >>= (λ y. number 64 (decimal b) >>= (λ z. Ok (lines.Counter x y z)))) h
-    ∙ large v (λ y. number 64 (decimal b) >>= (λ z. Ok (lines.Counter c y z))) k ∙ large b (λ z. Ok (lines.Counter c v z)) m
-
-version_back : (s n m : ℕ) (layout : Layout) (bytes : List ℕ) → s < 2 ^ 64 → n < 2 ^ 32 → m < 2 ^ 32 → IsBytes bytes
-    → version_with (decimal s) (decimal n) (decimal m) (load_word layout) (encode_lower bytes) ≡ Ok (lines.Version s n m layout bytes)
-version_back s n m layout bytes h k j b =
-    large s (λ s'. number 32 (decimal n) >>= (λ n'. number 32 (decimal m) >>= (λ m'. bytes_by (encode_lower bytes)
-    >>= (λ x. Ok (lines.Version s' n' m' (layout_with (load_word layout)) x))))) h
-    ∙ small n (λ n'. number 32 (decimal m) >>= (λ m'. bytes_by (encode_lower bytes) >>= (λ x. Ok (lines.Version s n' m' (layout_with (load_word layout)) x)))) k
-    ∙ small m (λ m'. bytes_by (encode_lower bytes) >>= (λ x. Ok (lines.Version s n m' (layout_with (load_word layout)) x))) j
-    ∙ bound (bytes_by (encode_lower bytes)) bytes (λ x. Ok (lines.Version s n m (layout_with (load_word layout)) x)) (bytes_back bytes b)
-    ∙ ap (λ l. Ok (lines.Version s n m l bytes)) (layout_back layout)
-
-unpaid_back : (n : ℕ) (t : Transaction) → LineFits (lines.Unpaid n t)
-    → unpaid_with (decimal n) (decimal t.number) (decimal t.amount) (decimal t.volume) (decimal t.holder) ≡ Ok (lines.Unpaid n t)
-unpaid_back n t h =
-    large n (λ p. number 32 (decimal t.number) >>= (λ x. number 64 (decimal t.amount) >>= (λ a. number 64 (decimal t.volume) >>= (λ v. number 32 (decimal t.holder)
-    >>= (λ o. Ok (lines.Unpaid p (record { number = x; amount = a; volume = v; holder = o }))))))) h.0
-    ∙ small t.number (λ x. number 64 (decimal t.amount) >>= (λ a. number 64 (decimal t.volume) >>= (λ v. number 32 (decimal t.holder)
-    >>= (λ o. Ok (lines.Unpaid n (record { number = x; amount = a; volume = v; holder = o })))))) h.1
-    ∙ large t.amount (λ a. number 64 (decimal t.volume) >>= (λ v. number 32 (decimal t.holder)
-    >>= (λ o. Ok (lines.Unpaid n (record { number = t.number; amount = a; volume = v; holder = o }))))) h.2
-    ∙ large t.volume (λ v. number 32 (decimal t.holder) >>= (λ o. Ok (lines.Unpaid n (record { number = t.number; amount = t.amount; volume = v; holder = o })))) h.3
-    ∙ small t.holder (λ o. Ok (lines.Unpaid n (record { number = t.number; amount = t.amount; volume = t.volume; holder = o }))) h.4
-
-journal_back : (n : ℕ) (digest : List ℕ) → n < 2 ^ 32 → IsBytes digest → length digest ≡ 32
-    → journal_with (decimal n) (encode_lower digest) ≡ Ok (lines.Journal n digest)
-journal_back n digest h b e =
-    small n (λ x. digest_by (encode_lower digest) >>= (λ d. Ok (lines.Journal x d))) h
-    ∙ bound (digest_by (encode_lower digest)) digest (λ d. Ok (lines.Journal n d)) (digest_back digest b e)
-
--- What has been read of a point's line before its last five words: `state`, `nozzle`, `preset` and `limit`. The values
--- that haven't been read yet are 0, false or None. `s` isn't used.
-abbrev begun : Snapshot → State → ℕ → ℕ → ℕ → Snapshot
-begun s state nozzle preset limit = record {
-  state = state;
-  nozzle = nozzle;
-  preset = preset;
-  limit = limit;
-  amount = 0;
-  volume = 0;
-  order = None;
-  taken = false;
-  last = 0;
-  unpaid = None ∷ None ∷ [];
-}
-
-begun_back : (s : Snapshot) → ValuesFit s
-    → point_begun (decimal (state_number s.state)) (decimal s.nozzle) (decimal s.preset) (decimal s.limit) ≡ Ok (begun s s.state s.nozzle s.preset s.limit)
-begun_back s h =
-    small (state_number s.state) (λ a. number 32 (decimal s.nozzle) >>= (λ z. number 64 (decimal s.preset) >>= (λ p. number 64 (decimal s.limit)
-    >>= (λ l. Ok (begun s (state_with a) z p l))))) (state_small s.state)
-    ∙ small s.nozzle (λ z. number 64 (decimal s.preset) >>= (λ p. number 64 (decimal s.limit) >>= (λ l. Ok (begun s (state_with (state_number s.state)) z p l)))) h.nozzle
-    ∙ large s.preset (λ p. number 64 (decimal s.limit) >>= (λ l. Ok (begun s (state_with (state_number s.state)) s.nozzle p l))) h.preset
-    ∙ large s.limit (λ l. Ok (begun s (state_with (state_number s.state)) s.nozzle s.preset l)) h.limit
-    ∙ ap (λ a. Ok (begun s a s.nozzle s.preset s.limit)) (state_back s.state)
-
-abbrev ended : Snapshot → ℕ → ℕ → Option Order → Bool → ℕ → Snapshot
-ended s amount volume order taken last = record s { amount = amount; volume = volume; order = order; taken = taken; last = last; unpaid = None ∷ None ∷ [] }
 
 answer_back : (b : Bool) → bytes_eq (yes_or_no b) (codes "yes") ≡ b
 answer_back true = refl
 answer_back false = refl
 
-ended_back : (s : Snapshot) → ValuesFit s
-    → point_ended (begun s s.state s.nozzle s.preset s.limit) (decimal s.amount) (decimal s.volume) (order_word s.order) (yes_or_no s.taken) (decimal s.last) ≡ Ok s
-ended_back s h =
-    large s.amount (λ a. number 64 (decimal s.volume) >>= (λ v. order_read (order_word s.order) >>= (λ o. number 32 (decimal s.last)
-    >>= (λ l. Ok (ended s a v o (bytes_eq (yes_or_no s.taken) (codes "yes")) l))))) h.amount
-    ∙ large s.volume (λ v. order_read (order_word s.order) >>= (λ o. number 32 (decimal s.last)
-    >>= (λ l. Ok (ended s s.amount v o (bytes_eq (yes_or_no s.taken) (codes "yes")) l)))) h.volume
-    ∙ bound (order_read (order_word s.order)) s.order (λ o. number 32 (decimal s.last)
-    >>= (λ l. Ok (ended s s.amount s.volume o (bytes_eq (yes_or_no s.taken) (codes "yes")) l))) (order_back s.order h.order)
-    ∙ small s.last (λ l. Ok (ended s s.amount s.volume s.order (bytes_eq (yes_or_no s.taken) (codes "yes")) l)) h.last
-    ∙ ap (λ b. Ok (ended s s.amount s.volume s.order b s.last)) (answer_back s.taken)
-    ∙ ap (λ (u : List (Option Transaction)). Ok (record s { unpaid = u })) (sym h.none)
-
 point_back : (n : ℕ) (s : Snapshot) → n < 2 ^ 64 → ValuesFit s
-    → point_with (decimal n) (decimal (state_number s.state)) (decimal s.nozzle) (decimal s.preset) (decimal s.limit)
-    (decimal s.amount ∷ decimal s.volume ∷ order_word s.order ∷ yes_or_no s.taken ∷ decimal s.last ∷ []) ≡ Ok (lines.Point n s)
+    → line_of_words (line_words (lines.Point n s)) ≡ Ok (lines.Point n (record s { unpaid = None ∷ None ∷ [] }))
 point_back n s h f =
-    let ws : List (List ℕ) = decimal s.amount ∷ decimal s.volume ∷ order_word s.order ∷ yes_or_no s.taken ∷ decimal s.last ∷ [] in
-    let first : Snapshot = begun s s.state s.nozzle s.preset s.limit in
-    large n (λ x. point_begun (decimal (state_number s.state)) (decimal s.nozzle) (decimal s.preset) (decimal s.limit) >>= (λ b. ending_of b ws
-    >>= (λ values. Ok (lines.Point x values)))) h
-    ∙ bound (point_begun (decimal (state_number s.state)) (decimal s.nozzle) (decimal s.preset) (decimal s.limit)) first
-    (λ b. ending_of b ws >>= (λ values. Ok (lines.Point n values))) (begun_back s f)
-    ∙ bound (ending_of first ws) s (λ values. Ok (lines.Point n values)) (ended_back s f)
+    search (
+      number-large n h,
+      number-small (state_number s.state) (state_small s.state),
+      number-small s.nozzle f.nozzle,
+      number-large s.preset f.preset,
+      number-large s.limit f.limit,
+      number-large s.amount f.amount,
+      number-large s.volume f.volume,
+      order_back s.order f.order,
+      number-small s.last f.last,
+      answer_back s.taken,
+      state_back s.state,
+    )
+
+-- a line is read from its own words
+words_back : (l : Line) → LineFits l → line_of_words (line_words l) ≡ Ok l
+words_back (lines.Day n) h = search (number-small n h)
+words_back (lines.Cleared total count) h = search (number-large total h.0, number-large count h.1)
+words_back (lines.Versions n) h = search (number-small n h)
+words_back (lines.Version s n m layout bytes) h =
+    search (number-large s h.0, number-small n h.1, number-small m h.2, bytes_back bytes h.3, layout_back layout)
+words_back (lines.Price p v) h = search (number-small p h.0, number-small v h.1)
+words_back (lines.Counter c v b) h = search (number-small c h.0, number-large v h.1, number-large b h.2)
+words_back (lines.Point n s) h = point_back n s h.0 h.1 ∙ ap (λ (u : List (Option Transaction)). Ok (lines.Point n (record s { unpaid = u }))) (sym h.1.none)
+words_back (lines.Unpaid n t) h =
+    search (number-large n h.0, number-small t.number h.1, number-large t.amount h.2, number-large t.volume h.3, number-small t.holder h.4)
+words_back (lines.Journal n digest) h = search (number-small n h.0, digest_back digest h.1 h.2)
+
+-- ---- the words of a line have no space and no LF in them
+
+abbrev is_plain : ℕ → Bool
+is_plain b = is_ascii_alphanumeric b || eqb b 58
+
+abbrev IsPlain : List ℕ → Type 0
+IsPlain w = list_all is_plain w ≡ true
+
+plain : (w : List ℕ) → list_all is_ascii_alphanumeric w ≡ true → IsPlain w
+plain [] h = refl
+plain (x ∷ w) h = let a = and_parts (is_ascii_alphanumeric x) (list_all is_ascii_alphanumeric w) h in rw (a.0, plain w a.1)
+
+digits : (n : ℕ) → n < 2 ^ 64 → IsPlain (decimal n)
+digits n h = plain (decimal n) (decimal_alphanumeric n h)
+
+small_digits : (n : ℕ) → n < 2 ^ 32 → IsPlain (decimal n)
+small_digits n h = digits n (omega arith)
+
+hex_digits : (bytes : List ℕ) → IsBytes bytes → IsPlain (encode_lower bytes)
+hex_digits bytes h = plain (encode_lower bytes) (hex_alphanumeric bytes h)
+
+plain_layout : (layout : Layout) → IsPlain (load_word layout)
+plain_layout layouts.One = refl
+plain_layout layouts.Two = refl
+
+plain_order : (o : Option Order) → OrderFits o → IsPlain (order_word o)
+plain_order None h = refl
+plain_order (Some orders.Suspend) h = refl
+plain_order (Some orders.Resume) h = refl
+plain_order (Some orders.Stop) h = refl
+plain_order (Some (orders.Authorise a)) h = digits a h
+
+plain_answer : (b : Bool) → IsPlain (yes_or_no b)
+plain_answer true = refl
+plain_answer false = refl
+
+plain_words : (l : Line) → LineFits l → AllByRecursion IsPlain (line_words l)
+plain_words (lines.Day n) h = (refl, (small_digits n h, tt))
+plain_words (lines.Cleared total count) h = (refl, (digits total h.0, (digits count h.1, tt)))
+plain_words (lines.Versions n) h = (refl, (small_digits n h, tt))
+plain_words (lines.Version s n m layout bytes) h =
+    (refl, (digits s h.0, (small_digits n h.1, (small_digits m h.2, (plain_layout layout, (hex_digits bytes h.3, tt))))))
+plain_words (lines.Price p v) h = (refl, (small_digits p h.0, (small_digits v h.1, tt)))
+plain_words (lines.Counter c v b) h = (refl, (small_digits c h.0, (digits v h.1, (digits b h.2, tt))))
+plain_words (lines.Point n s) h =
+    let last : AllByRecursion IsPlain (order_word s.order ∷ yes_or_no s.taken ∷ decimal s.last ∷ []) =
+    (plain_order s.order h.1.order, (plain_answer s.taken, (small_digits s.last h.1.last, tt))) in
+    let middle : AllByRecursion IsPlain (decimal s.limit ∷ decimal s.amount ∷ decimal s.volume ∷ order_word s.order ∷ yes_or_no s.taken ∷ decimal s.last ∷ []) =
+    (digits s.limit h.1.limit, (digits s.amount h.1.amount, (digits s.volume h.1.volume, last))) in
+    (refl, (digits n h.0, (small_digits (state_number s.state) (state_small s.state), (small_digits s.nozzle h.1.nozzle, (digits s.preset h.1.preset, middle)))))
+plain_words (lines.Unpaid n t) h =
+    (refl, (digits n h.0, (small_digits t.number h.1, (digits t.amount h.2, (digits t.volume h.3, (small_digits t.holder h.4, tt))))))
+plain_words (lines.Journal n digest) h = (refl, (small_digits n h.0, (hex_digits digest h.1, tt)))
+
+words_without : (c : ℕ) → is_plain c ≡ false → (ws : List (List ℕ)) → AllByRecursion IsPlain ws → AllByRecursion (Without c) ws
+words_without c k [] h = tt
+words_without c k (w ∷ ws) h = (all_without is_plain w c h.0 k, words_without c k ws h.1)
+
+-- ---- the text of a line is read as this line, and the text of lines, split at its LFs, gives these lines
+
+some_words : (l : Line) → 0 < length (line_words l)
+some_words (lines.Day n) = omega arith
+some_words l = omega arith
 
 pub reads_back : (l : Line) → LineFits l → ReadsBack l
-reads_back (lines.Day n) h = worded (codes "day") (decimal n ∷ []) (lines.Day n) refl (NoSpace-small n h, tt) (small n (λ x. Ok (lines.Day x)) h)
-reads_back (lines.Cleared total count) h =
-    worded (codes "cleared") (decimal total ∷ decimal count ∷ []) (lines.Cleared total count) refl
-    (NoSpace-decimal total h.0, (NoSpace-decimal count h.1, tt)) (cleared_back total count h.0 h.1)
-reads_back (lines.Versions n) h =
-    worded (codes "versions") (decimal n ∷ []) (lines.Versions n) refl (NoSpace-small n h, tt) (small n (λ x. Ok (lines.Versions x)) h)
-reads_back (lines.Version s n m layout bytes) h =
-    worded (codes "version") (decimal s ∷ decimal n ∷ decimal m ∷ load_word layout ∷ encode_lower bytes ∷ []) (lines.Version s n m layout bytes) refl
-    (NoSpace-decimal s h.0, (NoSpace-small n h.1, (NoSpace-small m h.2, (layout_apart layout, (NoSpace-hex bytes h.3, tt)))))
-    (version_back s n m layout bytes h.0 h.1 h.2 h.3)
-reads_back (lines.Price p v) h =
-    worded (codes "price") (decimal p ∷ decimal v ∷ []) (lines.Price p v) refl (NoSpace-small p h.0, (NoSpace-small v h.1, tt)) (price_back p v h.0 h.1)
-reads_back (lines.Counter c v b) h =
-    worded (codes "counter") (decimal c ∷ decimal v ∷ decimal b ∷ []) (lines.Counter c v b) refl
-    (NoSpace-small c h.0, (NoSpace-decimal v h.1, (NoSpace-decimal b h.2, tt))) (counter_back c v b h.0 h.1 h.2)
-reads_back (lines.Point n s) h =
-    worded (codes "point") (decimal n ∷ decimal (state_number s.state) ∷ decimal s.nozzle ∷ decimal s.preset ∷ decimal s.limit ∷ decimal s.amount
-    ∷ decimal s.volume ∷ order_word s.order ∷ yes_or_no s.taken ∷ decimal s.last ∷ []) (lines.Point n s) refl (
-      NoSpace-decimal n h.0,
-      (
-        NoSpace-small (state_number s.state) (state_small s.state),
-        (
-          NoSpace-small s.nozzle h.1.nozzle,
-          (
-            NoSpace-decimal s.preset h.1.preset,
-            (
-              NoSpace-decimal s.limit h.1.limit,
-              (
-                NoSpace-decimal s.amount h.1.amount,
-                (
-                  NoSpace-decimal s.volume h.1.volume,
-                  (
-                    order_apart s.order h.1.order,
-                    (answer_apart s.taken, (NoSpace-small s.last h.1.last, tt)),
-                  ),
-                ),
-              ),
-            ),
-          ),
-        ),
-      ),
-    ) (point_back n s h.0 h.1)
-reads_back (lines.Unpaid n t) h =
-    worded (codes "unpaid") (decimal n ∷ decimal t.number ∷ decimal t.amount ∷ decimal t.volume ∷ decimal t.holder ∷ []) (lines.Unpaid n t) refl
-    (NoSpace-decimal n h.0, (NoSpace-small t.number h.1, (NoSpace-decimal t.amount h.2, (NoSpace-decimal t.volume h.3, (NoSpace-small t.holder h.4, tt)))))
-    (unpaid_back n t h)
-reads_back (lines.Journal n digest) h =
-    worded (codes "journal") (decimal n ∷ encode_lower digest ∷ []) (lines.Journal n digest) refl (NoSpace-small n h.0, (NoSpace-hex digest h.1, tt))
-    (journal_back n digest h.0 h.1 h.2)
+reads_back l h =
+    ap line_of_words (split_list 32 (line_words l) (some_words l) (words_without 32 refl (line_words l) (plain_words l h))) ∙ words_back l h
+
+joined_without : (ws : List (List ℕ)) → AllByRecursion (Without 10) ws → Without 10 (join_with_byte 32 ws)
+joined_without [] h = refl
+joined_without (w ∷ ws) h = without_join 10 32 w ws refl h.0 h.1
+
+pub split_text : (ls : List Line) → AllByRecursion LineFits ls → slice_split (λ b. eqb b 10) (flat_map line_text ls) ≡ map line_spelling ls ++ [] ∷ []
+split_text [] h = refl
+split_text (l ∷ ls) h =
+    ap (slice_split (λ b. eqb b 10)) (append_assoc (line_spelling l) (10 ∷ []) (flat_map line_text ls))
+    ∙ split_word 10 (line_spelling l) (flat_map line_text ls) (joined_without (line_words l) (words_without 10 refl (line_words l) (plain_words l h.0)))
+    ∙ ap (λ ws. line_spelling l ∷ ws) (split_text ls h.1)

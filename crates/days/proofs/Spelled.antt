@@ -24,8 +24,3 @@ line_ended (Err e) old mid new line h k = tt
 line_ended (Ok x) old mid new line h k =
     k ∙ ap (λ t. t ++ 10 ∷ []) (h ∙ line_joined old (line_words line)) ∙ append_assoc old (join_with_byte 32 (line_words line)) (10 ∷ [])
     ∙ ap (λ t. old ++ t) (sym (append-nil (line_text line)))
-
-pub spelled_alone : {T E : Type 0} (r : Result T E) (old new : List ℕ) (words : List (List ℕ)) → old ≡ [] → OnOk r (new ≡ with_line old words)
-    → OnOk r (new ≡ join_with_byte 32 words)
-spelled_alone (Err e) old new words z h = tt
-spelled_alone (Ok x) old new words z h = h ∙ line_joined old words ∙ ap (λ t. t ++ join_with_byte 32 words) z

@@ -1,18 +1,19 @@
 -- Promises: that no two openings have the same text, and why a text isn't that of an opening.
-use Rattle.std.specs.Prelude.{◌≡◌, ◌==◌, ℕ, ◌+◌, ◌<◌, min, List, [], ◌∷◌, ◌++◌, length, map, Some}
-use Rattle.std.specs.List.{AllByRecursion, slice_split}
+use Rattle.std.specs.Prelude.{◌≡◌, ◌≢◌, ℕ, ◌+◌, ◌<◌, min, List, [], ◌∷◌, ◌++◌, length, Some, Result, Ok}
 use Rattle.bpf_model.specs.Program.{as_loaded}
-use Rattle.bpf_model.specs.declared.context.Layout.{Layout}
+use Rattle.reg_types.specs.RefusedPrograms.{refusal_of}
 use Rattle.reg_types.specs.declared.refusal.Refusal.{Refusal}
+use Rattle.till_request.specs.declared.act.LineFault.{LineFault}
 use Rattle.days.specs.declared.file.OpeningFile.{OpeningFile}
 use Rattle.days.specs.declared.file.OpeningFlaw.{OpeningFlaw}
 use Rattle.days.specs.declared.file.OpeningFlaw.TheVariants.{BadLine, Ends, CutLine, BadProgram, OutOfMemory}
 use Rattle.days.specs.declared.line.Line.{Line}
 use Rattle.days.specs.declared.line.Line.TheVariants as lines
 use Rattle.days.specs.File.{IsOpeningFile}
-use Rattle.days.specs.Ranges.{FileFits, VersionFits}
-use Rattle.days.specs.Reading.{IsRefusedVersion, ReadsBack}
-use Rattle.days.specs.Text.{line_spelling, opening_lines, opening_text}
+use Rattle.days.specs.Parsing.{line_read}
+use Rattle.days.specs.Ranges.{FileFits}
+use Rattle.days.specs.Reading.{Reads, blank_file, pieces}
+use Rattle.days.specs.Text.{opening_text}
 
 -- The text is that of no other opening than `file`.
 abbrev pub IsOnly : List ℕ → OpeningFile → Type 0
@@ -22,69 +23,62 @@ IsOnly text file = (f : OpeningFile) → IsOpeningFile f → FileFits f → open
 abbrev pub HasNoOpening : List ℕ → Type 0
 HasNoOpening text = (f : OpeningFile) → IsOpeningFile f → FileFits f → opening_text f ≡ text → ⊥
 
--- The pieces between a text's LFs: its lines, and what comes after the last LF.
-abbrev pub pieces : List ℕ → List (List ℕ)
-pieces text = slice_split (λ b. b == 10) text
-
--- The lines are the first lines of some opening.
-pub record BeginOne (lines : List Line) : Type 0 where
-  pub f : OpeningFile
-  pub good : IsOpeningFile f
-  pub more : List Line
-  pub lines_are : opening_lines f ≡ lines ++ more
-
--- The text, split at its LFs, has a piece with this number. Pieces are counted from 1, and a number above 4,294,967,295
--- is given as 4,294,967,295. The pieces before this one are the first lines of an opening, and are read as these lines,
--- so no number in them is out of range. `IsSo` holds of these lines, of the piece, and of the pieces after it.
-pub record IsPiece (text : List ℕ) (number : ℕ) (IsSo : List Line → List ℕ → List (List ℕ) → Type 0) : Type 0 where
-  pub before : List Line
-  pub begin_one : BeginOne before
-  pub back : AllByRecursion ReadsBack before
-  pub piece : List ℕ
-  pub behind : List (List ℕ)
-  pub pieces_are : pieces text ≡ map line_spelling before ++ piece ∷ behind
+-- The same whole lines come before `rest` in the text and before `left` in the other text. `number` is the number of the
+-- next line. Lines are counted from 1, and a number above 4,294,967,295 is given as 4,294,967,295.
+pub record HaveAlike (text other rest left : List ℕ) (number : ℕ) : Type 0 where
+  pub before : List (List ℕ)
+  pub text_is : pieces text ≡ before ++ pieces rest
+  pub other_is : pieces other ≡ before ++ pieces left
   pub number_is : number ≡ min (length before + 1) 4294967295
-  pub so : IsSo before piece behind
 
--- No opening's text begins with the lines `before` and then has this piece as its next line.
-abbrev pub CannotFollow : List Line → List ℕ → List (List ℕ) → Type 0
-CannotFollow before piece behind =
-    (f : OpeningFile) → IsOpeningFile f → FileFits f → (next : List ℕ) (rest : List (List ℕ))
-    → pieces (opening_text f) ≡ map line_spelling before ++ piece ∷ next ∷ rest → ⊥
+-- The text doesn't begin with this line and its LF.
+abbrev pub LacksLine : List ℕ → List ℕ → Type 0
+LacksLine text line = (behind : List ℕ) → pieces text ≡ line ∷ pieces behind → ⊥
 
--- No opening has, next after the lines `before`, a version with this number in this slot, whatever its program.
-abbrev pub HasNoVersion : List Line → ℕ → ℕ → Type 0
-HasNoVersion before slot number =
-    (f : OpeningFile) → IsOpeningFile f → (mask : ℕ) (layout : Layout) (program : List ℕ) (more : List Line)
-    → opening_lines f ≡ before ++ lines.Version slot number mask layout program ∷ more → ⊥
+-- What was read of a line is the line of a version in this slot, with a program of these bytes, which the verifier
+-- refuses for this reason.
+abbrev pub IsRefusedVersion : ℕ → List ℕ → Refusal → Result Line LineFault → Type 0
+IsRefusedVersion slot program refusal (Ok (lines.Version s number mask layout bytes)) =
+    (s < 16) × (s ≡ slot) × (bytes ≡ program) × (refusal_of (as_loaded bytes mask layout) ≡ Some refusal)
+IsRefusedVersion slot program refusal read = ⊥
 
--- The piece has an LF after it, and is no line of an opening after the lines `before`. Its program isn't why: if the
--- piece is the line of a version, then no version with its number can come next in its slot.
-abbrev pub IsBad : List Line → List ℕ → List (List ℕ) → Type 0
-IsBad before piece behind =
-    (0 < length behind) × CannotFollow before piece behind
-    × ((slot number mask : ℕ) (layout : Layout) (program : List ℕ) → VersionFits (Some (record { number = number; program = as_loaded program mask layout }))
-    → line_spelling (lines.Version slot number mask layout program) ≡ piece → HasNoVersion before slot number)
+-- The flaw is right for line `number`, which isn't the one that it should be; `read` is what was read of it. The flaw is
+-- `BadProgram` if the line is that of a version with a refused program, and `BadLine` if it isn't. If memory ran out,
+-- nothing is claimed.
+abbrev pub IsLineFlaw : ℕ → Result Line LineFault → OpeningFlaw → Type 0
+IsLineFlaw number read (BadLine n) =
+    (n ≡ number) × ((slot : ℕ) (program : List ℕ) (refusal : Refusal) → IsRefusedVersion slot program refusal read → ⊥)
+IsLineFlaw number read (BadProgram n slot program refusal) = (n ≡ number) × IsRefusedVersion slot program.items refusal read
+IsLineFlaw number read OutOfMemory = Unit {0}
+IsLineFlaw number read flaw = ⊥
 
--- Nothing comes after the LF of the last line in `before`.
-abbrev pub IsEnd : List Line → List ℕ → List (List ℕ) → Type 0
-IsEnd before piece behind = (behind ≡ []) × (piece ≡ [])
+-- The text `rest` differs from `left` in its first line, and the flaw says how. `number` is the number of this line.
+-- - `BadLine` and `BadProgram`: `left` doesn't begin with this line.
+-- - `Ends`: there is no line.
+-- - `CutLine`: the line has no LF.
+abbrev pub Begins : List ℕ → List ℕ → ℕ → OpeningFlaw → Type 0
+Begins rest left number (Ends n) = (n ≡ number) × (rest ≡ [])
+Begins rest left number (CutLine n) = (n ≡ number) × (0 < length rest) × (pieces rest ≡ rest ∷ [])
+Begins rest left number flaw =
+    (line behind : List ℕ) × (pieces rest ≡ line ∷ pieces behind) × LacksLine left line × IsLineFlaw number (line_read line) flaw
 
--- The piece is cut off: it isn't empty, and no LF comes after it.
-abbrev pub IsCut : List Line → List ℕ → List (List ℕ) → Type 0
-IsCut before piece behind = (behind ≡ []) × (0 < length piece)
+-- The flaw names the first line in which the text differs from the other one, and says how it differs.
+pub record Differs (text other : List ℕ) (flaw : OpeningFlaw) : Type 0 where
+  pub rest : List ℕ
+  pub left : List ℕ
+  pub number : ℕ
+  pub alike : HaveAlike text other rest left number
+  pub begins : Begins rest left number flaw
 
--- The piece has an LF after it. It is the line of a version in this slot, with a program of these bytes, which the
--- verifier refuses for this reason.
-abbrev pub IsRefusedLine : ℕ → List ℕ → Refusal → List Line → List ℕ → List (List ℕ) → Type 0
-IsRefusedLine slot program refusal before piece behind =
-    (0 < length behind) × ((line : Line) × (line_spelling line ≡ piece) × IsRefusedVersion slot program refusal line)
+-- The text isn't that of an opening. `read` is the opening that was read of it, whose own text differs from it as the
+-- flaw says: so the lines before the flaw's line are the first lines of an opening.
+pub record ShowsFlaw (text : List ℕ) (flaw : OpeningFlaw) : Type 0 where
+  pub none : HasNoOpening text
+  pub read : OpeningFile
+  pub reads : Reads blank_file (pieces text) read
+  pub good : IsOpeningFile read
+  pub differs : Differs text (opening_text read) flaw
 
--- The text has this flaw: it isn't that of an opening, the lines before the flaw's line are the first lines of one, and
--- the flaw's line is wrong as the flaw says. If memory ran out, nothing is claimed.
+-- The text has this flaw. If memory ran out, nothing is claimed.
 abbrev pub IsFlaw : List ℕ → OpeningFlaw → Type 0
-IsFlaw text (BadLine n) = HasNoOpening text × IsPiece text n IsBad
-IsFlaw text (Ends n) = HasNoOpening text × IsPiece text n IsEnd
-IsFlaw text (CutLine n) = HasNoOpening text × IsPiece text n IsCut
-IsFlaw text (BadProgram n slot program refusal) = HasNoOpening text × IsPiece text n (IsRefusedLine slot program.items refusal)
-IsFlaw text OutOfMemory = Unit {0}
+IsFlaw text flaw = flaw ≢ OutOfMemory → ShowsFlaw text flaw

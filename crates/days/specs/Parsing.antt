@@ -16,11 +16,8 @@ use Rattle.till_request.specs.Grammar.{words, number, bytes_from, ◌>>=◌}
 use Rattle.days.specs.declared.line.Line.{Line}
 use Rattle.days.specs.declared.line.Line.TheVariants as lines
 
-abbrev pub day_with : List ℕ → Result Line LineFault
-day_with n = number 32 n >>= (λ n'. Ok (lines.Day n'))
-
 abbrev pub day_of : List (List ℕ) → Result Line LineFault
-day_of (n ∷ []) = day_with n
+day_of (n ∷ []) = number 32 n >>= (λ n'. Ok (lines.Day n'))
 day_of ws = Err BadLine
 
 abbrev pub cleared_with : List ℕ → List ℕ → Result Line LineFault
@@ -30,11 +27,8 @@ abbrev pub cleared_of : List (List ℕ) → Result Line LineFault
 cleared_of (t ∷ c ∷ []) = cleared_with t c
 cleared_of ws = Err BadLine
 
-abbrev pub versions_with : List ℕ → Result Line LineFault
-versions_with n = number 32 n >>= (λ n'. Ok (lines.Versions n'))
-
 abbrev pub versions_of : List (List ℕ) → Result Line LineFault
-versions_of (n ∷ []) = versions_with n
+versions_of (n ∷ []) = number 32 n >>= (λ n'. Ok (lines.Versions n'))
 versions_of ws = Err BadLine
 
 abbrev pub layout_with : List ℕ → Layout
@@ -136,13 +130,14 @@ abbrev pub journal_of : List (List ℕ) → Result Line LineFault
 journal_of (n ∷ d ∷ []) = journal_with n d
 journal_of ws = Err BadLine
 
--- Reads a line from its name and the words after its name. Any unknown name is taken for `versions`.
+-- Reads a line from its name and the words after its name.
 abbrev pub line_named : List ℕ → List (List ℕ) → Result Line LineFault
 line_named name ws =
     if bytes_eq name (codes "price") then price_of ws else if bytes_eq name (codes "counter") then counter_of ws
     else if bytes_eq name (codes "version") then version_of ws else if bytes_eq name (codes "point") then point_of ws
     else if bytes_eq name (codes "unpaid") then unpaid_of ws else if bytes_eq name (codes "journal") then journal_of ws
-    else if bytes_eq name (codes "day") then day_of ws else if bytes_eq name (codes "cleared") then cleared_of ws else versions_of ws
+    else if bytes_eq name (codes "day") then day_of ws else if bytes_eq name (codes "cleared") then cleared_of ws
+    else if bytes_eq name (codes "versions") then versions_of ws else Err BadLine
 
 abbrev pub line_of_words : List (List ℕ) → Result Line LineFault
 line_of_words [] = Err BadLine

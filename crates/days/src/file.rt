@@ -20,14 +20,15 @@ pub struct OpeningFile {
 /// is given as 4,294,967,295.
 #[derive(Drop)]
 pub enum OpeningFlaw {
-    /// J1: the lines before this line are the beginning of some opening's text, but no opening's text goes on with this
-    /// line.
+    /// J1: the lines before this line are the first lines of the opening that was read of the text, but that one has
+    /// another line here, or none.
     BadLine(u32),
     /// J1: the text ends before this line, which an opening would have.
     Ends(u32),
     /// J2: the last line, which has this number, has no LF.
     CutLine(u32),
-    /// F2: the verifier refuses the program in this line: the slot, the program's bytes, and the refusal.
+    /// F2: this line is another than that opening has too, and is a version's, whose program the verifier refuses: the
+    /// slot, the program's bytes, and the refusal.
     BadProgram {
         line: u32,
         slot: u32,

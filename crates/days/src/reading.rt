@@ -1,19 +1,25 @@
-//! Reads the text of an opening.
+//! Reads the text of an opening: reads its lines loosely, and compares the text of what was read with it.
 
-ghost use Rattle.std.specs.Prelude.{◌≡◌, ◌↔◌, [], IfErr, IfOk, IsTrue};
+ghost use Rattle.std.specs.Prelude.{◌≡◌, ◌↔◌, ◌<◌, ◌∷◌, ℕ, Ok, IfErr, IfOk, IsTrue, MatchOption, OnOk};
+ghost use Rattle.bpf_model.specs.Program.{as_loaded};
+ghost use Rattle.reg_types.specs.RefusedPrograms.{IsRefusal, refusal_of};
 ghost use Rattle.days.specs.File.{IsOpeningFile};
-ghost use Rattle.days.specs.Flaws.{IsFlaw, IsOnly};
+ghost use Rattle.days.specs.Flaws.{Differs, IsFlaw, IsLineFlaw, IsOnly, LacksLine};
+ghost use Rattle.days.specs.Parsing.{line_read};
 ghost use Rattle.days.specs.Ranges.{FileFits};
-ghost use Rattle.days.specs.Reading.{Flawed, HasRead, LineFound, Takes, nothing_read};
+ghost use Rattle.days.specs.Reading.{Reads, TakesRead, blank_file, pieces};
 ghost use Rattle.days.specs.Text.{opening_text};
 
 use crate::file::{OpeningFile, OpeningFlaw};
 use crate::line::Line;
 use crate::parsing::parse_line;
 use crate::ranges::file_in_range;
-use crate::spelling::spell_line;
-use crate::step::{Reading, StepFault};
-use std::alloc::Global;
+use crate::step::Reading;
+use crate::writing::opening_text;
+use bpf_model::context::Layout;
+use reg_types::Refusal;
+use reg_types::verifier::verify;
+use std::alloc::{AllocError, Global};
 use till_request::LineFault;
 use till_request::parts::first_part;
 
@@ -24,102 +30,158 @@ pub(crate) fn is_same(text: &[u8], other: &[u8]) -> bool
     text == other
 }
 
-/// Returns the line of an opening that `bytes` spell. `bytes` is the line without its LF. `room` is a buffer that is
-/// overwritten. The error is `Misplaced` if `bytes` spell no line, or that memory ran out.
-fn read_line(alloc: Global, room: &mut String, bytes: &[u8]) -> Result<Line, StepFault>
-    ensures { LineFound bytes.now result }
+/// Adds what a line says to `reading`, if it is read as a line of an opening and can be taken. `line` is the line
+/// without its LF. The error is that memory ran out.
+fn take_line(alloc: Global, reading: &mut Reading, line: &[u8]) -> Result<(), AllocError>
+    ensures { OnOk result (TakesRead reading.old (line_read line.now) reading.new) }
 {
-    let line = match parse_line(alloc, bytes) {
-        Ok(line) => line,
-        Err(LineFault::OutOfMemory) => return Err(StepFault::OutOfMemory),
-        Err(LineFault::TooLong) => return Err(StepFault::Misplaced),
-        Err(LineFault::BadLine) => return Err(StepFault::Misplaced),
-        Err(LineFault::BadNumber) => return Err(StepFault::Misplaced),
-        Err(LineFault::CutLine) => return Err(StepFault::Misplaced),
-    };
-    if spell_line(alloc, room, &line).is_err() {
-        return Err(StepFault::OutOfMemory);
-    }
-    if is_same(room.as_bytes(), bytes) {
-        Ok(line)
-    } else {
-        Err(StepFault::Misplaced)
+    match parse_line(alloc, line) {
+        Ok(line) => {
+            let _taken = reading.take(&line)?;
+            Ok(())
+        }
+        Err(LineFault::OutOfMemory) => Err(AllocError),
+        Err(LineFault::TooLong) | Err(LineFault::BadLine) => Ok(()),
+        Err(LineFault::BadNumber) | Err(LineFault::CutLine) => Ok(()),
     }
 }
 
-/// Reads the line of an opening that `bytes` spell, and adds it to `reading`. `bytes` is the line without its LF.
-/// `room` is a buffer that is overwritten. The error is `BadLine` if `bytes` spell no line that can come next, or
-/// `BadProgram` if the verifier refuses the line's program, each with the line's `number`. It can also be that memory
-/// ran out.
-fn take_line(
-    alloc: Global,
-    room: &mut String,
-    reading: &mut Reading,
-    bytes: &[u8],
-    number: u32,
-) -> Result<(), OpeningFlaw>
-    ensures { Takes number bytes.now reading.old result reading.new }
+/// Adds what the lines of a text say to `reading`. The error is that memory ran out.
+fn take_lines(alloc: Global, reading: &mut Reading, text: &[u8]) -> Result<(), AllocError>
+    ensures { OnOk result (Reads reading.old (pieces text.now) reading.new) }
 {
-    let line = match read_line(alloc, room, bytes) {
-        Ok(line) => line,
-        Err(StepFault::OutOfMemory) => return Err(OpeningFlaw::OutOfMemory),
-        Err(StepFault::Misplaced) => return Err(OpeningFlaw::BadLine(number)),
-        Err(StepFault::Refused { .. }) => unreachable!(),
+    let mut rest = Some(text);
+    while let Some(text) = rest {
+        let (line, more) = first_part(text, b'\n');
+        take_line(alloc, reading, line)?;
+        rest = more;
+    }
+    Ok(())
+}
+
+/// Reads the lines of a text, in whatever order they stand, and returns the opening that they describe. What isn't read
+/// as a line of an opening is skipped. The error is that memory ran out.
+fn read_loosely(alloc: Global, text: &[u8]) -> Result<OpeningFile, AllocError>
+    ensures reads { IfOk result (λ file. Reads blank_file (pieces text.now) file) }
+    ensures good { IfOk result (λ file. IsOpeningFile file) }
+{
+    let mut reading = Reading::new(alloc)?;
+    take_lines(alloc, &mut reading, text)?;
+    Ok(reading.finish())
+}
+
+/// Returns what comes after `line` and its LF, if a text begins with these, or else `None`.
+fn behind_line<'a>(text: &'a [u8], line: &[u8]) -> Option<&'a [u8]>
+    ensures { MatchOption result (LacksLine text.now line.now)
+        (λ behind. pieces text.now ≡ line.now ∷ pieces behind.now) }
+{
+    let (own, behind) = first_part(text, b'\n');
+    let Some(behind) = behind else {
+        return None;
     };
-    match reading.take(&line) {
-        Ok(()) => Ok(()),
-        Err(StepFault::Misplaced) => Err(OpeningFlaw::BadLine(number)),
-        Err(
-            StepFault::Refused {
+    if is_same(own, line) {
+        Some(behind)
+    } else {
+        None
+    }
+}
+
+/// Returns the flaw that the verifier refuses the program in these bytes, which is for `slot`, or that memory ran out.
+fn refused(alloc: Global, number: u32, slot: u32, bytes: &[u8], refusal: Refusal) -> OpeningFlaw
+    ensures { slot < 16 → (version mask : ℕ) (layout : Layout)
+        → IsRefusal (refusal_of (as_loaded bytes.now mask layout)) refusal
+        → IsLineFlaw number (Ok (Line.Version slot version mask layout bytes.now)) result }
+{
+    match refusal {
+        Refusal::OutOfMemory => OpeningFlaw::OutOfMemory,
+        Refusal::Decode(_) | Refusal::Flow(_) | Refusal::Type(_) => match bytes.to_vec(alloc) {
+            Ok(program) => OpeningFlaw::BadProgram {
+                line: number,
                 slot,
                 program,
                 refusal,
             },
-        ) => Err(OpeningFlaw::BadProgram {
-            line: number,
-            slot,
-            program,
-            refusal,
-        }),
-        Err(StepFault::OutOfMemory) => Err(OpeningFlaw::OutOfMemory),
+            Err(_) => OpeningFlaw::OutOfMemory,
+        },
     }
 }
 
-/// Takes all lines of a text into `reading`, which must be empty. Returns the number of the line that would be next,
-/// counted from 1, but at most 4,294,967,295. The error is the first flaw in the text, or that memory ran out. It is no
-/// error if the text ends before an opening's last line.
-fn read_lines(alloc: Global, reading: &mut Reading, text: &[u8]) -> Result<u32, OpeningFlaw>
-    requires { reading.old ≡ nothing_read }
-    ensures read { IfOk result (λ number. HasRead text.now [] number reading.new) }
-    ensures flaw { IfErr result (λ flaw. Flawed text.now flaw) }
+/// Returns the flaw in line `number`, which is that of a version, but not the one that it should be.
+fn version_flaw(
+    alloc: Global,
+    number: u32,
+    slot: u64,
+    mask: u32,
+    layout: Layout,
+    bytes: &[u8],
+) -> OpeningFlaw
+    ensures { (version : ℕ) → IsLineFlaw number (Ok (Line.Version slot version mask layout bytes.now)) result }
 {
-    let mut room = String::new(alloc);
+    if slot > 15 {
+        return OpeningFlaw::BadLine(number);
+    }
+    match verify(alloc, bytes, mask, layout) {
+        Ok(_program) => OpeningFlaw::BadLine(number),
+        Err(refusal) => refused(alloc, number, slot as u32, bytes, refusal),
+    }
+}
+
+/// Returns the flaw in line `number`, whose bytes without the LF are `line`, and which isn't the one that it should be.
+fn line_flaw(alloc: Global, number: u32, line: &[u8]) -> OpeningFlaw
+    ensures { IsLineFlaw number (line_read line.now) result }
+{
+    match parse_line(alloc, line) {
+        Ok(
+            Line::Version {
+                slot,
+                number: _version,
+                mask,
+                layout,
+                bytes,
+            },
+        ) => version_flaw(alloc, number, slot, mask, layout, bytes.as_slice()),
+        Err(LineFault::OutOfMemory) => OpeningFlaw::OutOfMemory,
+        Ok(Line::Day(_)) | Ok(Line::Cleared(_, _)) => OpeningFlaw::BadLine(number),
+        Ok(Line::Versions(_)) | Ok(Line::Price(_, _)) => OpeningFlaw::BadLine(number),
+        Ok(Line::Counter(_, _, _)) | Ok(Line::Point(_, _)) => OpeningFlaw::BadLine(number),
+        Ok(Line::Unpaid(_, _)) | Ok(Line::Journal(_, _)) => OpeningFlaw::BadLine(number),
+        Err(LineFault::TooLong) | Err(LineFault::BadLine) => OpeningFlaw::BadLine(number),
+        Err(LineFault::BadNumber) | Err(LineFault::CutLine) => OpeningFlaw::BadLine(number),
+    }
+}
+
+/// Returns the flaw in the first line in which a text differs from the text `other` of an opening. Lines are counted
+/// from 1; a number above 4,294,967,295 is given as 4,294,967,295.
+fn first_flaw(alloc: Global, text: &[u8], other: &[u8]) -> OpeningFlaw
+    ensures { Differs text.now other.now result }
+{
     let mut rest = text;
+    let mut left = other;
     let mut number = 1u32;
     while !rest.is_empty() {
         let (line, more) = first_part(rest, b'\n');
         let Some(more) = more else {
-            return Err(OpeningFlaw::CutLine(number));
+            return OpeningFlaw::CutLine(number);
         };
-        match take_line(alloc, &mut room, reading, line, number) {
-            Ok(()) => {}
-            Err(flaw) => return Err(flaw),
-        }
+        let Some(behind) = behind_line(left, line) else {
+            return line_flaw(alloc, number, line);
+        };
         rest = more;
+        left = behind;
         number = number.saturating_add(1);
     }
-    Ok(number)
+    OpeningFlaw::Ends(number)
 }
 
 /// Reads the text of an opening, and returns the opening. No other opening has the same text.
 ///
-/// The error is the first flaw in the text, or that memory ran out:
+/// The lines are read loosely, and the text of the opening that they describe is compared with `text`. If they differ,
+/// the error is the flaw in the first line in which they do, or that memory ran out:
 ///
-/// - `BadLine`, with the number of the first wrong line: the lines before it are the beginning of some opening's text,
-///   but no opening's text goes on with this line, not even with another program in it
+/// - `BadLine`: the opening has another line there. Its program isn't why
 /// - `Ends`, with the number of the last line plus 1: the text ends too early
 /// - `CutLine`: the last line has no LF
-/// - `BadProgram`: the verifier refuses the program of a line
+/// - `BadProgram`: the verifier refuses the program of the line
 /// - `OutOfMemory`: memory ran out
 pub fn read_opening(alloc: Global, text: &[u8]) -> Result<OpeningFile, OpeningFlaw>
     ensures read { IfOk result (λ file. opening_text file ≡ text.now) }
@@ -128,17 +190,15 @@ pub fn read_opening(alloc: Global, text: &[u8]) -> Result<OpeningFile, OpeningFl
     ensures only { IfOk result (λ file. IsOnly text.now file) }
     ensures flaw { IfErr result (λ flaw. IsFlaw text.now flaw) }
 {
-    let Ok(mut reading) = Reading::new(alloc) else {
+    let Ok(file) = read_loosely(alloc, text) else {
         return Err(OpeningFlaw::OutOfMemory);
     };
-    let number = match read_lines(alloc, &mut reading, text) {
-        Ok(number) => number,
-        Err(flaw) => return Err(flaw),
+    let Ok(own) = opening_text(alloc, &file) else {
+        return Err(OpeningFlaw::OutOfMemory);
     };
-    if !reading.is_complete() {
-        return Err(OpeningFlaw::Ends(number));
+    if !is_same(text, own.as_bytes()) {
+        return Err(first_flaw(alloc, text, own.as_bytes()));
     }
-    let file = reading.finish();
     // This call tells the prover that the numbers in `file` are in the ranges of their types.
     file_in_range(&file);
     Ok(file)

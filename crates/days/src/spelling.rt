@@ -4,7 +4,7 @@ ghost use Rattle.std.specs.Prelude.{◌≡◌, ◌∷◌, [], OnOk, Some, codes,
 ghost use Rattle.hex.specs.Hex.{encode_lower};
 ghost use Rattle.till_request.specs.Short.{with_words};
 ghost use Rattle.till_request.specs.Spelling.{load_word};
-ghost use Rattle.days.specs.Text.{line_spelling, line_words, order_word, version_lines, yes_or_no};
+ghost use Rattle.days.specs.Text.{line_words, order_word, version_lines, yes_or_no};
 ghost use Rattle.days.specs.Spelling.{AddsLines, with_line};
 
 use crate::line::Line;
@@ -212,14 +212,6 @@ fn put_words(alloc: Global, text: &mut String, line: &Line) -> Result<(), AllocE
         Line::Unpaid(point, unpaid) => put_unpaid(text, *point, unpaid),
         Line::Journal(entries, digest) => put_journal(alloc, text, *entries, digest),
     }
-}
-
-/// Replaces `text` by the spelling of `line`, without an LF. The error is that memory ran out.
-pub(crate) fn spell_line(alloc: Global, text: &mut String, line: &Line) -> Result<(), AllocError>
-    ensures { OnOk result (string_bytes text.new ≡ line_spelling line.now) }
-{
-    text.clear();
-    put_words(alloc, text, line)
 }
 
 /// Appends a line with its LF. The error is that memory ran out.
