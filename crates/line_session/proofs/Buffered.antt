@@ -2,33 +2,26 @@
 -- Once all buffered bytes are written, the promises hold for the output alone. If a write fails, the output has a
 -- beginning of the answers (`Breaks`). If a read fails, the output may have only a beginning too, since the buffered
 -- bytes aren't written (`StopsAtDoor`).
-use Rattle.std.proofs.Common.{◌≡◌, ◌≢◌, ◌⊎◌, ℕ, ◌+◌, List, [], ◌∷◌, ◌++◌, Option, Some, None, Result, Ok, Err, IfOk, IfErr, OnErr, refl, sym, ◌∙◌, ap, subst, append_assoc, append-nil}
-use Rattle.std.proofs.Common.{inl, inr}
-use Rattle.std.specs.List.{flat_map}
+use Rattle.std.proofs.Common.{◌≡◌, ◌≢◌, ℕ, ◌+◌, List, [], ◌∷◌, ◌++◌, Option, Some, Result, Ok, Err, IfOk, OnErr, refl, sym, ◌∙◌, ap, ap₂, subst, append_assoc, append-nil}
+use Rattle.std.proofs.Common.{inl}
 use Rattle.std.specs.Io.KnownBytes.{Consumes, Appends}
-use Rattle.till_request.proofs.Taken.{consumes_more, appends_more}
+use Rattle.till_request.proofs.Taken.{appends_more}
 use Rattle.till_request.specs.declared.act.LineFault.{LineFault}
-use Rattle.till_request.specs.declared.act.Answer.TheVariants.{Line}
-use Rattle.till_request.specs.Answer.{answer_line}
 use Rattle.till_request.specs.Line.{IsLine}
 use Rattle.line_session.specs.Found.{IsEnd}
-use Rattle.line_session.specs.Answering.{with_lf, cut_line, cut_count, all_texts, AnswersLines, IsCut, AnswersCut, IsUpToLine, Ends, Breaks, Stops, StopsAtDoor}
+use Rattle.line_session.specs.Answering.{cut_count, cut_line, all_texts, AnswersLines, IsCut, IsUpToLine, Ends, Breaks, Stops, StopsAtDoor}
 use Rattle.till_request.specs.declared.line.InputFault.{InputFault}
-use Rattle.line_session.specs.Faults.{fault_of_input}
+use Rattle.line_session.specs.Deciding.{LeavesLine}
+use Rattle.line_session.specs.Faults.{fault_of_handler, fault_of_input}
 use Rattle.line_session.specs.declared.line_handler.HandlerError.{HandlerError}
-use Rattle.line_session.specs.declared.line_handler.HandlerError.TheVariants as error
 use Rattle.line_session.specs.declared.answering.Ended.{Ended}
 use Rattle.line_session.specs.declared.answering.SessionFault.{SessionFault}
 use Rattle.line_session.specs.declared.answering.SessionFault.TheVariants as session
-use Rattle.line_session.specs.Buffering.{Sends, HoldsWithBuffered, BuffersAnswer, LosesSome, FailsToBuffer}
-use Rattle.line_session.proofs.Saying.{is_line_empty, consumes_none, appends_none, talks_none, talks_more, breaks_here, stops_here, stops_silent, stops_dropped}
+use Rattle.line_session.specs.Buffering.{Sends, HoldsWithBuffered}
+use Rattle.line_session.proofs.Saying.{is_line_empty, consumes_none, appends_none, talks_none, talks_more, ends_said, is_answered, breaks_here, stops_here, stops_left}
 
-is_answered : (cut : Option LineFault) (now : Option (List ℕ)) (rest : List ℕ) → IsCut cut now rest → AnswersCut cut now rest
-is_answered None now rest h = subst IsUpToLine (sym h.0) (inl is_line_empty)
-is_answered (Some fault) now rest h = h
-
-read_is_no_write : session.Read ≡ session.Write → ⊥
-read_is_no_write e = absurd (cc)
+pub sends_none : (p : Option (List ℕ)) (pending : List ℕ) → Sends pending pending p p
+sends_none p pending = record { sent = []; out = appends_none p; in_order = refl }
 
 -- If a promise `X` holds for the written and the buffered bytes together (`HoldsWithBuffered`), and a beginning of the
 -- buffered bytes `pending` is written, then `X` still holds for both together, with only the rest of these bytes,
@@ -53,7 +46,7 @@ module _ {C D : Type 0} (answers_with : C × D → List ℕ → List ℕ → C �
 
   -- if the answers to `count` lines were written or are buffered, and one more line is read and its answer buffered,
   -- then the answers to `count + 1` lines were written or are buffered
-  holds_after_answer : (s m s' : C × D) (i j k o p : Option (List ℕ)) (pending : List ℕ) (count : ℕ) (l text : List ℕ) → HoldsWithBuffered (Answers s m i j count) o p pending
+  pub holds_after_answer : (s m s' : C × D) (i j k o p : Option (List ℕ)) (pending : List ℕ) (count : ℕ) (l text : List ℕ) → HoldsWithBuffered (Answers s m i j count) o p pending
       → IsLine l → Consumes j k (l ++ 10 ∷ []) → answers_with m l text s' → HoldsWithBuffered (Answers s s' i k (count + 1)) o p (pending ++ text)
   holds_after_answer s m s' i j k o p pending count l text w whole taken all_answered = record {
     sent = w.sent;
@@ -62,36 +55,17 @@ module _ {C D : Type 0} (answers_with : C × D → List ℕ → List ℕ → C �
     out = w.out;
   }
 
-  pub waits_more : (s m s' : C × D) (i j k o p q : Option (List ℕ)) (pending after : List ℕ) (count : ℕ) (l : List ℕ)
-      → HoldsWithBuffered (Answers s m i j count) o p pending → IsLine l → Consumes j k (l ++ 10 ∷ []) → BuffersAnswer answers_with l m s' pending after p q
-      → HoldsWithBuffered (Answers s s' i k (count + 1)) o q after
-  waits_more s m s' i j k o p q pending after count l w whole taken a =
-      still_holds_after_write (Answers s s' i k (count + 1)) o p q (pending ++ a.text) after (holds_after_answer s m s' i j k o p pending count l a.text w whole taken a.is_answer) a.goes_on
-
   -- If the lines so far were answered, then the session has ended without a failure (`Ends`), where buffered bytes
   -- count as written, in two cases:
   -- - The input has ended right after these lines.
   -- - The next line is too long, or is a last line without LF, and the answer to this fault is buffered too.
-  ends_so : (s m : C × D) (i j k o p : Option (List ℕ)) (pending : List ℕ) (count : ℕ) (cut : Option LineFault) (more : List ℕ)
-      → HoldsWithBuffered (Answers s m i j count) o p pending → Consumes j k more → IsCut cut k more
-      → HoldsWithBuffered (λ a b. Ends answers_with s m i k a b (count + cut_count cut) cut) o p (pending ++ cut_line cut)
-  ends_so s m i j k o p pending count cut more w taken is = record {
+  ends_so : (s m : C × D) (i j k o p : Option (List ℕ)) (pending : List ℕ) (count : ℕ) (cut : Option LineFault) (more : List ℕ) (ended : Ended)
+      → HoldsWithBuffered (Answers s m i j count) o p pending → Consumes j k more → IsCut cut k more → IsEnd count cut ended
+      → HoldsWithBuffered (λ a b. Ends answers_with s m i k a b ended.lines ended.cut) o p (pending ++ cut_line cut)
+  ends_so s m i j k o p pending count cut more ended w taken is end = record {
     sent = w.sent;
-    as_if_out = record {
-      answered = count;
-      rest = more;
-      answering = record {
-        lines = w.as_if_out.lines;
-        texts = w.as_if_out.texts;
-        each = w.as_if_out.each;
-        all_answered = w.as_if_out.all_answered;
-        taken = consumes_more i j k (flat_map with_lf w.as_if_out.lines) more (rw append-nil at w.as_if_out.taken) taken;
-        written = sym (append_assoc w.sent pending (cut_line cut)) ∙ ap (λ (t : List ℕ). t ++ cut_line cut) (rw append-nil at w.as_if_out.written);
-        counted = w.as_if_out.counted;
-      };
-      is_cut = is;
-      counted = refl;
-    };
+    as_if_out = ends_said answers_with s m i j k (Some []) (Some (w.sent ++ pending)) (Some (w.sent ++ (pending ++ cut_line cut))) count cut more (Ok ended) w.as_if_out
+        taken is (end, sym (append_assoc w.sent pending (cut_line cut)));
     out = w.out;
   }
 
@@ -101,11 +75,8 @@ module _ {C D : Type 0} (answers_with : C × D → List ℕ → List ℕ → C �
       → IfOk r (λ e. HoldsWithBuffered (λ a b. Ends answers_with s m i k a b e.lines e.cut) o q after)
   ends_all s m i j k o p q pending after count cut more (Err fault) w taken is h = tt
   ends_all s m i j k o p q pending after count cut more (Ok ended) w taken is h =
-      let P : ℕ → Type 0 = λ n. HoldsWithBuffered (λ a b. Ends answers_with s m i k a b n ended.cut) o q after in
-      let Q : Option LineFault → Type 0 = λ c. HoldsWithBuffered (λ a b. Ends answers_with s m i k a b (count + cut_count cut) c) o q after in
-      subst P (sym h.0.lines_are) (subst Q (sym h.0.cut_is)
-      (still_holds_after_write (λ a b. Ends answers_with s m i k a b (count + cut_count cut) cut) o p q (pending ++ cut_line cut) after
-      (ends_so s m i j k o p pending count cut more w taken is) h.1))
+      still_holds_after_write (λ a b. Ends answers_with s m i k a b ended.lines ended.cut) o p q (pending ++ cut_line cut) after
+      (ends_so s m i j k o p pending count cut more ended w taken is h.0) h.1
 
   module _ (drops : HandlerError → C × D → List ℕ → C × D → Type 0) where
     -- `Breaks` says that a failed session wrote a beginning of its answers. If it says so of a session that wrote
@@ -146,19 +117,6 @@ module _ {C D : Type 0} (answers_with : C × D → List ℕ → List ℕ → C �
     breaks_gone s m i j o p q pending count w e =
         breaks_part s m i j o p q pending e.0 (breaks_so s m i j j o p pending count [] w (consumes_none j) (inl is_line_empty)) e.1
 
-    breaks_lost : (s m s' : C × D) (i j k o p q : Option (List ℕ)) (pending : List ℕ) (count : ℕ) (l : List ℕ)
-        → HoldsWithBuffered (Answers s m i j count) o p pending → IsLine l → Consumes j k (l ++ 10 ∷ []) → LosesSome answers_with l m s' pending p q
-        → Breaks answers_with drops s s' i k o q
-    breaks_lost s m s' i j k o p q pending count l w whole taken a =
-        breaks_gone s s' i k o p q (pending ++ a.text) (count + 1) (holds_after_answer s m s' i j k o p pending count l a.text w whole taken a.is_answer) (a.lost, a.goes_on)
-
-    pub breaks_said : (needs_memory : List ℕ → Type 0) (fault : SessionFault) (s m s' : C × D) (i j k o p q : Option (List ℕ)) (pending after : List ℕ) (count : ℕ)
-        (l : List ℕ) → HoldsWithBuffered (Answers s m i j count) o p pending → IsLine l → Consumes j k (l ++ 10 ∷ [])
-        → FailsToBuffer answers_with drops needs_memory fault l m s' pending after p q → fault ≡ session.Write → Breaks answers_with drops s s' i k o q
-    breaks_said needs_memory fault s m s' i j k o p q pending after count l w whole taken a is =
-        let P : SessionFault → Type 0 = λ f. FailsToBuffer answers_with drops needs_memory f l m s' pending after p q in
-        breaks_lost s m s' i j k o p q pending count l w whole taken (subst P is a)
-
     ends_broken : (s m : C × D) (i k o p : Option (List ℕ)) (count : ℕ) (cut : Option LineFault) → Ends answers_with s m i k o p count cut
         → Breaks answers_with drops s m i k o p
     ends_broken s m i k o p count cut e = record {
@@ -186,13 +144,11 @@ module _ {C D : Type 0} (answers_with : C × D → List ℕ → List ℕ → C �
 
     pub breaks_cut_off : (s m : C × D) (i j k o p q : Option (List ℕ)) (pending : List ℕ) (count : ℕ) (cut : Option LineFault) (more : List ℕ)
         (r : Result Ended SessionFault) → HoldsWithBuffered (Answers s m i j count) o p pending → Consumes j k more → IsCut cut k more
-        → OnErr r ((fault : LineFault) × (cut ≡ Some fault) × (lost : List ℕ) × Sends (pending ++ answer_line (Line fault)) lost p q)
-        → IfErr r (λ e. e ≡ session.Write → Breaks answers_with drops s m i k o q)
+        → OnErr r ((lost : List ℕ) × Sends (pending ++ cut_line cut) lost p q) → OnErr r (Breaks answers_with drops s m i k o q)
     breaks_cut_off s m i j k o p q pending count cut more (Ok ended) w taken is h = tt
-    breaks_cut_off s m i j k o p q pending count cut more (Err e) w taken is h = λ _.
-        let P : Option LineFault → Type 0 = λ c. IsCut c k more in
-        ends_part s m i k o p q (pending ++ answer_line (Line h.0)) (count + 1) (Some h.0)
-        (ends_so s m i j k o p pending count (Some h.0) more w taken (subst P h.1 is)) (h.2, h.3)
+    breaks_cut_off s m i j k o p q pending count cut more (Err e) w taken is h =
+        ends_part s m i k o p q (pending ++ cut_line cut) (count + cut_count cut) cut
+        (ends_so s m i j k o p pending count cut more (record { lines = count + cut_count cut; cut = cut }) w taken is (record { lines_are = refl; cut_is = refl })) h
 
     module _ (needs_memory : List ℕ → Type 0) where
       -- if the lines so far were answered, and the next line couldn't be read whole because of this fault (zero or more
@@ -207,65 +163,27 @@ module _ {C D : Type 0} (answers_with : C × D → List ℕ → List ℕ → C �
         out = w.out;
       }
 
-      stops_want : (s m s' : C × D) (i j k o p : Option (List ℕ)) (count : ℕ) (l : List ℕ)
-          → AnswersLines answers_with s m i j o p count [] [] → IsLine l → Consumes j k (l ++ 10 ∷ []) → (needs_memory l × (s' ≡ m)) ⊎ drops error.OutOfMemory m l s'
-          → Stops answers_with drops needs_memory session.OutOfMemory s s' i k o p
-      stops_want s m s' i j k o p count l t whole taken (inl load) =
-          rw load.1 (stops_silent answers_with drops needs_memory s m i j k o p count l t whole taken load.0)
-      stops_want s m s' i j k o p count l t whole taken (inr dropped) =
-          stops_dropped answers_with drops needs_memory session.OutOfMemory error.OutOfMemory s m s' i j k o p count l t whole taken dropped
-          (inr (l, whole, refl, inr dropped))
-
-      pub stops_said : (fault : SessionFault) (s m s' : C × D) (i j k o p q : Option (List ℕ)) (pending after : List ℕ) (count : ℕ) (l : List ℕ)
-          → HoldsWithBuffered (Answers s m i j count) o p pending → IsLine l → Consumes j k (l ++ 10 ∷ [])
-          → FailsToBuffer answers_with drops needs_memory fault l m s' pending after p q → fault ≢ session.Write → HoldsWithBuffered (Stops answers_with drops needs_memory fault s s' i k) o q after
-      stops_said session.Write s m s' i j k o p q pending after count l w whole taken a other = absurd (other refl)
-      stops_said session.Read s m s' i j k o p q pending after count l w whole taken a other = absurd a
-      stops_said session.ReadsSpent s m s' i j k o p q pending after count l w whole taken a other = absurd a
-      stops_said session.OutOfMemory s m s' i j k o p q pending after count l w whole taken a other = rw (a.0.waits, a.0.out) record {
+      -- if the lines so far were answered, and the next line was read and left without an answer, then the session failed
+      -- at this line, and its answers are the written and the buffered bytes together (`Stops`)
+      pub stops_left_held : (fault : HandlerError) (s m s' : C × D) (i j k o p : Option (List ℕ)) (pending : List ℕ) (count : ℕ) (l : List ℕ)
+          → HoldsWithBuffered (Answers s m i j count) o p pending → IsLine l → Consumes j k (l ++ 10 ∷ []) → LeavesLine drops needs_memory fault m l s'
+          → HoldsWithBuffered (Stops answers_with drops needs_memory (fault_of_handler fault) s s' i k) o p pending
+      stops_left_held fault s m s' i j k o p pending count l w whole taken a = record {
         sent = w.sent;
-        as_if_out = stops_want s m s' i j k (Some []) (Some (w.sent ++ pending)) count l w.as_if_out whole taken a.1;
-        out = w.out;
-      }
-      stops_said session.Journal s m s' i j k o p q pending after count l w whole taken a other = rw (a.0.waits, a.0.out) record {
-        sent = w.sent;
-        as_if_out = stops_dropped answers_with drops needs_memory session.Journal error.Journal s m s' i j k (Some []) (Some (w.sent ++ pending)) count l w.as_if_out whole
-            taken a.1 (l, whole, refl, a.1);
+        as_if_out = stops_left answers_with drops needs_memory fault s m s' i j k (Some []) (Some (w.sent ++ pending)) count l w.as_if_out whole taken a;
         out = w.out;
       }
 
-      -- if a session failed, but no write failed, and its answers are the written and the buffered bytes together
-      -- (`Stops`), then `StopsAtDoor` holds once the buffered bytes are written: unless a read failed, it promises that
-      -- all answers are in the output
-      pub stops_out : (fault : SessionFault) (s m : C × D) (i k o p q : Option (List ℕ)) (pending : List ℕ) → HoldsWithBuffered (Stops answers_with drops needs_memory fault s m i k) o p pending
-          → Sends pending [] p q → StopsAtDoor answers_with drops needs_memory fault s m i k o q
+      -- If a session failed, but no write failed, and its answers are the written and the buffered bytes together
+      -- (`Stops`), then `StopsAtDoor` holds once all buffered bytes are written. If a read failed, it holds whatever
+      -- beginning of these bytes is written, since it then promises only a beginning of the answers.
+      pub stops_at_door : (fault : SessionFault) (s m : C × D) (i k o p q : Option (List ℕ)) (pending after : List ℕ)
+          → HoldsWithBuffered (Stops answers_with drops needs_memory fault s m i k) o p pending → Sends pending after p q → (fault ≢ session.Read → after ≡ [])
+          → StopsAtDoor answers_with drops needs_memory fault s m i k o q
       unfolding part_out
-      stops_out fault s m i k o p q pending w sends =
-          let x = still_holds_after_write (Stops answers_with drops needs_memory fault s m i k) o p q pending [] w sends in
-          (part_out s m i k o q (x.sent ++ []) x.sent [] x.as_if_out.0 refl x.out, x.as_if_out.1, λ _. x.as_if_out.2, x.as_if_out.3)
-
-      -- if a session failed because a read failed, and its answers are the written and the buffered bytes together
-      -- (`Stops`), then `StopsAtDoor` holds although the buffered bytes aren't written: after a failed read it promises
-      -- only a beginning of the answers
-      stops_waiting : (fault : SessionFault) (s m : C × D) (i k o p : Option (List ℕ)) (pending : List ℕ) → HoldsWithBuffered (Stops answers_with drops needs_memory fault s m i k) o p pending
-          → fault ≡ session.Read → StopsAtDoor answers_with drops needs_memory fault s m i k o p
-      unfolding part_out
-      stops_waiting fault s m i k o p pending w is =
-          (part_out s m i k o p (w.sent ++ pending) w.sent pending w.as_if_out.0 refl w.out, w.as_if_out.1, λ e. absurd (e is), w.as_if_out.3)
-
-      -- if a device failed in a read or a write, but no write failed, and the session's answers are the written and the
-      -- buffered bytes together (`Stops`), then `StopsAtDoor` holds although the buffered bytes aren't written
-      pub stops_off : (fault : SessionFault) (s m : C × D) (i k o p : Option (List ℕ)) (pending : List ℕ) → (fault ≡ session.Read) ⊎ (fault ≡ session.Write)
-          → (fault ≢ session.Write → HoldsWithBuffered (Stops answers_with drops needs_memory fault s m i k) o p pending) → fault ≢ session.Write
-          → StopsAtDoor answers_with drops needs_memory fault s m i k o p
-      stops_off fault s m i k o p pending (inl read) w other = stops_waiting fault s m i k o p pending (w other) read
-      stops_off fault s m i k o p pending (inr write) w other = absurd (other write)
-
-      pub breaks_off : (fault : SessionFault) (s m : C × D) (i k o p : Option (List ℕ)) (pending : List ℕ) → (fault ≡ session.Read) ⊎ (fault ≡ session.Write)
-          → (fault ≢ session.Write → HoldsWithBuffered (Stops answers_with drops needs_memory fault s m i k) o p pending) → (fault ≡ session.Write → Breaks answers_with drops s m i k o p)
-          → Breaks answers_with drops s m i k o p
-      breaks_off fault s m i k o p pending (inl read) w b = (stops_waiting fault s m i k o p pending (w (λ write. read_is_no_write (sym read ∙ write))) read).0
-      breaks_off fault s m i k o p pending (inr write) w b = b write
+      stops_at_door fault s m i k o p q pending after w sends all =
+          let x = still_holds_after_write (Stops answers_with drops needs_memory fault s m i k) o p q pending after w sends in
+          (part_out s m i k o q (x.sent ++ after) x.sent after x.as_if_out.0 refl x.out, x.as_if_out.1, λ other. ap₂ (λ (a b : List ℕ). a ++ b) (all other) x.as_if_out.2, x.as_if_out.3)
 
       pub stops_part : (fault : SessionFault) (s m : C × D) (i k o p q : Option (List ℕ)) (pending : List ℕ) → HoldsWithBuffered (Stops answers_with drops needs_memory fault s m i k) o p pending
           → (lost : List ℕ) × Sends pending lost p q → Breaks answers_with drops s m i k o q

@@ -9,8 +9,6 @@ use Rattle.std.proofs.lemmas.List.{take-append-drop}
 use Rattle.till_request.proofs.Taken.{consumes_more, appends_more}
 use Rattle.till_request.specs.declared.act.LineFault.{LineFault}
 use Rattle.till_request.specs.Line.{IsLine}
-use Rattle.till_request.specs.declared.act.Answer.TheVariants.{Line}
-use Rattle.till_request.specs.Answer.{answer_line}
 use Rattle.line_session.specs.declared.line_handler.HandlerError.{HandlerError}
 use Rattle.line_session.specs.declared.line_handler.HandlerError.TheVariants as error
 use Rattle.line_session.specs.declared.answering.Ended.{Ended}
@@ -18,12 +16,17 @@ use Rattle.line_session.specs.declared.answering.SessionFault.{SessionFault}
 use Rattle.line_session.specs.declared.answering.SessionFault.TheVariants as session
 use Rattle.till_request.specs.declared.line.InputFault.{InputFault}
 use Rattle.till_request.specs.declared.line.InputFault.TheVariants as input
+use Rattle.line_session.specs.Deciding.{LeavesLine}
 use Rattle.line_session.specs.Faults.{fault_of_handler, fault_of_input}
 use Rattle.line_session.specs.Found.{IsEnd}
-use Rattle.line_session.specs.Answering.{HandlerFails, WritesAnswerFront, Dropped, with_lf, WritesAnswer, AnswersAll, AnswersLines, IsCut, IsUpToLine, Ends, Breaks, Stops, StopsFor, cut_line, cut_count}
+use Rattle.line_session.specs.Answering.{HandlerFails, WritesAnswerFront, with_lf, WritesAnswer, AnswersAll, AnswersLines, IsCut, AnswersCut, IsUpToLine, Ends, Breaks, Stops, StopsFor, cut_line, cut_count}
 
 pub is_line_empty : IsLine []
 is_line_empty = (tt, omega arith)
+
+pub is_answered : (cut : Option LineFault) (now : Option (List ℕ)) (rest : List ℕ) → IsCut cut now rest → AnswersCut cut now rest
+is_answered None now rest h = subst IsUpToLine (sym h.0) (inl is_line_empty)
+is_answered (Some fault) now rest h = h
 
 abbrev same : List ℕ → List ℕ
 same t = t
@@ -135,12 +138,6 @@ module _ {C D : Type 0} (answers_with : C × D → List ℕ → List ℕ → C �
       begins = refl;
     }
 
-    breaks_dropped : {O : Type 0} (out : O → Option (List ℕ)) (why : HandlerError) (s m s' : C × D) (i j k o : Option (List ℕ)) (p q : O) (count : ℕ)
-        (l : List ℕ) → AnswersLines answers_with s m i j o (out p) count [] [] → IsLine l → Consumes j k (l ++ 10 ∷ []) → Dropped (drops why) l m s' p q
-        → Breaks answers_with drops s s' i k o (out q)
-    breaks_dropped out why s m s' i j k o p q count l t whole taken a =
-        rw a.output (dropped_next why s m s' i j k o (out p) count l t whole taken a.drops_it)
-
     breaks_half : (s m s' : C × D) (i j k o p q : Option (List ℕ)) (count : ℕ) (l : List ℕ)
         → AnswersLines answers_with s m i j o p count [] [] → IsLine l → Consumes j k (l ++ 10 ∷ []) → WritesAnswerFront answers_with l m s' p q
         → Breaks answers_with drops s s' i k o q
@@ -161,23 +158,13 @@ module _ {C D : Type 0} (answers_with : C × D → List ℕ → List ℕ → C �
       begins = rw (append-nil, flat_more same t.texts a.text, append_assoc) (ap (λ x. flat_map same t.texts ++ x) (sym (take-append-drop a.kept a.text)));
     }
 
-    pub breaks_line : {O : Type 0} (out : O → Option (List ℕ)) (s m s' : C × D) (i j k : Option (List ℕ)) (o : Option (List ℕ)) (p q : O)
-        (count : ℕ) (l : List ℕ)
-        → AnswersLines answers_with s m i j o (out p) count [] [] → IsLine l → Consumes j k (l ++ 10 ∷ [])
-        → (needs_memory : List ℕ → Type 0) (fault : HandlerError) → HandlerFails answers_with drops needs_memory out fault l m s' p q
-        → Breaks answers_with drops s s' i k o (out q)
-    breaks_line out s m s' i j k o p q count l t whole taken needs_memory error.OutOfMemory (inl a) =
-        rw (a.state, a.output) (breaks_here s m i j o (out p) count k (l ++ 10 ∷ []) t taken (inr (l, whole, refl)))
-    breaks_line out s m s' i j k o p q count l t whole taken needs_memory error.OutOfMemory (inr a) =
-        breaks_dropped out error.OutOfMemory s m s' i j k o p q count l t whole taken a
-    breaks_line out s m s' i j k o p q count l t whole taken needs_memory error.Journal a =
-        breaks_dropped out error.Journal s m s' i j k o p q count l t whole taken a
-    breaks_line out s m s' i j k o p q count l t whole taken needs_memory error.Write a = breaks_half s m s' i j k o (out p) (out q) count l t whole taken a
-
-    breaks_cut : (s m : C × D) (i j k o p q : Option (List ℕ)) (count : ℕ) (more : List ℕ) (fault : LineFault) (kept : ℕ)
-        → AnswersLines answers_with s m i j o p count [] [] → Consumes j k more → IsCut (Some fault) k more → Appends p q (take kept (answer_line (Line fault)))
-        → Breaks answers_with drops s m i k o q
-    breaks_cut s m i j k o p q count more fault kept t taken is w = record {
+    -- if the lines so far were answered, and the session ended without a whole line, then it failed if only a beginning
+    -- of the answer to the last line's fault was written
+    pub breaks_end : (s m : C × D) (i j k o p q : Option (List ℕ)) (count : ℕ) (cut : Option LineFault) (more : List ℕ) (r : Result Ended SessionFault)
+        → AnswersLines answers_with s m i j o p count [] [] → Consumes j k more → IsCut cut k more
+        → OnErr r ((n : ℕ) × Appends p q (take n (cut_line cut))) → OnErr r (Breaks answers_with drops s m i k o q)
+    breaks_end s m i j k o p q count cut more (Ok ended) t taken is h = tt
+    breaks_end s m i j k o p q count cut more (Err e) t taken is h = record {
       lines = t.lines;
       texts = t.texts;
       each = t.each;
@@ -186,22 +173,13 @@ module _ {C D : Type 0} (answers_with : C × D → List ℕ → List ℕ → C �
       rest = more;
       dropped = inl refl;
       taken = consumes_more i j k (flat_map with_lf t.lines) more (rw append-nil at t.taken) taken;
-      cut = Some fault;
-      is_cut = is;
-      front = flat_map same t.texts ++ take kept (answer_line (Line fault));
-      after = drop kept (answer_line (Line fault));
-      written = appends_more o p q (flat_map same t.texts) (take kept (answer_line (Line fault))) (rw append-nil at t.written) w;
-      begins = rw append_assoc (ap (λ x. flat_map same t.texts ++ x) (sym (take-append-drop kept (answer_line (Line fault)))));
+      cut = cut;
+      is_cut = is_answered cut k more is;
+      front = flat_map same t.texts ++ take h.0 (cut_line cut);
+      after = drop h.0 (cut_line cut);
+      written = appends_more o p q (flat_map same t.texts) (take h.0 (cut_line cut)) (rw append-nil at t.written) h.1;
+      begins = rw append_assoc (ap (λ x. flat_map same t.texts ++ x) (sym (take-append-drop h.0 (cut_line cut))));
     }
-
-    pub breaks_end : (s m : C × D) (i j k o p q : Option (List ℕ)) (count : ℕ) (cut : Option LineFault) (more : List ℕ) (r : Result Ended SessionFault)
-        → AnswersLines answers_with s m i j o p count [] [] → Consumes j k more → IsCut cut k more
-        → OnErr r ((fault : LineFault) × (cut ≡ Some fault) × (n : ℕ) × Appends p q (take n (answer_line (Line fault))))
-        → OnErr r (Breaks answers_with drops s m i k o q)
-    breaks_end s m i j k o p q count cut more (Ok ended) t taken is h = tt
-    breaks_end s m i j k o p q count cut more (Err e) t taken is h =
-        let P : Option LineFault → Type 0 = λ c. IsCut c k more in
-        breaks_cut s m i j k o p q count more h.0 h.2 t taken (subst P h.1 is) h.3
 
     -- if reading the next line failed with this fault after `more`, at most a beginning of the line, then this is why
     -- the session failed (`StopsFor`)
@@ -220,30 +198,30 @@ module _ {C D : Type 0} (answers_with : C × D → List ℕ → List ℕ → C �
     stops_here needs_memory fault s m i j o p count k more t taken line =
         (breaks_here s m i j o p count k more t taken (inl line), refl, refl, stops_reading needs_memory fault m more line)
 
-    pub stops_silent : (needs_memory : List ℕ → Type 0) (s m : C × D) (i j k o p : Option (List ℕ)) (count : ℕ) (l : List ℕ)
-        → AnswersLines answers_with s m i j o p count [] [] → IsLine l → Consumes j k (l ++ 10 ∷ []) → needs_memory l
-        → Stops answers_with drops needs_memory session.OutOfMemory s m i k o p
-    unfolding breaks_here
-    stops_silent needs_memory s m i j k o p count l t whole taken h =
-        (breaks_here s m i j o p count k (l ++ 10 ∷ []) t taken (inr (l, whole, refl)), refl, refl, inr (l, whole, refl, inl (refl, h)))
+    -- if the lines so far were answered, and the next line was read and left without an answer, then the session failed
+    -- at this line, and all its answers were written whole (`Stops`)
+    pub stops_left : (needs_memory : List ℕ → Type 0) (fault : HandlerError) (s m s' : C × D) (i j k o p : Option (List ℕ)) (count : ℕ) (l : List ℕ)
+        → AnswersLines answers_with s m i j o p count [] [] → IsLine l → Consumes j k (l ++ 10 ∷ []) → LeavesLine drops needs_memory fault m l s'
+        → Stops answers_with drops needs_memory (fault_of_handler fault) s s' i k o p
+    unfolding breaks_here dropped_next
+    stops_left needs_memory error.Write s m s' i j k o p count l t whole taken left = absurd left
+    stops_left needs_memory error.OutOfMemory s m s' i j k o p count l t whole taken (inl load) =
+        rw load.1 (breaks_here s m i j o p count k (l ++ 10 ∷ []) t taken (inr (l, whole, refl)), refl, refl, inr (l, whole, refl, inl (refl, load.0)))
+    stops_left needs_memory error.OutOfMemory s m s' i j k o p count l t whole taken (inr dropped) =
+        (dropped_next error.OutOfMemory s m s' i j k o p count l t whole taken dropped, refl, refl, inr (l, whole, refl, inr dropped))
+    stops_left needs_memory error.Journal s m s' i j k o p count l t whole taken dropped =
+        (dropped_next error.Journal s m s' i j k o p count l t whole taken dropped, refl, refl, (l, whole, refl, dropped))
 
-    pub stops_dropped : (needs_memory : List ℕ → Type 0) (fault : SessionFault) (why : HandlerError) (s m s' : C × D) (i j k o p : Option (List ℕ)) (count : ℕ)
-        (l : List ℕ) → AnswersLines answers_with s m i j o p count [] [] → IsLine l → Consumes j k (l ++ 10 ∷ []) → drops why m l s'
-        → StopsFor drops needs_memory fault m s' (l ++ 10 ∷ []) → Stops answers_with drops needs_memory fault s s' i k o p
-    unfolding dropped_next
-    stops_dropped needs_memory fault why s m s' i j k o p count l t whole taken d is =
-        (dropped_next why s m s' i j k o p count l t whole taken d, refl, refl, is)
+    module _ {O : Type 0} (out : O → Option (List ℕ)) (s m s' : C × D) (i j k o : Option (List ℕ)) (p q : O) (count : ℕ) (l : List ℕ)
+        (t : AnswersLines answers_with s m i j o (out p) count [] []) (whole : IsLine l) (taken : Consumes j k (l ++ 10 ∷ [])) (needs_memory : List ℕ → Type 0) where
+      pub stops_line : (fault : HandlerError) → HandlerFails answers_with drops needs_memory out fault l m s' p q → ¬ (fault_of_handler fault ≡ session.Write)
+          → Stops answers_with drops needs_memory (fault_of_handler fault) s s' i k o (out q)
+      stops_line error.Write a other = absurd (other refl)
+      stops_line error.OutOfMemory (inl a) other = rw a.output (stops_left needs_memory error.OutOfMemory s m s' i j k o (out p) count l t whole taken (inl (a.needs_it, a.state)))
+      stops_line error.OutOfMemory (inr a) other = rw a.output (stops_left needs_memory error.OutOfMemory s m s' i j k o (out p) count l t whole taken (inr a.drops_it))
+      stops_line error.Journal a other = rw a.output (stops_left needs_memory error.Journal s m s' i j k o (out p) count l t whole taken a.drops_it)
 
-    pub stops_line : {O : Type 0} (out : O → Option (List ℕ)) (s m s' : C × D) (i j k o : Option (List ℕ)) (p q : O) (count : ℕ) (l : List ℕ)
-        → AnswersLines answers_with s m i j o (out p) count [] [] → IsLine l → Consumes j k (l ++ 10 ∷ [])
-        → (needs_memory : List ℕ → Type 0) (fault : HandlerError) → HandlerFails answers_with drops needs_memory out fault l m s' p q → ¬ (fault_of_handler fault ≡ session.Write)
-        → Stops answers_with drops needs_memory (fault_of_handler fault) s s' i k o (out q)
-    stops_line out s m s' i j k o p q count l t whole taken needs_memory error.Write a other = absurd (other refl)
-    stops_line out s m s' i j k o p q count l t whole taken needs_memory error.OutOfMemory (inl a) other =
-        rw (a.state, a.output) (stops_silent needs_memory s m i j k o (out p) count l t whole taken a.needs_it)
-    stops_line out s m s' i j k o p q count l t whole taken needs_memory error.OutOfMemory (inr a) other =
-        rw a.output (stops_dropped needs_memory session.OutOfMemory error.OutOfMemory s m s' i j k o (out p) count l t whole taken a.drops_it
-        (inr (l, whole, refl, inr a.drops_it)))
-    stops_line out s m s' i j k o p q count l t whole taken needs_memory error.Journal a other =
-        rw a.output (stops_dropped needs_memory session.Journal error.Journal s m s' i j k o (out p) count l t whole taken a.drops_it
-        (l, whole, refl, a.drops_it))
+      pub breaks_line : (fault : HandlerError) → HandlerFails answers_with drops needs_memory out fault l m s' p q → Breaks answers_with drops s s' i k o (out q)
+      breaks_line error.Write a = breaks_half s m s' i j k o (out p) (out q) count l t whole taken a
+      breaks_line error.OutOfMemory a = (stops_line error.OutOfMemory a (λ is. absurd (cc))).0
+      breaks_line error.Journal a = (stops_line error.Journal a (λ is. absurd (cc))).0

@@ -1,6 +1,6 @@
 -- Bytes are written, and then a text. If a write of the bytes fails, then their rest and the whole text are lost. If a
 -- write of the text fails, then the rest of the text is lost.
-use Rattle.std.proofs.Common.{◌≡◌, ℕ, List, [], ◌++◌, take, drop, Option, sym, ◌∙◌, ap, append_assoc, append-nil}
+use Rattle.std.proofs.Common.{ℕ, List, [], ◌++◌, take, drop, Option, sym, ◌∙◌, ap, append_assoc, append-nil}
 use Rattle.std.specs.Io.KnownBytes.{Appends}
 use Rattle.std.proofs.lemmas.List.{take-append-drop}
 use Rattle.till_request.proofs.Taken.{appends_more}
@@ -15,25 +15,20 @@ pub lost_behind : (o p : Option (List ℕ)) (bytes text : List ℕ) → (lost : 
 lost_behind o p bytes text h =
     (h.0 ++ text, record { sent = h.1.sent; out = h.1.out; in_order = sym (append_assoc h.1.sent h.0 text) ∙ ap (λ (t : List ℕ). t ++ text) h.1.in_order })
 
-all_sent : (o p : Option (List ℕ)) (bytes : List ℕ) (s : Sends bytes [] o p) → s.sent ≡ bytes
-all_sent o p bytes s = sym (append-nil s.sent) ∙ s.in_order
+-- if all of the bytes were written, and then a beginning of a text, then the rest of the text is what is left of both
+sends_then : (o p q : Option (List ℕ)) (bytes text rest : List ℕ) → Sends bytes [] o p → Sends text rest p q → Sends (bytes ++ text) rest o q
+sends_then o p q bytes text rest s t = record {
+  sent = s.sent ++ t.sent;
+  out = appends_more o p q s.sent t.sent s.out t.out;
+  in_order = append_assoc s.sent t.sent rest ∙ ap (λ (x : List ℕ). s.sent ++ x) t.in_order
+      ∙ ap (λ (x : List ℕ). x ++ text) (sym (append-nil s.sent) ∙ s.in_order);
+}
 
 -- if all of the bytes were written, followed by the whole text, then nothing is lost
 pub text_behind : (o p q : Option (List ℕ)) (bytes text : List ℕ) → Sends bytes [] o p → Appends p q text → Sends (bytes ++ text) [] o q
-text_behind o p q bytes text s w =
-    let e = all_sent o p bytes s in
-    record { sent = s.sent ++ text; out = appends_more o p q s.sent text s.out w; in_order = append-nil (s.sent ++ text) ∙ ap (λ (t : List ℕ). t ++ text) e }
+text_behind o p q bytes text s w = sends_then o p q bytes text [] s (record { sent = text; out = w; in_order = append-nil text })
 
 -- if all of the bytes were written, followed by only a beginning of the text, then the rest of the text is lost
 pub front_behind : (o p q : Option (List ℕ)) (bytes text : List ℕ) → Sends bytes [] o p → (k : ℕ) × Appends p q (take k text)
     → (lost : List ℕ) × Sends (bytes ++ text) lost o q
-front_behind o p q bytes text s h =
-    let e = all_sent o p bytes s in (
-      drop h.0 text,
-      record {
-        sent = s.sent ++ take h.0 text;
-        out = appends_more o p q s.sent (take h.0 text) s.out h.1;
-        in_order = append_assoc s.sent (take h.0 text) (drop h.0 text) ∙ ap (λ (t : List ℕ). s.sent ++ t) (take-append-drop h.0 text)
-            ∙ ap (λ (t : List ℕ). t ++ text) e;
-      },
-    )
+front_behind o p q bytes text s h = let f = front_out p q text h in (f.0, sends_then o p q bytes text f.0 s f.1)

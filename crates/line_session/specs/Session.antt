@@ -2,8 +2,7 @@
 -- the clock gives for it. A line that can't be read as an act is answered with its fault, and then neither the clock
 -- nor the desk is asked. If the desk says that memory ran out at a line, or that the journal failed, no answer to this
 -- line is written, and the session ends.
-use Rattle.std.specs.Prelude.{◌≡◌, ℕ, List, take, Option, Result, Ok, Err, Bool, true, false}
-use Rattle.std.specs.Io.KnownBytes.{Appends}
+use Rattle.std.specs.Prelude.{◌≡◌, ℕ, List, Result, Ok, Err, Bool, true, false}
 use Rattle.till_request.specs.declared.act.Act.{Act}
 use Rattle.till_request.specs.declared.act.Role.{Role}
 use Rattle.till_request.specs.declared.act.LineFault.{LineFault}
@@ -27,31 +26,11 @@ ends_unwritten (Line fault.OutOfMemory) = true
 ends_unwritten JournalFailed = true
 ends_unwritten answer = false
 
--- the answer is one that gets a line (`ends_unwritten` is false), and this line was written
-pub record Writes {O : Type 0} (took : O → Option (List ℕ)) (answer : Answer) (o o' : O) : Type 0 where
-  pub has_line : ends_unwritten answer ≡ false
-  pub written : Appends (took o) (took o') (answer_line answer)
-
--- the answer is one that gets a line (`ends_unwritten` is false), and a beginning of this line was written
-pub record WritesFront {O : Type 0} (took : O → Option (List ℕ)) (answer : Answer) (o o' : O) : Type 0 where
-  pub has_line : ends_unwritten answer ≡ false
-  pub kept : ℕ
-  pub written : Appends (took o) (took o') (take kept (answer_line answer))
-
 -- the answer isn't written, for the reason that this error says: memory ran out, or the journal failed
 abbrev pub IsUnwritten : HandlerError → Answer → Type 0
 IsUnwritten error.Write answer = ⊥
 IsUnwritten error.OutOfMemory answer = answer ≡ Line fault.OutOfMemory
 IsUnwritten error.Journal answer = answer ≡ JournalFailed
-
--- Why an answer isn't written in full:
--- - `Write`: the answer gets a line, but the write failed after a beginning of the line.
--- - `OutOfMemory` or `Journal`: the answer is the one that gets no line for this reason (`IsUnwritten`), and nothing
---   was written.
-abbrev pub StaysUnwritten : {O : Type 0} → (O → Option (List ℕ)) → HandlerError → Answer → O → O → Type 0
-StaysUnwritten took error.Write answer o o' = WritesFront took answer o o'
-StaysUnwritten took error.OutOfMemory answer o o' = IsUnwritten error.OutOfMemory answer × (o' ≡ o)
-StaysUnwritten took error.Journal answer o o' = IsUnwritten error.Journal answer × (o' ≡ o)
 
 -- With the clock in the state `c` and the desk in the state `d`, the line `line` from this role can get the answer
 -- `text`, its LF included. The clock and the desk are then in the states `c'` and `d'`.

@@ -1,9 +1,7 @@
 //! The loop that answers the lines of an input.
-ghost use Rattle.std.specs.Prelude.{◌≡◌, ◌≢◌, ◌⊎◌, ◌+◌, ◌-◌, ◌<◌, ◌≤◌, ℕ, List, take, IfOk, IfErr, OnErr, OnOk, Err, Some};
+ghost use Rattle.std.specs.Prelude.{◌≡◌, ◌≢◌, ◌+◌, ◌-◌, ◌<◌, ◌≤◌, ℕ, take, IfOk, IfErr, OnErr, Err};
 ghost use Rattle.std.specs.Io.KnownBytes.{Appends};
 ghost use Rattle.till_request.specs.Count.{RoseBy, one_if};
-ghost use Rattle.till_request.specs.Answer.{answer_line};
-ghost use Rattle.till_request.specs.declared.act.LineFault.{LineFault};
 ghost use Rattle.line_session.specs.Answering.{Ends, Breaks, SpendsReads, Stops, is_read, is_write, session_reads};
 ghost use Rattle.line_session.specs.Answering.{cut_line};
 ghost use Rattle.line_session.specs.Found.{IsEnd, cut_by};
@@ -111,8 +109,8 @@ fn end<O: LineOut>(
     requires { lines ≤ READS }
     ensures ok { IfOk result (λ ended. IsEnd lines cut ended
         × Appends (O.written output.old) (O.written output.new) (cut_line cut)) }
-    ensures err { OnErr result ((fault : LineFault) × (cut ≡ Some fault)
-        × (k : ℕ) × Appends (O.written output.old) (O.written output.new) (take k (answer_line (Answer.Line fault)))) }
+    ensures err { OnErr result
+        ((k : ℕ) × Appends (O.written output.old) (O.written output.new) (take k (cut_line cut))) }
     ensures failed { RoseBy (one_if (is_write result)) (O.failures output.old) (O.failures output.new) }
     ensures cause { IfErr result (λ e. e ≡ SessionFault.Write) }
 {

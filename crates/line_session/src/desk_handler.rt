@@ -1,9 +1,8 @@
 //! The line handler that parses lines and passes the acts to a desk.
-ghost use Rattle.std.specs.Prelude.{◌≡◌, OnOk, IfErr, IfSome, IfNone, false};
-ghost use Rattle.till_request.specs.Count.{RoseBy, one_if};
-ghost use Rattle.line_session.specs.Answering.{is_write_fault};
-ghost use Rattle.line_session.specs.Deciding.{Decides};
-ghost use Rattle.line_session.specs.Session.{IsUnwritten, StaysUnwritten, Writes, ends_unwritten};
+ghost use Rattle.std.specs.Prelude.{◌≡◌, IfOk, IfErr, IfSome, IfNone, false};
+ghost use Rattle.till_request.specs.Answer.{answer_line};
+ghost use Rattle.line_session.specs.Deciding.{Decides, LeavesLine};
+ghost use Rattle.line_session.specs.Session.{IsUnwritten, desk_answers, desk_drops, desk_needs_memory, ends_unwritten};
 
 use crate::desk::{Clock, Desk};
 use crate::line_handler::{HandlerError, LineHandler};
@@ -15,7 +14,7 @@ use till_request::{Answer, LineFault, LineOut, Role, WriteFault};
 /// Returns the answer to a line from a sender of this role. `line` doesn't include its LF. The answer is the desk's
 /// answer to the line's act at the clock's moment. If the line can't be read as an act of the role, or memory runs out
 /// for a load, the answer is `Line` with the line's fault, and the clock and the desk stay as they are.
-pub fn answer_to<C: Clock, D: Desk>(
+fn answer_to<C: Clock, D: Desk>(
     alloc: Global,
     role: Role,
     line: &[u8],
@@ -36,7 +35,7 @@ pub fn answer_to<C: Clock, D: Desk>(
 /// Returns the error with which an answer ends the session, if it is one of the two answers that aren't written:
 /// `OutOfMemory` for `Answer::Line(LineFault::OutOfMemory)`, and `Journal` for `Answer::JournalFailed`. Returns `None`
 /// for all other answers, `Answer::OutOfMemory` among them.
-pub fn unwritten_error(answer: &Answer) -> Option<HandlerError>
+fn unwritten_error(answer: &Answer) -> Option<HandlerError>
     ensures some { IfSome result (λ fault. IsUnwritten fault answer.now) }
     ensures none { IfNone result (ends_unwritten answer.now ≡ false) }
 {
@@ -54,24 +53,24 @@ pub fn unwritten_error(answer: &Answer) -> Option<HandlerError>
     }
 }
 
-// Writes the line of an answer. If `unwritten_error` returns an error for the answer, writes nothing and returns this
-// error. The only other error is that the write failed.
-fn write_line_of<O: LineOut>(
+/// Returns the answer to a line that is to be written: the answer of `answer_to`. If this is one of the two answers that
+/// aren't written, returns the error of `unwritten_error`.
+pub fn written_answer<C: Clock, D: Desk>(
     alloc: Global,
-    output: &mut O,
-    answer: &Answer,
-) -> Result<(), HandlerError>
-    ensures ok { OnOk result (Writes O.written answer.now output.old output.new) }
-    ensures err { IfErr result (λ fault. StaysUnwritten O.written fault answer.now output.old output.new) }
-    ensures failed { RoseBy (one_if (is_write_fault result)) (O.failures output.old) (O.failures output.new) }
+    role: Role,
+    line: &[u8],
+    clock: &mut C,
+    desk: &mut D,
+) -> Result<Answer, HandlerError>
+    ensures ok { IfOk result (λ answer. desk_answers D.step C.tick role (clock.old, desk.old) line.now
+        (answer_line answer) (clock.new, desk.new)) }
+    ensures err { IfErr result (λ fault. LeavesLine (desk_drops D.step C.tick role) (desk_needs_memory role) fault
+        (clock.old, desk.old) line.now (clock.new, desk.new)) }
 {
-    if let Some(fault) = unwritten_error(answer) {
-        return Err(fault);
-    }
-    match write_answer(alloc, output, answer) {
-        Ok(()) => Ok(()),
-        Err(WriteFault::Write) => Err(HandlerError::Write),
-        Err(WriteFault::OutOfMemory) => Err(HandlerError::OutOfMemory),
+    let answer = answer_to(alloc, role, line, clock, desk);
+    match unwritten_error(&answer) {
+        Some(fault) => Err(fault),
+        None => Ok(answer),
     }
 }
 
@@ -104,7 +103,11 @@ impl<C: Clock, D: Desk> LineHandler<C, D> for DeskHandler {
         desk: &mut D,
         output: &mut O,
     ) -> Result<(), HandlerError> {
-        let answer = answer_to(self.alloc, self.role, line, clock, desk);
-        write_line_of(self.alloc, output, &answer)
+        let answer = written_answer(self.alloc, self.role, line, clock, desk)?;
+        match write_answer(self.alloc, output, &answer) {
+            Ok(()) => Ok(()),
+            Err(WriteFault::Write) => Err(HandlerError::Write),
+            Err(WriteFault::OutOfMemory) => Err(HandlerError::OutOfMemory),
+        }
     }
 }

@@ -1,11 +1,9 @@
 //! The loop that answers the lines of a connection, and writes several answers together where several lines have
 //! arrived.
-ghost use Rattle.std.specs.Prelude.{◌≡◌, ◌≢◌, ◌⊎◌, ◌++◌, ◌-◌, ◌≤◌, ℕ, List, [], true, false, IfOk, IfErr, OnErr, OnOk, Err, Some};
-ghost use Rattle.till_request.specs.Answer.{answer_line};
+ghost use Rattle.std.specs.Prelude.{◌≡◌, ◌≢◌, ◌++◌, ◌-◌, ◌≤◌, ℕ, List, [], true, false, IfOk, IfErr, OnErr, OnOk, Err};
 ghost use Rattle.till_request.specs.Count.{RoseBy, one_if};
-ghost use Rattle.till_request.specs.declared.act.LineFault.{LineFault};
-ghost use Rattle.line_session.specs.Buffering.{BuffersAnswer, Sends, FailsToBuffer, HoldsWithBuffered, IsUnbuffered};
-ghost use Rattle.line_session.specs.Session.{desk_answers, desk_drops, desk_needs_memory, ends_unwritten};
+ghost use Rattle.line_session.specs.Buffering.{Sends, HoldsWithBuffered};
+ghost use Rattle.line_session.specs.Session.{desk_answers, desk_drops, desk_needs_memory};
 ghost use Rattle.line_session.specs.Answering.{Ends, Breaks, RelatesConnection, SpendsReads, Stops, StopsAtDoor};
 ghost use Rattle.line_session.specs.Answering.{cut_line, is_read, is_write, session_reads};
 ghost use Rattle.line_session.specs.Found.{IsEnd};
@@ -14,10 +12,9 @@ use crate::answer_buffer::AnswerBuffer;
 use crate::answering::{Ended, READS, SessionFault, cut_of};
 use crate::connection::Connection;
 use crate::desk::{Clock, Desk};
-use crate::desk_handler::unwritten_error;
+use crate::desk_handler::written_answer;
 use crate::doors::Doors;
 use std::alloc::Global;
-use till_request::grammar::parse_line;
 use till_request::line::read_line_into;
 use till_request::{Answer, Found, LineFault, LineOut, Role};
 
@@ -69,56 +66,6 @@ impl Progress {
         self.pending.flush(&mut connection.output)
     }
 
-    /// Buffers an answer, or writes it at once if there is no memory to buffer it. If the answer is one that isn't
-    /// written, the error says why: memory ran out, or the journal failed. The only other error is that a write failed.
-    fn buffer<O: LineOut>(&mut self, output: &mut O, answer: &Answer) -> Result<(), SessionFault>
-        ensures ok { OnOk result ((ends_unwritten answer.now ≡ false)
-            × Sends (self.old.pending.held.bytes.items ++ answer_line answer.now) self.new.pending.held.bytes.items
-            (O.written output.old) (O.written output.new)) }
-        ensures err { IfErr result (λ fault. IsUnbuffered fault answer.now self.old.pending.held.bytes.items
-            self.new.pending.held.bytes.items (O.written output.old) (O.written output.new)) }
-        ensures failed { RoseBy (one_if (is_write result)) (O.failures output.old) (O.failures output.new) }
-        ensures left { self.new.left ≡ self.old.left }
-    {
-        if let Some(fault) = unwritten_error(answer) {
-            return Err(SessionFault::from(fault));
-        }
-        self.pending.put(self.alloc, output, answer)
-    }
-
-    /// Answers the line that was read last. The answer is buffered, or written at once if there is no memory to buffer
-    /// it. The error is that a write failed, that memory ran out, or that the journal failed.
-    fn answer_line<O: LineOut, C: Clock, D: Desk>(
-        &mut self,
-        role: Role,
-        output: &mut O,
-        clock: &mut C,
-        desk: &mut D,
-    ) -> Result<(), SessionFault>
-        ensures ok { OnOk result (BuffersAnswer (desk_answers D.step C.tick role) self.old.line.items (
-          clock.old,
-          desk.old,
-        )
-            (clock.new, desk.new) self.old.pending.held.bytes.items self.new.pending.held.bytes.items
-            (O.written output.old) (O.written output.new)) }
-        ensures err { IfErr result (λ fault. FailsToBuffer (desk_answers D.step C.tick role) (desk_drops D.step C.tick
-            role)
-            (desk_needs_memory role) fault self.old.line.items (clock.old, desk.old) (clock.new, desk.new)
-            self.old.pending.held.bytes.items self.new.pending.held.bytes.items (O.written output.old)
-            (O.written output.new)) }
-        ensures failed { RoseBy (one_if (is_write result)) (O.failures output.old) (O.failures output.new) }
-        ensures left { self.new.left ≡ self.old.left }
-    {
-        match parse_line(self.alloc, role, &self.line) {
-            Ok(act) => {
-                let moment = clock.now();
-                let answer = desk.answer(act, moment);
-                self.buffer(output, &answer)
-            }
-            Err(fault) => self.buffer(output, &Answer::Line(fault)),
-        }
-    }
-
     /// Ends a session after `lines` answers. `lines` must be at most `READS`. If `cut` isn't `None`, it is the fault of
     /// the last line, and the line is answered with it. This answer is buffered, or written at once if there is no
     /// memory to buffer it. Returns the number of all answers, and `cut`. The error is that a write failed.
@@ -132,9 +79,8 @@ impl Progress {
         ensures ok { IfOk result (λ ended. IsEnd lines cut ended
             × Sends (self.old.pending.held.bytes.items ++ cut_line cut) self.new.pending.held.bytes.items
             (O.written output.old) (O.written output.new)) }
-        ensures err { OnErr result ((fault : LineFault) × (cut ≡ Some fault) × (lost : List ℕ)
-            × Sends (self.old.pending.held.bytes.items ++ answer_line (Answer.Line fault)) lost (O.written output.old)
-            (O.written output.new)) }
+        ensures err { OnErr result ((lost : List ℕ) × Sends (self.old.pending.held.bytes.items ++ cut_line cut) lost
+            (O.written output.old) (O.written output.new)) }
         ensures failed { RoseBy (one_if (is_write result)) (O.failures output.old) (O.failures output.new) }
         ensures cause { IfErr result (λ e. e ≡ SessionFault.Write) }
         ensures left { self.new.left ≡ self.old.left }
@@ -170,8 +116,8 @@ impl Progress {
             ended.cut)
             (S.Out.written connection.old.output) (S.Out.written connection.new.output)
             self.new.pending.held.bytes.items) }
-        ensures broken { IfErr result (λ fault. fault ≡ SessionFault.Write
-            → RelatesConnection S.In.remaining S.Out.written connection.old connection.new
+        ensures broken { OnErr result
+            (RelatesConnection S.In.remaining S.Out.written connection.old connection.new
             (Breaks (desk_answers D.step C.tick role) (desk_drops D.step C.tick role) (clock.old, desk.old)
             (clock.new, desk.new))) }
         ensures stopped { IfErr result (λ fault. fault ≢ SessionFault.Write → HoldsWithBuffered
@@ -195,7 +141,11 @@ impl Progress {
         'turns: loop {
             self.flush_unless_more(doors, connection)?;
             match read_line_into(&mut connection.input, &mut self.line, &mut self.left)? {
-                Found::Line => self.answer_line(role, &mut connection.output, clock, desk)?,
+                Found::Line => {
+                    let answer = written_answer(self.alloc, role, &self.line, clock, desk)?;
+                    self.pending
+                        .put(self.alloc, &mut connection.output, &answer)?
+                }
                 found => return self.end(&mut connection.output, count, cut_of(found)),
             }
             count += 1;
@@ -205,7 +155,7 @@ impl Progress {
 
 /// Returns whether a fault is that a device failed, in a read or a write. After such a fault nothing more is written.
 fn device_failed(fault: SessionFault) -> bool
-    ensures yes { result ≡ true → (fault ≡ SessionFault.Read) ⊎ (fault ≡ SessionFault.Write) }
+    ensures yes { result ≡ true → fault ≢ SessionFault.Write → fault ≡ SessionFault.Read }
     ensures no { result ≡ false → (fault ≢ SessionFault.Read) × (fault ≢ SessionFault.Write) }
 {
     match fault {

@@ -2,7 +2,7 @@ use Rattle.std.proofs.Common.{arith, rules, inl}
 use Rattle.till_request.proofs.Taken.{on_err_always}
 use Rattle.till_request.proofs.Counts.{rose_more, rose_left}
 use Rattle.line_session.proofs.Failing.{if_returned}
-use Rattle.line_session.proofs.Found.{cut_found, write_alone, write_no_read, write_no_spent}
+use Rattle.line_session.proofs.Found.{cut_found}
 use Rattle.line_session.proofs.Saying.{talks_none, talks_more, ends_said, breaks_here, breaks_line, breaks_end, stops_here, stops_line}
 use Rattle.line_session.proofs.answering.answer_lines_within.Goals as goal
 
@@ -37,15 +37,6 @@ pub returns-in_default-clause-broken : goal.returns-in_default-clause-broken
 returns-in_default-clause-broken g c =
     let t = cut_found c.in_ok-found.found _ _ _ c.in_default.not-Line c.in_ok-found.ensures.taken in
     breaks_end _ _ _ _ _ _ _ _ _ _ c.turns.count c.cut_of.result t.0 c.end.result c.turns.invariant.answering t.1 (rw c.cut_of.ensures t.2) c.end.ensures.err
-
-pub returns-in_default-clause-read_fault : goal.returns-in_default-clause-read_fault
-returns-in_default-clause-read_fault g c = rw (write_no_read c.end.result c.end.ensures.cause) (rose_more c.turns.invariant.read c.in_ok-found.ensures.failed)
-
-pub returns-in_default-clause-spent : goal.returns-in_default-clause-spent
-returns-in_default-clause-spent g c = λ is. absurd (write_no_spent c.end.result c.end.ensures.cause is)
-
-pub returns-in_default-clause-stopped : goal.returns-in_default-clause-stopped
-returns-in_default-clause-stopped g c = write_alone c.end.result _ c.end.ensures.cause
 
 pub turns-preserved : goal.turns-preserved
 turns-preserved g c =
