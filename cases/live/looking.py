@@ -182,7 +182,7 @@ class Station:
 
 
 class Page(html.parser.HTMLParser):
-    """The rows of the table in each section of a page, by the section's name, and apart from them the columns' names;
+    """The rows of the table in each section of a page, by the table's name or else the section's, and apart from them the columns' names;
     the headline's figures; and what the page says of being well. A tag that isn't closed, a script, or anything that is
     loaded from elsewhere ends the case."""
 
@@ -206,7 +206,7 @@ class Page(html.parser.HTMLParser):
             self.renewed = attrs["content"]
         if tag not in self.VOID:
             self.open.append(tag)
-        if tag == "section":
+        if tag == "section" or (tag == "table" and "id" in attrs):
             self.section = attrs["id"]
             self.tables[self.section], self.columns[self.section] = [], []
         elif tag == "tr":

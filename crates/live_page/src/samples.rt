@@ -6,6 +6,7 @@ use crate::words::role_name;
 use day_page::names::state_name;
 use day_page::texts::{number, numbered};
 use day_page::{STATES, Text, TextBuilder};
+use day_report::Sum;
 use decision_journal::{FIRST_REFUSAL, NO_DECISIONS, REFUSALS, Tally, VersionTally};
 use fuelling_point::{Point, State};
 use program_slots::Version;
@@ -48,6 +49,7 @@ pub fn metrics(alloc: Global, station: &StationSnapshot<'_>) -> Result<String, A
     add_decisions(&mut text, station.tally, &left.rules);
     add_points(&mut text, &left.points);
     add_money(&mut text, left);
+    add_sales(&mut text, station);
     add_counters(&mut text, left);
     add_peers(&mut text, station.role_counts);
     add_doors(&mut text, station.doors);
@@ -229,6 +231,93 @@ fn add_money(text: &mut TextBuilder, left: &Opening) {
             );
         }
     }
+}
+
+/// A number that is shown of some sales.
+#[derive(Clone, Copy)]
+enum Figure {
+    Sales,
+    Cents,
+    Centilitres,
+}
+
+/// Returns a number of a sum. A number above the greatest of 64 bits is given as the greatest.
+fn figure_of(sum: &Sum, figure: Figure) -> u64 {
+    let number = match figure {
+        Figure::Sales => return sum.count,
+        Figure::Cents => sum.cents,
+        Figure::Centilitres => sum.centilitres,
+    };
+    number.min(u128::from(u64::MAX)) as u64
+}
+
+/// Adds a metric with a line for each of `sums`. `head` describes the metric, and `form` is a line of it. The first of
+/// `sums` has the number `first`.
+fn add_figures(
+    text: &mut TextBuilder,
+    head: &str,
+    form: &str,
+    sums: &[Sum],
+    first: u64,
+    figure: Figure,
+) {
+    text.add(head);
+    for (place, sum) in sums.iter().enumerate() {
+        add_sample(text, form, numbered(place, first), figure_of(sum, figure));
+    }
+}
+
+/// Adds the three metrics of sales by point, by till or by hour: how many, their money and their volume.
+macro_rules! add_sums {
+    ($text:ident, $name:literal by $label:literal: $sums:expr, $first:literal) => {
+        add_figures(
+            $text,
+            concat!(
+                "# HELP ", $name, "_total Sales in this journal, by ", $label, ".\n# TYPE ", $name,
+                "_total counter\n"
+            ),
+            concat!($name, "_total{", $label, "=\"{}\"} {}\n"),
+            $sums,
+            $first,
+            Figure::Sales,
+        );
+        add_figures(
+            $text,
+            concat!(
+                "# HELP ", $name, "_cents_total Money of sales in this journal, in cents, by ", $label,
+                ".\n# TYPE ", $name, "_cents_total counter\n"
+            ),
+            concat!($name, "_cents_total{", $label, "=\"{}\"} {}\n"),
+            $sums,
+            $first,
+            Figure::Cents,
+        );
+        add_figures(
+            $text,
+            concat!(
+                "# HELP ", $name, "_centilitres_total Volume of sales in this journal, in centilitres, by ",
+                $label, ".\n# TYPE ", $name, "_centilitres_total counter\n"
+            ),
+            concat!($name, "_centilitres_total{", $label, "=\"{}\"} {}\n"),
+            $sums,
+            $first,
+            Figure::Centilitres,
+        );
+    };
+}
+
+/// Returns the first `count` sums, or all of them if there are fewer.
+fn first_sums(sums: &[Sum], count: usize) -> &[Sum] {
+    &sums[..count.min(sums.len())]
+}
+
+fn add_sales(text: &mut TextBuilder, station: &StationSnapshot<'_>) {
+    let (sums, left) = (station.sums, station.left);
+    let points = first_sums(&sums.points, left.points.len());
+    let tills = first_sums(&sums.tills, station.tills as usize);
+    add_sums!(text, "fc_sales" by "point": points, 1);
+    add_sums!(text, "fc_till_sales" by "till": tills, 1);
+    add_sums!(text, "fc_hour_sales" by "hour": &sums.hours, 0);
 }
 
 fn add_counters(text: &mut TextBuilder, left: &Opening) {

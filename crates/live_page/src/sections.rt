@@ -3,9 +3,10 @@ use crate::checking::health;
 use crate::parts::{ENTRIES, NONE, digits, hundredths, thousands};
 use crate::station::{DoorCounts, Health, RoleCounts, StationSnapshot};
 use crate::words::{add_entry, order_name, role_name};
+use day_page::bars::add_points as add_bars;
 use day_page::names::state_name;
-use day_page::page::add_figure;
-use day_page::tables::add_row;
+use day_page::page::{add_figure, add_hours};
+use day_page::tables::{BY_TILL, POINT_SALES, add_parts, add_row};
 use day_page::texts::{number, numbered};
 use day_page::{HEAD, STYLE, Text, TextBuilder};
 use decision_journal::{Entry, FIRST_REFUSAL, REFUSALS, Tally};
@@ -42,6 +43,7 @@ pub fn page(alloc: Global, station: &StationSnapshot<'_>) -> Result<String, Allo
     add_headline(&mut html, station);
     add_points(&mut html, left);
     add_unpaid(&mut html, &left.points);
+    add_sales(&mut html, station);
     add_prices(&mut html, &left.prices);
     add_rules(&mut html, &left.rules, station.tally);
     add_counters(&mut html, left);
@@ -149,6 +151,26 @@ fn add_unpaid(html: &mut TextBuilder, points: &[Point]) {
         add_transaction(html, place, second);
     }
     html.add(END);
+}
+
+/// Adds what the day's sales come to: in all, by point, by till and by hour.
+fn add_sales(html: &mut TextBuilder, station: &StationSnapshot<'_>) {
+    let (sums, left) = (station.sums, station.left);
+    html.add("<section id=\"sales\"><h2>Sales of this day</h2>\n<ul class=\"figures\">\n");
+    add_figure(html, "Sold", Text::Hundredths(sums.all.cents));
+    add_figure(html, "Sales", Text::Thousands(sums.all.count as u128));
+    add_figure(html, "Litres sold", Text::Hundredths(sums.all.centilitres));
+    html.add("</ul>\n");
+    let count = left.points.len().min(sums.points.len());
+    let points = &sums.points[..count];
+    add_bars(html, points);
+    add_parts(html, POINT_SALES, points, 1);
+    if sums.all.count > 0 {
+        html.add("<h3>By the till that cleared</h3>");
+        add_parts(html, BY_TILL, &sums.tills, 1);
+    }
+    add_hours(html, &sums.hours);
+    html.add("</section>\n");
 }
 
 fn add_prices(html: &mut TextBuilder, prices: &[u32; 8]) {

@@ -1,4 +1,5 @@
 //! What is shown of a station.
+use day_report::Sums;
 use decision_journal::{Entry, Tally};
 use site_core::Opening;
 use std::fmt;
@@ -23,6 +24,8 @@ pub struct StationSnapshot<'a> {
     pub waits: DurationSummary,
     /// How often each refusal was the reply, and what each version of a rule decided, in all entries of the history.
     pub tally: &'a Tally,
+    /// What the sales in all entries of the history come to.
+    pub sums: &'a Sums,
     /// The last entries, at most 20 of them, the oldest first.
     pub last: &'a [Entry],
     /// The counts of workers and connections: for tills, for dispensers and for the owner, in this order. A role for

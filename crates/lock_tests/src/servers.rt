@@ -1,6 +1,7 @@
 //! Tests of serving over the loopback interface. The tests themselves connect as till, dispenser and owner.
+use day_report::Sums;
 use line_session::Doors;
-use site_core::{Config, Site};
+use site_core::{Config, Watched};
 use site_server::{
     AtOnce, Crew, Listener, NoJournal, NoWatcher, Notices, OpenDoor, Serving, ServingHooks,
     SessionFailure, SharedDoor, SocketDoors, Stream,
@@ -55,11 +56,11 @@ fn port<R: Net<Listener = TcpListener, Stream = TcpStream>>(rt: &R) -> Result<Li
 
 /// Makes a new site with one till and one fuelling point. Releases are decided by slot 0, presets by slot 1, and prices
 /// by slot 2.
-fn site(alloc: Global) -> Result<Site, Fail> {
+fn site(alloc: Global) -> Result<Watched<Sums>, Fail> {
     let points = vec![in alloc; (0, 1)]?;
     let prices = [1799, 1849, 0, 0, 0, 0, 0, 0];
     let config = Config::new(1, 2, prices, points, [(0, 0); 32]).ok_or("a configuration")?;
-    Ok(Site::start(alloc, config)?)
+    Ok(Watched::start(alloc, config, Sums::new())?)
 }
 
 /// The addresses to which tills, dispensers and the owner connect.
@@ -159,7 +160,7 @@ fn in_turn<R: Net<Listener = TcpListener, Stream = TcpStream>>(
 fn serving(alloc: Global, ports: Ports) -> Result<Serving, Fail> {
     let crew = Crew::new(alloc, doors_at(alloc, ports)?)?.ok_or("a crew")?;
     Ok(Serving {
-        site: site(alloc)?,
+        watched: site(alloc)?,
         journal: NoJournal,
         crew,
         connections: Some(1),

@@ -5,3 +5,4 @@ pub mod Fitting
 pub mod Standing
 pub mod Trying
 pub mod Deciding
+pub mod Summed

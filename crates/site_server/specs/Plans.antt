@@ -19,7 +19,7 @@ pub record Plan : Type 1 where
 -- taken, and with one pass for each worker of the crew.
 abbrev pub plan_of : {J : Type 0} → (J → Option (List ℕ)) → Type 0 → Serving J → Plan
 plan_of written may_fail s = record {
-  from = record { config = s.site.config; passes = length s.crew.workers.items; base = s.site.history; taken = written s.journal };
+  from = record { config = s.watched.site.config; passes = length s.crew.workers.items; base = s.watched.site.history; taken = written s.journal };
   may_fail = may_fail;
   roles = roles_of s.crew.workers.items;
   connections = s.connections;

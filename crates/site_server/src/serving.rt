@@ -10,8 +10,9 @@ use crate::notices::Notices;
 use crate::tasks::{WorkerTask, collect_passes, tasks_of};
 use crate::watcher::Watcher;
 use crate::workers::Workers;
+use day_report::Sums;
 use group_sync::Release;
-use site_core::{Config, Site};
+use site_core::{Config, Site, Watched};
 use site_lock::{CloseRefusal, Forecourt, ForecourtBuilder, Journal, NoJournal, Pass, SiteLedger};
 use std::alloc::{AllocError, Global};
 use std::marker::Brand;
@@ -24,7 +25,8 @@ use std::time::Clock;
 /// A site to be served, with its journal, its crew, and the limits for its connections.
 #[derive(Drop)]
 pub struct Serving<J: Journal = NoJournal> {
-    pub site: Site,
+    /// The site, with what its sales come to.
+    pub watched: Watched<Sums>,
     pub journal: J,
     pub crew: Crew,
     /// The number of connections that each worker serves, one after another. A connection that can't be opened counts
@@ -80,7 +82,7 @@ impl From<AllocError> for ServeFault {
 pub struct Unclosed<J: Journal = NoJournal> {
     pub why: ServeFault,
     /// The site and the journal, unchanged, if `why` is `OutOfMemory`: then nothing was served. Otherwise `None`.
-    pub back: Option<(Site, J)>,
+    pub back: Option<(Watched<Sums>, J)>,
 }
 
 /// What is allocated before the first connection is served.
@@ -245,7 +247,7 @@ impl<J: Journal + Send> Serving<J> {
             served.journal)) }
         ensures err { IfErr result (λ unclosed. ServingFails (plan_of J.written J.may_fail self) unclosed.why) }
         ensures memory { IfErr result
-            (λ unclosed. unclosed.why ≡ ServeFault.OutOfMemory → unclosed.back ≡ Some (self.site, self.journal)) }
+            (λ unclosed. unclosed.why ≡ ServeFault.OutOfMemory → unclosed.back ≡ Some (self.watched, self.journal)) }
         ensures endless { self.connections ≡ None
             → IsErrAnd result (λ unclosed. unclosed.why ≡ ServeFault.OutOfMemory) }
     {
@@ -271,8 +273,8 @@ impl<J: Journal + Send> Serving<J> {
     ) -> Result<Served<J>, Unclosed<J>>
         requires name { blank.name ≡ L.name }
         requires parts { blank.parts ≡ L.parts }
-        requires config { self.site.config ≡ L.config }
-        requires base { self.site.history ≡ L.base }
+        requires config { self.watched.site.config ≡ L.config }
+        requires base { self.watched.site.history ≡ L.base }
         requires taken { J.written self.journal ≡ L.taken }
         requires passes { blank.parts ≡ length self.crew.workers.items }
         ensures ok { IfOk result
@@ -280,21 +282,21 @@ impl<J: Journal + Send> Serving<J> {
             served.journal)) }
         ensures err { IfErr result (λ unclosed. ServingFails (plan_of J.written J.may_fail self) unclosed.why) }
         ensures memory { IfErr result
-            (λ unclosed. unclosed.why ≡ ServeFault.OutOfMemory → unclosed.back ≡ Some (self.site, self.journal)) }
+            (λ unclosed. unclosed.why ≡ ServeFault.OutOfMemory → unclosed.back ≡ Some (self.watched, self.journal)) }
         ensures endless { self.connections ≡ None
             → IsErrAnd result (λ unclosed. unclosed.why ≡ ServeFault.OutOfMemory) }
     {
         let Serving {
-            site,
+            watched,
             journal,
             crew,
             connections,
             idle_seconds,
         } = self;
-        let Ok(prepared) = prepare::<L>(alloc, site.config(), blank, crew) else {
+        let Ok(prepared) = prepare::<L>(alloc, watched.site().config(), blank, crew) else {
             return Err(Unclosed {
                 why: ServeFault::OutOfMemory,
-                back: Some((site, journal)),
+                back: Some((watched, journal)),
             });
         };
         let ServingHooks {
@@ -306,7 +308,7 @@ impl<J: Journal + Send> Serving<J> {
         let workers = Workers {
             rt,
             alloc,
-            forecourt: prepared.builder.open(site, journal),
+            forecourt: prepared.builder.open(watched, journal),
             notices,
             release,
             connections,
