@@ -1,6 +1,7 @@
 -- Bytes are written, and then a text. If a write of the bytes fails, then their rest and the whole text are lost. If a
 -- write of the text fails, then the rest of the text is lost.
-use Rattle.std.proofs.Common.{ℕ, List, [], ◌++◌, take, drop, Option, sym, ◌∙◌, ap, append_assoc, append-nil}
+use Rattle.std.proofs.Common.{ℕ, List, [], ◌++◌, take, drop, Option, Result, Ok, Err, sym, ◌∙◌, ap, append_assoc, append-nil}
+use Rattle.std.specs.Prelude.{OnErr}
 use Rattle.std.specs.Io.KnownBytes.{Appends}
 use Rattle.std.proofs.lemmas.List.{take-append-drop}
 use Rattle.till_request.proofs.Taken.{appends_more}
@@ -24,11 +25,8 @@ sends_then o p q bytes text rest s t = record {
       ∙ ap (λ (x : List ℕ). x ++ text) (sym (append-nil s.sent) ∙ s.in_order);
 }
 
--- if all of the bytes were written, followed by the whole text, then nothing is lost
-pub text_behind : (o p q : Option (List ℕ)) (bytes text : List ℕ) → Sends bytes [] o p → Appends p q text → Sends (bytes ++ text) [] o q
-text_behind o p q bytes text s w = sends_then o p q bytes text [] s (record { sent = text; out = w; in_order = append-nil text })
-
--- if all of the bytes were written, followed by only a beginning of the text, then the rest of the text is lost
-pub front_behind : (o p q : Option (List ℕ)) (bytes text : List ℕ) → Sends bytes [] o p → (k : ℕ) × Appends p q (take k text)
-    → (lost : List ℕ) × Sends (bytes ++ text) lost o q
-front_behind o p q bytes text s h = let f = front_out p q text h in (f.0, sends_then o p q bytes text f.0 s f.1)
+-- if all of the bytes were written, and then a text of which a rest is lost, then that rest is lost of both
+pub lost_after : {T E : Type 0} (r : Result T E) (o p q : Option (List ℕ)) (bytes text : List ℕ) → Sends bytes [] o p
+    → OnErr r ((lost : List ℕ) × Sends text lost p q) → OnErr r ((lost : List ℕ) × Sends (bytes ++ text) lost o q)
+lost_after (Ok x) o p q bytes text s h = tt
+lost_after (Err e) o p q bytes text s h = (h.0, sends_then o p q bytes text h.0 s h.1)

@@ -32,7 +32,7 @@ impl Progress {
     /// Makes the state of a new session: all its reads remain, and no answer is buffered.
     fn new(alloc: Global) -> Progress
         ensures left { result.left ≡ session_reads }
-        ensures none { result.pending.held.bytes.items ≡ [] }
+        ensures none { result.pending.held.items ≡ [] }
     {
         Progress {
             alloc,
@@ -50,9 +50,9 @@ impl Progress {
         doors: &S,
         connection: &mut Connection<S::In, S::Out>,
     ) -> Result<(), SessionFault>
-        ensures ok { OnOk result (Sends self.old.pending.held.bytes.items self.new.pending.held.bytes.items
+        ensures ok { OnOk result (Sends self.old.pending.held.items self.new.pending.held.items
             (S.Out.written connection.old.output) (S.Out.written connection.new.output)) }
-        ensures err { OnErr result ((lost : List ℕ) × Sends self.old.pending.held.bytes.items lost
+        ensures err { OnErr result ((lost : List ℕ) × Sends self.old.pending.held.items lost
             (S.Out.written connection.old.output) (S.Out.written connection.new.output)) }
         ensures failed { RoseBy (one_if (is_write result)) (S.Out.failures connection.old.output)
             (S.Out.failures connection.new.output) }
@@ -77,9 +77,9 @@ impl Progress {
     ) -> Result<Ended, SessionFault>
         requires { lines ≤ READS }
         ensures ok { IfOk result (λ ended. IsEnd lines cut ended
-            × Sends (self.old.pending.held.bytes.items ++ cut_line cut) self.new.pending.held.bytes.items
+            × Sends (self.old.pending.held.items ++ cut_line cut) self.new.pending.held.items
             (O.written output.old) (O.written output.new)) }
-        ensures err { OnErr result ((lost : List ℕ) × Sends (self.old.pending.held.bytes.items ++ cut_line cut) lost
+        ensures err { OnErr result ((lost : List ℕ) × Sends (self.old.pending.held.items ++ cut_line cut) lost
             (O.written output.old) (O.written output.new)) }
         ensures failed { RoseBy (one_if (is_write result)) (O.failures output.old) (O.failures output.new) }
         ensures cause { IfErr result (λ e. e ≡ SessionFault.Write) }
@@ -88,7 +88,7 @@ impl Progress {
         let Some(fault) = cut else {
             return Ok(Ended { lines, cut: None });
         };
-        match self.pending.put(self.alloc, output, &Answer::Line(fault)) {
+        match self.pending.put(output, &Answer::Line(fault)) {
             Ok(()) => Ok(Ended {
                 lines: lines + 1,
                 cut: Some(fault),
@@ -109,13 +109,13 @@ impl Progress {
         clock: &mut C,
         desk: &mut D,
     ) -> Result<Ended, SessionFault>
-        requires { (self.old.left ≤ READS) × (self.old.pending.held.bytes.items ≡ []) }
+        requires { (self.old.left ≤ READS) × (self.old.pending.held.items ≡ []) }
         ensures all_answered { IfOk result (λ ended. HoldsWithBuffered
             (λ out_old out_new. Ends (desk_answers D.step C.tick role) (clock.old, desk.old) (clock.new, desk.new)
             (S.In.remaining connection.old.input) (S.In.remaining connection.new.input) out_old out_new ended.lines
             ended.cut)
             (S.Out.written connection.old.output) (S.Out.written connection.new.output)
-            self.new.pending.held.bytes.items) }
+            self.new.pending.held.items) }
         ensures broken { OnErr result
             (RelatesConnection S.In.remaining S.Out.written connection.old connection.new
             (Breaks (desk_answers D.step C.tick role) (desk_drops D.step C.tick role) (clock.old, desk.old)
@@ -125,7 +125,7 @@ impl Progress {
             (clock.old, desk.old) (clock.new, desk.new) (S.In.remaining connection.old.input)
             (S.In.remaining connection.new.input))
             (S.Out.written connection.old.output) (S.Out.written connection.new.output)
-            self.new.pending.held.bytes.items) }
+            self.new.pending.held.items) }
         ensures read_fault { RoseBy (one_if (is_read result)) (S.In.failures connection.old.input)
             (S.In.failures connection.new.input) }
         ensures write_fault { RoseBy (one_if (is_write result)) (S.Out.failures connection.old.output)
@@ -143,8 +143,7 @@ impl Progress {
             match read_line_into(&mut connection.input, &mut self.line, &mut self.left)? {
                 Found::Line => {
                     let answer = written_answer(self.alloc, role, &self.line, clock, desk)?;
-                    self.pending
-                        .put(self.alloc, &mut connection.output, &answer)?
+                    self.pending.put(&mut connection.output, &answer)?
                 }
                 found => return self.end(&mut connection.output, count, cut_of(found)),
             }

@@ -10,7 +10,7 @@ abbrev pub invariant-turns : goal.invariant-turns
 invariant-turns g l = record {
   answering : HoldsWithBuffered (Answers (desk_answers g.D.Desk.step g.C.Clock.tick l.role) (l.initial.clock, l.initial.desk) (l.clock, l.desk)
       (g.S.In.LineIn.remaining l.initial.connection.input) (g.S.In.LineIn.remaining l.connection.input) l.count)
-      (g.S.Out.LineOut.written l.initial.connection.output) (g.S.Out.LineOut.written l.connection.output) l.self.pending.held.bytes.items;
+      (g.S.Out.LineOut.written l.initial.connection.output) (g.S.Out.LineOut.written l.connection.output) l.self.pending.held.items;
   within : l.count + l.self.left ≤ l.initial.self.left;
   reads : RoseBy (l.initial.self.left - l.self.left) (g.S.In.LineIn.reads l.initial.connection.input) (g.S.In.LineIn.reads l.connection.input);
   asked : RoseBy (l.initial.self.left - l.self.left) (g.S.In.LineIn.asked l.initial.connection.input) (g.S.In.LineIn.asked l.connection.input);
