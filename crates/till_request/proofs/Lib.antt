@@ -3,6 +3,7 @@ pub mod Counts
 pub mod Faults
 pub mod Fitting
 pub mod Numerals
+pub mod OneSpelling
 pub mod Out
 pub mod Parted
 pub mod Pieces

@@ -192,7 +192,7 @@ pub(crate) fn put_answer(text: &mut ShortText, answer: &Answer)
 }
 
 /// Writes an answer with its LF into `text`, which must be empty.
-pub(crate) fn put_line(text: &mut ShortText, answer: &Answer)
+pub fn put_line(text: &mut ShortText, answer: &Answer)
     requires { text.old.bytes ≡ [] }
     ensures { text.new.bytes ≡ answer_line answer.now }
 {

@@ -1,6 +1,7 @@
 //! Writes acts as lines.
-ghost use Rattle.std.specs.Prelude.{◌≡◌, ◌+◌, ◌≤◌, ◌++◌, [], IfOk, length, string_bytes};
-ghost use Rattle.till_request.specs.Spelling.{ReadsBack, event_form, load_word as load_by, request_text, spelling};
+ghost use Rattle.std.specs.Prelude.{◌≡◌, ◌+◌, ◌≤◌, ◌++◌, [], length};
+ghost use Rattle.till_request.specs.Spelling.{IsOneSpelling, ReadsBack, event_form, load_word as load_by};
+ghost use Rattle.till_request.specs.Spelling.{request_text, spelling};
 
 use crate::act::{Act, Request};
 use crate::form::Form::{Flow, Load, Report, Up};
@@ -9,7 +10,6 @@ use crate::form::{Form, RequestByForm, text_of};
 use crate::short_text::{ShortText, put_word, put_word_number};
 use bpf_model::context::Layout;
 use fuelling_point::DispenserEvent;
-use std::alloc::{AllocError, Global};
 use std::fmt;
 
 /// Does nothing. Its contract is a law: for the role `All`, the line of each act is read as the same act, unless the
@@ -17,6 +17,12 @@ use std::fmt;
 /// `parse_line` has such a limit, 8,400 bytes.
 pub fn spelling_is_read()
     ensures { ReadsBack }
+{}
+
+/// Does nothing. Its contract is a law: words that are read as an act, unless it is a load, are the words of its
+/// spelling.
+pub fn act_has_one_spelling()
+    ensures { IsOneSpelling }
 {}
 
 /// Appends a request's words, with a space between them, to `text`, which must have room for 50 more bytes.
@@ -108,44 +114,4 @@ pub fn load_word(layout: Layout) -> &'static str
     ensures { result.now ≡ load_by layout }
 {
     text_of(Load(layout))
-}
-
-/// Returns the line that loads a program, without its LF. The error is that memory ran out.
-fn spell_load(
-    alloc: Global,
-    slot: u32,
-    mask: u32,
-    layout: Layout,
-    bytes: &[u8],
-) -> Result<String, AllocError>
-    ensures { IfOk result (λ text. string_bytes text ≡ spelling (Act.Load slot mask layout bytes.now)) }
-{
-    let hex = hex::encode(alloc, bytes)?;
-    let word = load_word(layout);
-    format!(in alloc; "{word} {slot} {mask} {hex}")
-}
-
-/// Returns the line of an act, without its LF. Each act has one spelling: hexadecimal is in lower case. The error is
-/// that memory ran out.
-pub fn spell_act(alloc: Global, act: &Act) -> Result<String, AllocError>
-    ensures { IfOk result (λ text. string_bytes text ≡ spelling act.now) }
-{
-    match act {
-        Act::Till { till, request } => {
-            let mut text = ShortText::new();
-            put_till_line(&mut text, *till, *request);
-            String::from_str(alloc, text.as_str())
-        }
-        Act::Dispenser { point, event } => {
-            let mut text = ShortText::new();
-            put_dispenser_line(&mut text, *point, *event);
-            String::from_str(alloc, text.as_str())
-        }
-        Act::Load {
-            slot,
-            mask,
-            layout,
-            bytes,
-        } => spell_load(alloc, *slot, *mask, *layout, bytes.as_slice()),
-    }
 }
