@@ -3,9 +3,7 @@ pub mod Compared
 pub mod Going
 pub mod Hashing
 pub mod Joining
-pub mod Numbered
 pub mod ReadBack
 pub mod ReadWhole
-pub mod Spelled
 pub mod Unfitting
 pub mod Written

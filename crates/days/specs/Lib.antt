@@ -10,7 +10,6 @@ pub mod Misfits
 pub mod Parsing
 pub mod Ranges
 pub mod Reading
-pub mod Spelling
 pub mod AuditProgress
 pub mod Text
 pub mod Words

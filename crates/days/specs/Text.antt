@@ -1,6 +1,6 @@
 -- Definitions: the text of an opening (source: this project). Each line is words with one space between them, and an
 -- LF.
-use Rattle.std.specs.Prelude.{ℕ, ◌+◌, ◌==◌, ◌&&◌, if◌then◌else◌, List, [], ◌∷◌, ◌++◌, codes, map, Bool, true, false, Option, Some, None}
+use Rattle.std.specs.Prelude.{◌≡◌, ℕ, ◌+◌, ◌==◌, ◌&&◌, if◌then◌else◌, List, [], ◌∷◌, ◌++◌, codes, map, Bool, true, false, Option, Some, None}
 use Rattle.std.specs.Fmt.{decimal}
 use Rattle.std.specs.List.{flat_map, join_with_byte}
 use Rattle.hex.specs.Hex.{encode_lower}
@@ -47,6 +47,10 @@ line_spelling line = join_with_byte 32 (line_words line)
 -- The text of a line, with its LF.
 abbrev pub line_text : Line → List ℕ
 line_text line = line_spelling line ++ 10 ∷ []
+
+-- The new text is the old one, followed by the texts of these lines.
+abbrev pub AddsLines : List ℕ → List ℕ → List Line → Type 0
+AddsLines old new lines = new ≡ old ++ flat_map line_text lines
 
 -- The lines of all items of a list, in order. `lines_of` gives the lines of one item from its number and the item. The
 -- first item has the number n, and each later one the next number.

@@ -14,7 +14,6 @@ mod line;
 mod parsing;
 mod ranges;
 pub mod reading;
-mod spelling;
 mod step;
 pub mod writing;
 

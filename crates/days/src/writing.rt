@@ -1,31 +1,56 @@
 //! Writes the text of an opening.
 
-ghost use Rattle.std.specs.Prelude.{◌≡◌, ◌++◌, ◌≤◌, IfOk, IsOk, None};
+ghost use Rattle.std.specs.Prelude.{◌≡◌, ◌≤◌, ◌∷◌, [], IfOk, IsOk, None};
 ghost use Rattle.std.specs.Prelude.{OnOk, length, map, option_to_list, string_bytes};
-ghost use Rattle.days.specs.Spelling.{AddsLines};
-ghost use Rattle.days.specs.Text.{counter_lines, head_lines, numbered_lines, opening_text, point_lines};
-ghost use Rattle.days.specs.Text.{price_lines, version_lines};
+ghost use Rattle.days.specs.declared.line.Line.{Line};
+ghost use Rattle.days.specs.Text.{AddsLines, counter_lines, head_lines, numbered_lines, opening_text, point_lines};
+ghost use Rattle.days.specs.Text.{price_lines, version_lines, yes_or_no};
 
 use crate::file::OpeningFile;
-use crate::line::Line;
-use crate::spelling::{put_line, put_version_line};
 use counters::Counters;
-use fuelling_point::{Point, Snapshot, Transaction};
+use fuelling_point::{Order, Point, Snapshot, Transaction};
 use program_slots::Version;
-use site_core::Opening;
 use std::alloc::{AllocError, Global};
+use std::fmt;
+use till_request::spelling::load_word;
+
+/// A pending order. `Display` writes it as one word, which is `none` if there is no order.
+#[derive(Clone, Copy)]
+struct OrderWord(Option<Order>);
+
+impl fmt::Display for OrderWord {
+    ghost use Rattle.std.specs.Prelude.{Some};
+    ghost use Rattle.days.specs.Text.{order_word};
+
+    ghost output = { λ order. Some (order_word order.0) };
+
+    fn fmt<W: fmt::Write>(&self, f: &mut fmt::Formatter<W>) -> fmt::Result {
+        match self.0 {
+            None => write!(f, "none"),
+            Some(Order::Authorise(amount)) => write!(f, "authorise:{amount}"),
+            Some(Order::Suspend) => write!(f, "suspend"),
+            Some(Order::Resume) => write!(f, "resume"),
+            Some(Order::Stop) => write!(f, "stop"),
+        }
+    }
+}
+
+fn yes_or_no(answer: bool) -> &'static str
+    ensures { result.now ≡ yes_or_no answer }
+{
+    if answer { "yes" } else { "no" }
+}
 
 /// Appends the first three lines of an opening. The error is that memory ran out.
-fn put_head(alloc: Global, text: &mut String, file: &OpeningFile) -> Result<(), AllocError>
+fn put_head(text: &mut String, file: &OpeningFile) -> Result<(), AllocError>
     ensures { OnOk result (AddsLines (string_bytes text.old) (string_bytes text.new) (head_lines file.now)) }
 {
-    put_line(alloc, text, &Line::Day(file.day))?;
-    put_line(
-        alloc,
+    let opening = &file.opening;
+    write!(
         text,
-        &Line::Cleared(file.opening.cleared, file.opening.clears),
-    )?;
-    put_line(alloc, text, &Line::Versions(file.opening.versions))
+        "day {}\ncleared {} {}\nversions {}\n",
+        file.day, opening.cleared, opening.clears, opening.versions
+    )
 }
 
 /// Appends the line of a slot, if the slot has a version. The error is that memory ran out.
@@ -39,10 +64,12 @@ fn put_rule(
         rule.now)) }
     ensures none { rule.now ≡ None → IsOk result }
 {
-    match rule {
-        None => Ok(()),
-        Some(version) => put_version_line(alloc, text, slot, version),
-    }
+    let Some(Version { number, program }) = rule else {
+        return Ok(());
+    };
+    let (mask, load) = (program.declared(), load_word(program.layout()));
+    let bytes = hex::encode(alloc, program.bytes())?;
+    write!(text, "version {slot} {number} {mask} {load} {bytes}\n")
 }
 
 /// Appends the lines of all slots that have a version. The first item of `rules` is that of slot 0. The error is that
@@ -58,37 +85,31 @@ fn put_rules(alloc: Global, text: &mut String, rules: &[Option<Version>]) -> Res
 }
 
 /// Appends the line of a product, unless `price` is 0: then the product has no price. The error is that memory ran out.
-fn put_price(alloc: Global, text: &mut String, product: u32, price: u32) -> Result<(), AllocError>
+fn put_price(text: &mut String, product: u32, price: u32) -> Result<(), AllocError>
     ensures lines { OnOk result (AddsLines (string_bytes text.old) (string_bytes text.new) (price_lines product price)) }
     ensures none { price ≡ 0 → IsOk result }
 {
     if price == 0 {
         return Ok(());
     }
-    put_line(alloc, text, &Line::Price(product, price))
+    write!(text, "price {product} {price}\n")
 }
 
 /// Appends the lines of all products that have a price. The first item of `prices` is the price of product 1. There
 /// must be at most 8 items. The error is that memory ran out.
-fn put_prices(alloc: Global, text: &mut String, prices: &[u32]) -> Result<(), AllocError>
+fn put_prices(text: &mut String, prices: &[u32]) -> Result<(), AllocError>
     requires { length prices.now ≤ 8 }
     ensures { OnOk result (AddsLines (string_bytes text.old) (string_bytes text.new)
         (numbered_lines price_lines 1 prices.now)) }
 {
     for at in 0..prices.len() {
-        put_price(alloc, text, at as u32 + 1, prices[at])?;
+        put_price(text, at as u32 + 1, prices[at])?;
     }
     Ok(())
 }
 
 /// Appends the line of a counter, unless both its value and its bound are 0. The error is that memory ran out.
-fn put_counter(
-    alloc: Global,
-    text: &mut String,
-    counter: u32,
-    value: u64,
-    bound: u64,
-) -> Result<(), AllocError>
+fn put_counter(text: &mut String, counter: u32, value: u64, bound: u64) -> Result<(), AllocError>
     ensures lines { OnOk result (AddsLines (string_bytes text.old) (string_bytes text.new)
         (counter_lines counter (value, bound))) }
     ensures none { value ≡ 0 → bound ≡ 0 → IsOk result }
@@ -96,111 +117,98 @@ fn put_counter(
     if value == 0 && bound == 0 {
         return Ok(());
     }
-    put_line(alloc, text, &Line::Counter(counter, value, bound))
+    write!(text, "counter {counter} {value} {bound}\n")
+}
+
+/// Appends the line of an unpaid transaction of point `number`, counted from 1, if there is a transaction. The error is
+/// that memory ran out.
+fn put_unpaid(text: &mut String, number: u64, unpaid: Option<Transaction>) -> Result<(), AllocError>
+    ensures lines { OnOk result (AddsLines (string_bytes text.old) (string_bytes text.new)
+        (map (λ t. Line.Unpaid number t) (option_to_list unpaid))) }
+    ensures none { unpaid ≡ None → IsOk result }
+{
+    let Some(t) = unpaid else {
+        return Ok(());
+    };
+    write!(
+        text,
+        "unpaid {number} {} {} {} {}\n",
+        t.number, t.amount, t.volume, t.holder
+    )
+}
+
+/// Appends the line of point `number`, counted from 1. The unpaid transactions in `s` aren't written: they have lines
+/// of their own. The error is that memory ran out.
+fn put_snapshot(text: &mut String, number: u64, s: &Snapshot) -> Result<(), AllocError>
+    ensures { OnOk result (AddsLines (string_bytes text.old) (string_bytes text.new) (Line.Point number s.now ∷ [])) }
+{
+    let (state, order, taken) = (s.state.number(), OrderWord(s.order), yes_or_no(s.taken));
+    write!(
+        text,
+        "point {number} {state} {} {} {} {} {} {order} {taken} {}\n",
+        s.nozzle, s.preset, s.limit, s.amount, s.volume, s.last
+    )
+}
+
+/// Appends the line of point `number`, counted from 1, and then the lines of its unpaid transactions. The error is that
+/// memory ran out.
+fn put_point(text: &mut String, number: u64, point: &Point) -> Result<(), AllocError>
+    ensures { OnOk result (AddsLines (string_bytes text.old) (string_bytes text.new) (point_lines number point.now)) }
+{
+    let snapshot = point.snapshot();
+    put_snapshot(text, number, &snapshot)?;
+    put_unpaid(text, number, snapshot.unpaid[0])?;
+    put_unpaid(text, number, snapshot.unpaid[1])
 }
 
 /// Appends the lines of all counters, except of those whose value and bound are both 0. The error is that memory ran
 /// out.
-fn put_counters(alloc: Global, text: &mut String, counters: &Counters) -> Result<(), AllocError>
+fn put_counters(text: &mut String, counters: &Counters) -> Result<(), AllocError>
     ensures { OnOk result (AddsLines (string_bytes text.old) (string_bytes text.new)
         (numbered_lines counter_lines 0 counters.now)) }
 {
     // This read tells the prover that there are 32 counters.
     let _first = counters.get(0);
     for counter in 0..32u32 {
-        put_counter(
-            alloc,
-            text,
-            counter,
-            counters.get(counter),
-            counters.bound(counter),
-        )?;
+        let (value, bound) = (counters.get(counter), counters.bound(counter));
+        put_counter(text, counter, value, bound)?;
     }
     Ok(())
 }
 
-/// Appends the line of an unpaid transaction of point `number`, counted from 1, if there is a transaction. The error is
-/// that memory ran out.
-fn put_unpaid(
-    alloc: Global,
-    text: &mut String,
-    number: u64,
-    unpaid: Option<Transaction>,
-) -> Result<(), AllocError>
-    ensures lines { OnOk result (AddsLines (string_bytes text.old) (string_bytes text.new)
-        (map (λ t. Line.Unpaid number t) (option_to_list unpaid))) }
-    ensures none { unpaid ≡ None → IsOk result }
-{
-    match unpaid {
-        None => Ok(()),
-        Some(unpaid) => put_line(alloc, text, &Line::Unpaid(number, unpaid)),
-    }
-}
-
-/// Appends the line of point `number`, counted from 1, and then the lines of its unpaid transactions. The error is that
-/// memory ran out.
-fn put_point(alloc: Global, text: &mut String, number: u64, point: &Point) -> Result<(), AllocError>
-    ensures { OnOk result (AddsLines (string_bytes text.old) (string_bytes text.new) (point_lines number point.now)) }
-{
-    let snapshot = point.snapshot();
-    let [first, second] = snapshot.unpaid;
-    let own = Snapshot {
-        unpaid: [None, None],
-        ..snapshot
-    };
-    put_line(alloc, text, &Line::Point(number, own))?;
-    put_unpaid(alloc, text, number, first)?;
-    put_unpaid(alloc, text, number, second)
-}
-
 /// Appends the lines of all points. The first item of `points` is point 1. The error is that memory ran out.
-fn put_points(alloc: Global, text: &mut String, points: &[Point]) -> Result<(), AllocError>
+fn put_points(text: &mut String, points: &[Point]) -> Result<(), AllocError>
     ensures { OnOk result (AddsLines (string_bytes text.old) (string_bytes text.new)
         (numbered_lines point_lines 1 points.now)) }
 {
     for at in 0..points.len() {
-        put_point(alloc, text, at as u64 + 1, &points[at])?;
+        put_point(text, at as u64 + 1, &points[at])?;
     }
     Ok(())
 }
 
-/// Appends the lines of the slots that have a version, and then those of the products that have a price. The error is
-/// that memory ran out.
-fn put_rules_and_prices(
-    alloc: Global,
-    text: &mut String,
-    opening: &Opening,
-) -> Result<(), AllocError>
+/// Appends the last line of an opening. The error is that memory ran out.
+fn put_journal(alloc: Global, text: &mut String, file: &OpeningFile) -> Result<(), AllocError>
     ensures { OnOk result (AddsLines (string_bytes text.old) (string_bytes text.new)
-        (numbered_lines version_lines 0 opening.now.rules ++ numbered_lines price_lines 1 opening.now.prices)) }
+        (Line.Journal file.now.entries file.now.digest ∷ [])) }
 {
-    put_rules(alloc, text, &opening.rules)?;
-    put_prices(alloc, text, &opening.prices)
-}
-
-/// Appends the lines of the counters, except of those whose value and bound are both 0, and then those of the points.
-/// The error is that memory ran out.
-fn put_counters_and_points(
-    alloc: Global,
-    text: &mut String,
-    opening: &Opening,
-) -> Result<(), AllocError>
-    ensures { OnOk result (AddsLines (string_bytes text.old) (string_bytes text.new)
-        (numbered_lines counter_lines 0 opening.now.counters ++ numbered_lines point_lines 1 opening.now.points)) }
-{
-    put_counters(alloc, text, &opening.counters)?;
-    put_points(alloc, text, &opening.points)
+    let digest = hex::encode(alloc, &file.digest)?;
+    write!(text, "journal {} {digest}\n", file.entries)
 }
 
 /// Returns the text of an opening: its lines, each with an LF. Each opening has exactly one text. The error is that
 /// memory ran out.
+#[tactic(auto, using(crate::proofs::Written::whole_text))]
 pub fn opening_text(alloc: Global, file: &OpeningFile) -> Result<String, AllocError>
     ensures { IfOk result (λ text. string_bytes text ≡ opening_text file.now) }
 {
+    let opening = &file.opening;
     let mut text = String::new(alloc);
-    put_head(alloc, &mut text, file)?;
-    put_rules_and_prices(alloc, &mut text, &file.opening)?;
-    put_counters_and_points(alloc, &mut text, &file.opening)?;
-    put_line(alloc, &mut text, &Line::Journal(file.entries, file.digest))?;
+    put_head(&mut text, file)?;
+    put_rules(alloc, &mut text, &opening.rules)?;
+    put_prices(&mut text, &opening.prices)?;
+    put_counters(&mut text, &opening.counters)?;
+    put_points(&mut text, &opening.points)?;
+    put_journal(alloc, &mut text, file)?;
     Ok(text)
 }
