@@ -4,9 +4,8 @@ ghost use Rattle.std.specs.Prelude.{◌<◌};
 
 use crate::builder::TextBuilder;
 use crate::pictures::{COLUMNS_END, END, add_head, add_label, add_rect};
-use crate::tables::outcome_of;
 use crate::texts::{Text, number, scaled};
-use day_report::{FIRST_REFUSAL, REFUSALS, Sum, Totals};
+use day_report::{FIRST_REFUSAL, REFUSALS, Sum, Totals, Verdicts};
 
 /// The distance from the top of a bar to the top of the next, in units of the picture.
 const APART: usize = 28;
@@ -191,12 +190,12 @@ fn add_columns(html: &mut TextBuilder, totals: &Totals, together: usize)
     requires { 0 < together }
 {
     let columns = totals.versions.len().div_ceil(together);
-    let most = most_decided(totals, together);
-    for (place, chunk) in totals.versions.chunks(together).enumerate() {
-        let (granted, denied) = decided(totals, place.saturating_mul(together), chunk.len());
+    let most = most_decided(&totals.verdicts, together);
+    for (place, chunk) in totals.verdicts.chunks(together).enumerate() {
+        let (granted, denied) = decided(chunk);
         let (low, high) = (scaled(granted, most, 190), scaled(denied, most, 190));
         add_column(html, place, columns, low, high);
-        if let Some(version) = chunk.first() {
+        if let Some(version) = totals.versions.get(place.saturating_mul(together)) {
             add_name(html, place, columns, *version);
         }
         html.add("\n");
@@ -205,37 +204,25 @@ fn add_columns(html: &mut TextBuilder, totals: &Totals, together: usize)
 
 /// Returns the greatest number of decisions that a column shows, or 0 if there are no columns. Each column shows
 /// `together` neighbouring versions; the last one can show fewer. `together` must not be 0.
-fn most_decided(totals: &Totals, together: usize) -> u128
+fn most_decided(verdicts: &[Verdicts], together: usize) -> u128
     requires { 0 < together }
 {
     let mut most = 0u128;
-    for (place, chunk) in totals.versions.chunks(together).enumerate() {
-        let (granted, denied) = decided(totals, place.saturating_mul(together), chunk.len());
+    for chunk in verdicts.chunks(together) {
+        let (granted, denied) = decided(chunk);
         most = most.max(granted.saturating_add(denied));
     }
     most
 }
 
-/// Returns how many requests for releases, presets and prices a version granted, and how many it denied. `place` is the
-/// version's place in `totals.versions`, counted from 0. Both numbers are 0 if there is no such place.
-fn decided_at(totals: &Totals, place: usize) -> (u128, u128) {
-    let releases = outcome_of(&totals.releases, place);
-    let presets = outcome_of(&totals.presets, place);
-    let prices = outcome_of(&totals.price_requests, place);
-    (
-        releases.0 as u128 + presets.0 as u128 + prices.0 as u128,
-        releases.1 as u128 + presets.1 as u128 + prices.1 as u128,
-    )
-}
-
-/// Returns how many requests `count` neighbouring versions together granted, and how many they denied. The first of
-/// these versions is at `place`, counted from 0, in `totals.versions`.
-fn decided(totals: &Totals, place: usize, count: usize) -> (u128, u128) {
+/// Returns how many requests for releases, presets and prices these versions together granted, and how many they denied.
+fn decided(verdicts: &[Verdicts]) -> (u128, u128) {
     let (mut granted, mut denied) = (0u128, 0u128);
-    for more in 0..count {
-        let outcome = decided_at(totals, place.saturating_add(more));
-        granted = granted.saturating_add(outcome.0);
-        denied = denied.saturating_add(outcome.1);
+    for version in verdicts {
+        for outcome in [version.releases, version.presets, version.prices] {
+            granted = granted.saturating_add(outcome.granted as u128);
+            denied = denied.saturating_add(outcome.denied as u128);
+        }
     }
     (granted, denied)
 }

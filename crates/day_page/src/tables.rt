@@ -2,7 +2,7 @@
 use crate::builder::TextBuilder;
 use crate::names::state_name;
 use crate::texts::{Text, number, numbered};
-use day_report::{CarriedRule, Load, Outcomes, PriceChange, Sum, Totals, Unpaid};
+use day_report::{CarriedRule, Load, Outcome, PriceChange, Sum, Totals, Unpaid};
 use fuelling_point::Point;
 
 /// The most rows that a table of price changes, or of decisions by version and till, can have. Other rows are left out.
@@ -135,20 +135,6 @@ pub(crate) fn add_unpaid(html: &mut TextBuilder, unpaid: &[Unpaid]) {
     html.add(FOOT);
 }
 
-/// Returns the count at `place` in `counts`, or 0 if there is no such place.
-fn count_at(counts: &[u64], place: usize) -> u64 {
-    counts.get(place).copied().unwrap_or(0)
-}
-
-/// Returns how many requests a version granted, and how many it denied. `place` is the version's place in the lists of
-/// `outcomes`, counted from 0. A number is 0 if its list has no such place.
-pub(crate) fn outcome_of(outcomes: &Outcomes, place: usize) -> (u64, u64) {
-    (
-        count_at(&outcomes.granted, place),
-        count_at(&outcomes.denied, place),
-    )
-}
-
 /// Adds the row of a version of a rule, with how many requests it granted and denied.
 ///
 /// - `place` is the version's place in `totals.versions`, counted from 0.
@@ -163,19 +149,19 @@ fn add_version(
     entry: Text,
     loaded: Text,
 ) {
-    let releases = outcome_of(&totals.releases, place);
-    let presets = outcome_of(&totals.presets, place);
-    let prices = outcome_of(&totals.price_requests, place);
+    let Some(verdicts) = totals.verdicts.get(place) else {
+        return;
+    };
     let cells = [
         Text::Number(rule.slot as u64),
         entry,
         loaded,
-        Text::Number(releases.0),
-        Text::Number(releases.1),
-        Text::Number(presets.0),
-        Text::Number(presets.1),
-        Text::Number(prices.0),
-        Text::Number(prices.1),
+        Text::Number(verdicts.releases.granted),
+        Text::Number(verdicts.releases.denied),
+        Text::Number(verdicts.presets.granted),
+        Text::Number(verdicts.presets.denied),
+        Text::Number(verdicts.prices.granted),
+        Text::Number(verdicts.prices.denied),
     ];
     add_row(html, Text::Number(rule.version as u64), &cells);
 }
@@ -216,25 +202,18 @@ pub(crate) fn add_versions(html: &mut TextBuilder, totals: &Totals) {
     html.add(FOOT);
 }
 
-/// Adds the rows of one version of a rule: a row for each till that had a request decided by this version. `version` is
-/// the version's number, and `at` its place, counted from 0, in the lists of each of `tills`. `rows` is how many rows
-/// there were before, and the result is how many there are now. Rows beyond `ROWS` are counted, but left out.
-fn add_tills(
-    html: &mut TextBuilder,
-    tills: &[Outcomes],
-    at: usize,
-    version: u32,
-    rows: usize,
-) -> usize {
+/// Adds the rows of one version of a rule: a row for each till that had a request decided by this version. `tills` has
+/// what the version decided for each till, till 1 first. `rows` is how many rows there were before, and the result is how
+/// many there are now. Rows beyond `ROWS` are counted, but left out.
+fn add_tills(html: &mut TextBuilder, tills: &[Outcome], version: u32, rows: usize) -> usize {
     let mut rows = rows;
-    for (place, outcomes) in tills.iter().enumerate() {
-        let (granted, denied) = outcome_of(outcomes, at);
-        if granted > 0 || denied > 0 {
+    for (place, outcome) in tills.iter().enumerate() {
+        if outcome.granted > 0 || outcome.denied > 0 {
             if rows < ROWS {
                 let cells = [
                     numbered(place, 1),
-                    Text::Number(granted),
-                    Text::Number(denied),
+                    Text::Number(outcome.granted),
+                    Text::Number(outcome.denied),
                 ];
                 add_row(html, Text::Number(version as u64), &cells);
             }
@@ -251,8 +230,8 @@ const BY_VERSION_AND_TILL: &str = head!("versions-by-till"; "Version", "Till", "
 pub(crate) fn add_versions_by_till(html: &mut TextBuilder, totals: &Totals) {
     html.add(BY_VERSION_AND_TILL);
     let mut rows = 0;
-    for (place, version) in totals.versions.iter().enumerate() {
-        rows = add_tills(html, &totals.tills, place, *version, rows);
+    for (version, verdicts) in totals.versions.iter().zip(&totals.verdicts) {
+        rows = add_tills(html, &verdicts.tills, *version, rows);
     }
     html.add(FOOT);
     let remark = "<p class=\"note\">The first {} rows; {} more are left out.</p>\n";

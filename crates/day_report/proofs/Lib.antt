@@ -4,6 +4,7 @@ pub mod SiteSales
 pub mod SiteDecisions
 pub mod Axes
 pub mod Cuts
+mod Deciding
 pub mod Showing
 pub mod Owing
 pub mod Growing

@@ -48,14 +48,13 @@ use Rattle.day_report.specs.Decisions as decisions
 use Rattle.decision_journal.specs.Tally.{verdict_of}
 use Rattle.day_report.specs.Decisions.{kind_of_request, decision_of, loaded_at, load_of, loads, moment_after}
 use Rattle.day_report.specs.Carried.{carried_from, carried_rules, HasValidOpening}
-use Rattle.day_report.specs.Totals.{is_release, is_preset, is_price, is_wanted, versions_of}
+use Rattle.day_report.specs.Totals.{is_release, is_preset, is_price, versions_of}
 use Rattle.day_report.specs.Laws.{decided_in_all, VersionsCountAllDecisions}
 use Rattle.day_report.specs.declared.loading.Load.{Load}
 use Rattle.day_report.specs.declared.opening.CarriedRule.{CarriedRule}
 use Rattle.day_report.specs.declared.rulings.RequestKind.{RequestKind}
 use Rattle.day_report.specs.declared.rulings.RequestKind.TheVariants as kinds
 use Rattle.day_report.specs.declared.rulings.Decision.{Decision}
-use Rattle.day_report.specs.declared.counting.DecisionPart.TheVariants as deciding
 use Rattle.day_report.proofs.OneMore.{loads-push}
 use Rattle.day_report.proofs.SiteSales.{none-key, one-key, add-keys, no-keys}
 
@@ -79,17 +78,16 @@ one-of-six kinds.Price false true = refl
 one-of-six kinds.Price false false = refl
 
 six : (v : ℕ) (ds : List Decision) → decided_in_all v ds ≡ count_by (λ (d : Decision). d.version == v) ds
-unfolding is_wanted
 six v [] = refl
 six v (d ∷ ds) =
     let here = one-of-six d.asked d.is_granted (d.version == v) in
     let rest = six v ds in
-    let a = sum_by-cons (λ (x : Decision). if is_wanted deciding.Releases true x && x.version == v then 1 else 0) d ds in
-    let b = sum_by-cons (λ (x : Decision). if is_wanted deciding.Releases false x && x.version == v then 1 else 0) d ds in
-    let e = sum_by-cons (λ (x : Decision). if is_wanted deciding.Presets true x && x.version == v then 1 else 0) d ds in
-    let f = sum_by-cons (λ (x : Decision). if is_wanted deciding.Presets false x && x.version == v then 1 else 0) d ds in
-    let g = sum_by-cons (λ (x : Decision). if is_wanted deciding.Prices true x && x.version == v then 1 else 0) d ds in
-    let h = sum_by-cons (λ (x : Decision). if is_wanted deciding.Prices false x && x.version == v then 1 else 0) d ds in
+    let a = sum_by-cons (λ (x : Decision). if (is_release x.asked && x.is_granted) && x.version == v then 1 else 0) d ds in
+    let b = sum_by-cons (λ (x : Decision). if (is_release x.asked && not x.is_granted) && x.version == v then 1 else 0) d ds in
+    let e = sum_by-cons (λ (x : Decision). if (is_preset x.asked && x.is_granted) && x.version == v then 1 else 0) d ds in
+    let f = sum_by-cons (λ (x : Decision). if (is_preset x.asked && not x.is_granted) && x.version == v then 1 else 0) d ds in
+    let g = sum_by-cons (λ (x : Decision). if (is_price x.asked && x.is_granted) && x.version == v then 1 else 0) d ds in
+    let h = sum_by-cons (λ (x : Decision). if (is_price x.asked && not x.is_granted) && x.version == v then 1 else 0) d ds in
     let all = sum_by-cons (λ (x : Decision). if x.version == v then 1 else 0) d ds in
     omega (arith, here, rest, a, b, e, f, g, h, all)
 

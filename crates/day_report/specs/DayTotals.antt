@@ -14,10 +14,9 @@ use Rattle.day_report.specs.Picture.{mark_of}
 use Rattle.day_report.specs.Rulings.{ListsRulings}
 use Rattle.day_report.specs.Sales.{sales_of}
 use Rattle.day_report.specs.Sums.{AddsUp}
-use Rattle.day_report.specs.Totals.{CountsRefusals, DecidedByTills, HasOutcomes, most_tills, unpaid_of, versions_of}
+use Rattle.day_report.specs.Totals.{AllDecided, CountsRefusals, unpaid_of, versions_of}
 use Rattle.day_report.specs.declared.adding.Totals.{Totals}
 use Rattle.day_report.specs.declared.adding.Unpaid.{Unpaid}
-use Rattle.day_report.specs.declared.counting.DecisionPart.TheVariants as deciding
 use Rattle.day_report.specs.declared.rulings.Decision.{Decision}
 use Rattle.day_report.specs.declared.rulings.Rulings.{Rulings}
 use Rattle.day_report.specs.declared.steps.Marks.{Marks}
@@ -44,7 +43,4 @@ pub record IsTotals (config : ConfigValue) (history : List Entry) (points : List
   pub unpaid_cents : t.unpaid_cents ≡ sum_by (λ (u : Unpaid). u.amount) (unpaid_of points)
   pub granted : t.granted ≡ count_by (λ (d : Decision). d.is_granted) (filter_map decision_of history)
   pub denied : t.denied ≡ count_by (λ (d : Decision). not d.is_granted) (filter_map decision_of history)
-  pub releases : HasOutcomes deciding.Releases (versions_of config history) (filter_map decision_of history) t.releases
-  pub presets : HasOutcomes deciding.Presets (versions_of config history) (filter_map decision_of history) t.presets
-  pub price_requests : HasOutcomes deciding.Prices (versions_of config history) (filter_map decision_of history) t.price_requests
-  pub tills : DecidedByTills most_tills (versions_of config history) (filter_map decision_of history) t.tills.items
+  pub verdicts : AllDecided (versions_of config history) (filter_map decision_of history) t.verdicts.items

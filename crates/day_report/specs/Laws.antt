@@ -1,5 +1,5 @@
 -- Promises: a history's sales agree with its site, and the decisions of all versions add up to all decisions.
-use Rattle.std.specs.Prelude.{◌≡◌, ◌≤◌, ℕ, ◌+◌, All, true, false, List, length, sum_by, count_by}
+use Rattle.std.specs.Prelude.{◌≡◌, ◌≤◌, ℕ, ◌+◌, All, List, length, sum_by, count_by}
 use Rattle.std.specs.List.{range_with_len, filter_map}
 use Rattle.decision_journal.specs.declared.entries.Entry.{Entry}
 use Rattle.site_core.specs.Limits.{ConfigValue}
@@ -9,9 +9,8 @@ use Rattle.site_core.specs.Legal.{LegalHistory}
 use Rattle.day_report.specs.Carried.{HasValidOpening}
 use Rattle.day_report.specs.Sales.{sales_of}
 use Rattle.day_report.specs.Decisions.{decision_of}
-use Rattle.day_report.specs.Totals.{count_in, cents_in, decided_by, versions_of}
+use Rattle.day_report.specs.Totals.{count_in, cents_in, denied_by, granted_by, on_preset, on_price, on_release, versions_of}
 use Rattle.day_report.specs.declared.rulings.Decision.{Decision}
-use Rattle.day_report.specs.declared.counting.DecisionPart.TheVariants as deciding
 use Rattle.day_report.specs.declared.sales.Sale.{Sale}
 use Rattle.day_report.specs.declared.sales.SalesPart.TheVariants as part
 use Rattle.day_report.specs.declared.sales.Sum.{Sum}
@@ -40,8 +39,8 @@ SalesAgreeWithTheSite = (config : ConfigValue) (history : List Entry) (state : S
 -- How many decisions a version of a rule made in all: on releases, presets and prices, granted and denied.
 abbrev pub decided_in_all : ℕ → List Decision → ℕ
 decided_in_all v ds =
-    decided_by deciding.Releases true v ds + decided_by deciding.Releases false v ds + decided_by deciding.Presets true v ds
-    + decided_by deciding.Presets false v ds + decided_by deciding.Prices true v ds + decided_by deciding.Prices false v ds
+    granted_by on_release v ds + denied_by on_release v ds + granted_by on_preset v ds + denied_by on_preset v ds
+    + granted_by on_price v ds + denied_by on_price v ds
 
 -- In any history that the site's steps can make (`LegalHistory`), the decisions (grants and denials) of all versions
 -- are together as many as the entries whose reply is a grant or S24 (a denial by a program). The versions are those

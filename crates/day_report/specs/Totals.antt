@@ -1,8 +1,6 @@
 -- Definitions: the totals and counts of a history's sales, decisions, refusals and unpaid transactions.
-use Rattle.std.specs.Prelude.{◌≡◌, ◌<◌, ℕ, ◌+◌, ◌/◌, ◌%◌, ◌==◌, ◌&&◌, not, List, [], ◌∷◌, ◌++◌, map, length, slice_index, slice_index_or, sum_by, count_by}
-use Rattle.std.specs.Prelude.{if◌then◌else◌, Bool, true, false, nat_eq, unwrap_or}
-use Rattle.std.specs.HashMap as hash
-use Rattle.std.specs.HashMap.{HashMap}
+use Rattle.std.specs.Prelude.{◌≡◌, ◌<◌, ◌^◌, ℕ, ◌+◌, ◌-◌, ◌/◌, ◌%◌, ◌==◌, ◌&&◌, not, List, [], ◌∷◌, ◌++◌, map, length, slice_index, slice_index_or, sum_by, count_by}
+use Rattle.std.specs.Prelude.{if◌then◌else◌, Bool, true, false, fold, nat_le, nat_lt, max, min, replicate, slice_set}
 use Rattle.day_report.specs.declared.sales.Sale.{Sale}
 use Rattle.day_report.specs.declared.sales.Sum.{Sum}
 use Rattle.day_report.specs.declared.sales.SalesPart.{SalesPart}
@@ -10,7 +8,8 @@ use Rattle.day_report.specs.declared.sales.SalesPart.TheVariants as part
 use Rattle.day_report.specs.declared.rulings.RequestKind.{RequestKind}
 use Rattle.day_report.specs.declared.rulings.RequestKind.TheVariants as asked
 use Rattle.day_report.specs.declared.rulings.Decision.{Decision}
-use Rattle.day_report.specs.declared.counting.Outcomes.{Outcomes}
+use Rattle.day_report.specs.declared.counting.Outcome.{Outcome}
+use Rattle.day_report.specs.declared.counting.Verdicts.{Verdicts}
 use Rattle.decision_journal.specs.declared.entries.Entry.{Entry}
 use Rattle.site_core.specs.Opening.{OpeningValue}
 use Rattle.site_core.specs.Limits.{ConfigValue}
@@ -22,8 +21,6 @@ use Rattle.day_report.specs.declared.adding.CarriedIn.{CarriedIn}
 use Rattle.day_report.specs.declared.adding.Unpaid.{Unpaid}
 use Rattle.fuelling_point.specs.declared.kinds.Transaction.{Transaction}
 use Rattle.fuelling_point.specs.Table.{PointState}
-use Rattle.day_report.specs.declared.counting.DecisionPart.{DecisionPart}
-use Rattle.day_report.specs.declared.counting.DecisionPart.TheVariants as deciding
 
 -- The most tills that a site can have.
 abbrev pub most_tills : ℕ
@@ -66,26 +63,28 @@ abbrev pub is_price : RequestKind → Bool
 is_price asked.Price = true
 is_price _ = false
 
--- Whether a decision is in a part. The parts are the decisions on releases, on presets, on prices, and on the requests
--- of one till.
-abbrev pub is_among : DecisionPart → Decision → Bool
-is_among deciding.Releases d = is_release d.asked
-is_among deciding.Presets d = is_preset d.asked
-is_among deciding.Prices d = is_price d.asked
-is_among (deciding.Till till) d = d.till == till
+-- Whether a decision is on a request of this kind, or on one of this till.
+abbrev pub on_release : Decision → Bool
+on_release d = is_release d.asked
 
--- Whether a decision has this outcome: true is a grant, and false is a denial.
-abbrev pub has_outcome : Bool → Decision → Bool
-has_outcome true d = d.is_granted
-has_outcome false d = not d.is_granted
+abbrev pub on_preset : Decision → Bool
+on_preset d = is_preset d.asked
 
--- Whether a decision is in this part and has this outcome.
-unfoldable pub is_wanted : DecisionPart → Bool → Decision → Bool
-is_wanted part granted d = is_among part d && has_outcome granted d
+abbrev pub on_price : Decision → Bool
+on_price d = is_price d.asked
 
--- How many of the decisions in the part are grants (if `granted` is true) or denials (if it is false) by this version.
-abbrev pub decided_by : DecisionPart → Bool → ℕ → List Decision → ℕ
-decided_by part granted version decisions = count_by (λ (d : Decision). is_wanted part granted d && d.version == version) decisions
+abbrev pub of_till : ℕ → Decision → Bool
+of_till till d = d.till == till
+
+-- How many of the decisions that are wanted this version granted, and how many it denied.
+abbrev pub granted_by : (Decision → Bool) → ℕ → List Decision → ℕ
+granted_by is_wanted version decisions = count_by (λ (d : Decision). (is_wanted d && d.is_granted) && d.version == version) decisions
+
+abbrev pub denied_by : (Decision → Bool) → ℕ → List Decision → ℕ
+denied_by is_wanted version decisions = count_by (λ (d : Decision). (is_wanted d && not d.is_granted) && d.version == version) decisions
+
+abbrev pub outcome_of : (Decision → Bool) → ℕ → List Decision → Outcome
+outcome_of is_wanted version decisions = record { granted = granted_by is_wanted version decisions; denied = denied_by is_wanted version decisions }
 
 -- `sum` has the number of sales in the part, and their totals in cents and in centilitres.
 pub record IsSum (sum : Sum) (part : SalesPart) (sales : List Sale) : Type 0 where
@@ -129,17 +128,18 @@ version_numbers config loads = map (λ (rule : CarriedRule). rule.version) (carr
 abbrev pub versions_of : ConfigValue → List Entry → List ℕ
 versions_of config history = version_numbers config (loads 0 history)
 
--- For each version, in the order of `versions`, `found` has how often the version granted and how often it denied. Only
--- decisions in the part are counted.
-pub record HasOutcomes (part : DecisionPart) (versions : List ℕ) (decisions : List Decision) (found : Outcomes) : Type 0 where
-  pub granted : found.granted.items ≡ map (λ v. decided_by part true v decisions) versions
-  pub denied : found.denied.items ≡ map (λ v. decided_by part false v decisions) versions
+-- What a version decided on releases, on presets and on prices, and on the requests of each till.
+pub record HasDecided (version : ℕ) (decisions : List Decision) (found : Verdicts) : Type 0 where
+  pub releases : found.releases ≡ outcome_of on_release version decisions
+  pub presets : found.presets ≡ outcome_of on_preset version decisions
+  pub prices : found.prices ≡ outcome_of on_price version decisions
+  pub long : length found.tills ≡ most_tills
+  pub tills : (k : ℕ) (d : Outcome) → k < length found.tills → slice_index_or found.tills k d ≡ outcome_of (of_till (k + 1)) version decisions
 
--- `found` has for each till from 1 to `tills`, till 1 first, how often each version granted and denied requests of this
--- till.
-pub record DecidedByTills (tills : ℕ) (versions : List ℕ) (decisions : List Decision) (found : List Outcomes) : Type 0 where
-  pub long : length found ≡ tills
-  pub each : (k : ℕ) (d : Outcomes) → k < length found → HasOutcomes (deciding.Till (k + 1)) versions decisions (slice_index_or found k d)
+-- `found` has what each version decided, in the order of `versions`.
+pub record AllDecided (versions : List ℕ) (decisions : List Decision) (found : List Verdicts) : Type 0 where
+  pub long : length found ≡ length versions
+  pub each : (k n : ℕ) (d : Verdicts) → k < length found → HasDecided (slice_index_or versions k n) decisions (slice_index_or found k d)
 
 -- An unpaid transaction, together with the number of its point.
 abbrev pub unpaid_transaction : ℕ → Transaction → Unpaid
@@ -165,11 +165,41 @@ carried_in o = record {
 
 -- ---- The contracts of private functions use these definitions.
 
--- the count that a map has for a version; 0 if it has none
-abbrev pub count_for : {S : Type 0} → HashMap ℕ ℕ S → ℕ → ℕ
-count_for counts v = unwrap_or (hash.get nat_eq counts v) 0
+-- the outcome with one decision more; a number that would be too great for its type stays its greatest
+abbrev pub plus_outcome : Outcome → Bool → Outcome
+plus_outcome o true = record { granted = min (o.granted + 1) (2 ^ 64 - 1); denied = o.denied }
+plus_outcome o false = record { granted = o.granted; denied = min (o.denied + 1) (2 ^ 64 - 1) }
 
--- The count of each version in the map is how many of the decisions in the part are grants by this version (if
--- `granted` is true) or denials by it (if `granted` is false). A version that isn't in the map has the count 0.
-abbrev pub CountsVersions : {S : Type 0} → DecisionPart → Bool → List Decision → HashMap ℕ ℕ S → Type 0
-CountsVersions part granted decisions counts = (v : ℕ) → count_for counts v ≡ decided_by part granted v decisions
+abbrev pub no_outcome : Outcome
+no_outcome = record { granted = 0; denied = 0 }
+
+-- the outcomes by till, of which that of the n-th till, counted from 1, has one decision more; if there is no such till,
+-- they stay the same
+abbrev pub tills_with : List Outcome → ℕ → Bool → List Outcome
+tills_with outcomes n granted =
+    if nat_le 1 n && nat_le n (length outcomes)
+    then slice_set outcomes (n - 1) (plus_outcome (slice_index_or outcomes (n - 1) no_outcome) granted)
+    else outcomes
+
+-- what a version decided, with one decision of it more
+abbrev pub verdicts_with : Verdicts → Decision → Verdicts
+verdicts_with v d = record {
+  releases = if is_release d.asked then plus_outcome v.releases d.is_granted else v.releases;
+  presets = if is_preset d.asked then plus_outcome v.presets d.is_granted else v.presets;
+  prices = if is_price d.asked then plus_outcome v.prices d.is_granted else v.prices;
+  tills = tills_with v.tills d.till d.is_granted;
+}
+
+abbrev pub no_verdicts : Verdicts
+no_verdicts = record { releases = no_outcome; presets = no_outcome; prices = no_outcome; tills = replicate 64 no_outcome }
+
+-- the table, which has what version v decided at place v, with one decision more
+abbrev pub table_with : List Verdicts → Decision → List Verdicts
+table_with table d =
+    if nat_lt d.version (length table)
+    then slice_set table d.version (verdicts_with (slice_index_or table d.version no_verdicts) d)
+    else table
+
+-- the least number that is over each of these versions
+abbrev pub places_for : List ℕ → ℕ
+places_for versions = fold (λ places version. max places (version + 1)) 0 versions

@@ -8,15 +8,14 @@ ghost use Rattle.day_report.specs.Carried.{carried_from, carried_rules};
 ghost use Rattle.day_report.specs.DayTotals.{IsDay, IsTotals};
 ghost use Rattle.day_report.specs.Rulings.{ListsRulings};
 ghost use Rattle.day_report.specs.Sums.{AddsUp};
-ghost use Rattle.day_report.specs.Totals.{CountsRefusals, HasOutcomes, DecidedByTills, version_numbers};
-ghost use Rattle.day_report.specs.Totals.{unpaid_transaction, unpaid_of, carried_in, most_tills};
-ghost use Rattle.day_report.specs.declared.counting.DecisionPart.TheVariants as deciding;
+ghost use Rattle.day_report.specs.Totals.{CountsRefusals, version_numbers};
+ghost use Rattle.day_report.specs.Totals.{unpaid_transaction, unpaid_of, carried_in};
 
-use crate::counting::{DecisionPart, Outcomes, count_of, count_outcome, tally};
+use crate::counting::{Verdicts, count_of, count_outcomes, verdicts_of};
 use crate::loading::Load;
 use crate::opening::{CarriedRule, carried_rules, rules_in};
 use crate::pushing::push_some;
-use crate::rulings::{Decision, PriceChange, Rulings};
+use crate::rulings::{PriceChange, Rulings};
 use crate::sales::Sum;
 use crate::steps::Marks;
 use crate::sums::Sums;
@@ -24,9 +23,6 @@ use decision_journal::{FIRST_REFUSAL, REFUSALS};
 use fuelling_point::{Point, Transaction};
 use site_core::{Both, Config, Opening, Replayed};
 use std::alloc::{AllocError, Global};
-
-/// The most tills that a site can have.
-pub const MAX_TILLS: u32 = 64;
 
 /// What is watched while a day is replayed, for its totals and its picture.
 pub type DayWatch = Both<Sums, Both<Rulings, Marks>>;
@@ -68,11 +64,8 @@ pub struct Totals {
     /// How many decisions of rules were grants.
     pub granted: usize,
     pub denied: usize,
-    pub releases: Outcomes,
-    pub presets: Outcomes,
-    pub price_requests: Outcomes,
-    /// For each of the tills 1 to 64, how often each version granted and denied requests of this till.
-    pub tills: Vec<Outcomes>,
+    /// What each version decided, in the order of `versions`.
+    pub verdicts: Vec<Verdicts>,
 }
 
 impl Totals {
@@ -118,38 +111,6 @@ fn refusal_counts(alloc: Global, numbers: &[u32]) -> Result<Vec<usize>, AllocErr
     Ok(counts)
 }
 
-/// Returns how often each version in `versions` granted requests and how often it denied them, among the decisions in
-/// `part`. The error is that memory ran out.
-fn outcomes(
-    alloc: Global,
-    decisions: &[Decision],
-    versions: &[u32],
-    part: DecisionPart,
-) -> Result<Outcomes, AllocError>
-    ensures { IfOk result (λ found. HasOutcomes part versions.now decisions.now found) }
-{
-    Ok(Outcomes {
-        granted: tally(alloc, decisions, versions, part, true)?,
-        denied: tally(alloc, decisions, versions, part, false)?,
-    })
-}
-
-/// Returns for each of the tills 1 to 64, till 1 first, how often each version of a rule granted and denied requests of
-/// this till. The error is that memory ran out.
-fn outcomes_by_till(
-    alloc: Global,
-    decisions: &[Decision],
-    versions: &[u32],
-) -> Result<Vec<Outcomes>, AllocError>
-    ensures { IfOk result (λ found. DecidedByTills most_tills versions.now decisions.now found.items) }
-{
-    let mut found = Vec::new(alloc);
-    for till in 0..MAX_TILLS {
-        found.push(outcomes(alloc, decisions, versions, DecisionPart::Till(till + 1))?)?;
-    }
-    Ok(found)
-}
-
 /// Returns the unpaid transaction together with `point`, the number of its point. Returns `None` for `None`.
 fn unpaid_as(point: usize, transaction: Option<Transaction>) -> Option<Unpaid>
     ensures { result ≡ option_map (unpaid_transaction point) transaction }
@@ -190,33 +151,6 @@ fn cents_of(unpaid: &[Unpaid]) -> u128
         cents += transaction.amount as u128;
     }
     cents
-}
-
-/// How often each version of a rule granted and denied requests, counted for each kind of request and for each till.
-#[derive(Drop)]
-struct Verdicts {
-    releases: Outcomes,
-    presets: Outcomes,
-    prices: Outcomes,
-    tills: Vec<Outcomes>,
-}
-
-fn verdicts_of(
-    alloc: Global,
-    decisions: &[Decision],
-    versions: &[u32],
-) -> Result<Verdicts, AllocError>
-    ensures releases { IfOk result (λ v. HasOutcomes deciding.Releases versions.now decisions.now v.releases) }
-    ensures presets { IfOk result (λ v. HasOutcomes deciding.Presets versions.now decisions.now v.presets) }
-    ensures prices { IfOk result (λ v. HasOutcomes deciding.Prices versions.now decisions.now v.prices) }
-    ensures tills { IfOk result (λ v. DecidedByTills most_tills versions.now decisions.now v.tills.items) }
-{
-    Ok(Verdicts {
-        releases: outcomes(alloc, decisions, versions, DecisionPart::Releases)?,
-        presets: outcomes(alloc, decisions, versions, DecisionPart::Presets)?,
-        prices: outcomes(alloc, decisions, versions, DecisionPart::Prices)?,
-        tills: outcomes_by_till(alloc, decisions, versions)?,
-    })
 }
 
 /// The versions of a day: the rules that were carried in from the day before, the day's loads, and the version numbers
@@ -260,37 +194,6 @@ fn versions_in(alloc: Global, config: &Config, loads: &[Load]) -> Result<Version
     })
 }
 
-/// How many requests of tills were granted by rules, and how many were denied. `verdicts` has these counts for each
-/// version of a rule.
-#[derive(Drop)]
-struct Decided {
-    granted: usize,
-    denied: usize,
-    verdicts: Verdicts,
-}
-
-fn decided_in(
-    alloc: Global,
-    versions: &[u32],
-    decisions: &[Decision],
-) -> Result<Decided, AllocError>
-    ensures granted { IfOk result (λ d. d.granted ≡ count_by (λ (d : Decision). d.is_granted) decisions.now) }
-    ensures denied { IfOk result (λ d. d.denied ≡ count_by (λ (d : Decision). not d.is_granted) decisions.now) }
-    ensures releases { IfOk result
-        (λ d. HasOutcomes deciding.Releases versions.now decisions.now d.verdicts.releases) }
-    ensures presets { IfOk result (λ d. HasOutcomes deciding.Presets versions.now decisions.now d.verdicts.presets) }
-    ensures prices { IfOk result (λ d. HasOutcomes deciding.Prices versions.now decisions.now d.verdicts.prices) }
-    ensures tills { IfOk result
-        (λ d. DecidedByTills most_tills versions.now decisions.now d.verdicts.tills.items) }
-{
-    let verdicts = verdicts_of(alloc, decisions, versions)?;
-    Ok(Decided {
-        granted: count_outcome(decisions, true),
-        denied: count_outcome(decisions, false),
-        verdicts,
-    })
-}
-
 /// Returns the totals of a replayed history. The error is that memory ran out.
 pub fn add_up(alloc: Global, replayed: &Replayed<DayWatch>) -> Result<Totals, AllocError>
     ensures { IfOk result
@@ -302,7 +205,9 @@ pub fn add_up(alloc: Global, replayed: &Replayed<DayWatch>) -> Result<Totals, Al
     let points = head.points();
     let unpaid = unpaid_of(alloc, points)?;
     let versions = versions_in(alloc, head.config(), &rulings.loads)?;
-    let decided = decided_in(alloc, &versions.numbers, &rulings.decisions)?;
+    let decisions = rulings.decisions.as_slice();
+    let (granted, denied) = count_outcomes(decisions);
+    let verdicts = verdicts_of(alloc, decisions, &versions.numbers)?;
     Ok(Totals {
         entries: head.count(),
         sums: *sums,
@@ -314,12 +219,9 @@ pub fn add_up(alloc: Global, replayed: &Replayed<DayWatch>) -> Result<Totals, Al
         prices: Vec::from_slice(alloc, &rulings.prices)?,
         unpaid_cents: cents_of(&unpaid),
         unpaid,
-        granted: decided.granted,
-        denied: decided.denied,
-        releases: decided.verdicts.releases,
-        presets: decided.verdicts.presets,
-        price_requests: decided.verdicts.prices,
-        tills: decided.verdicts.tills,
+        granted,
+        denied,
+        verdicts,
     })
 }
 

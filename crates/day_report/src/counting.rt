@@ -1,134 +1,162 @@
-//! Counts how often each version of a rule granted and denied requests, and how often each refusal was the reply.
+//! Counts what each version of a rule decided, and how often each refusal was the reply.
 
-ghost use Rattle.std.specs.Prelude.{◌≡◌, ◌==◌, ◌&&◌, ◌+◌, ◌-◌, ◌^◌, ◌≤◌, ℕ};
-ghost use Rattle.std.specs.Prelude.{if◌then◌else◌, false, IfOk, IsOk, OnOk, count_by, map};
-ghost use Rattle.day_report.specs.Totals.{is_among, has_outcome, is_wanted, decided_by, count_for, CountsVersions};
+ghost use Rattle.std.specs.Prelude.{◌≡◌, ◌==◌, ◌<◌, ◌^◌, IfOk, count_by, fold, length, map, not, replicate, slice_index_or};
+ghost use Rattle.day_report.specs.Totals.{AllDecided, no_verdicts, places_for, plus_outcome, table_with, verdicts_with};
 
 use crate::rulings::{Decision, RequestKind};
 use std::alloc::{AllocError, Global};
-use std::collections::HashMap;
 
-/// A part of the decisions that is counted: those on releases, on presets or on prices, or those on one till's
-/// requests.
+/// How many requests were granted, and how many were denied.
 #[derive(Clone, Copy)]
-pub enum DecisionPart {
-    Releases,
-    Presets,
-    Prices,
-    /// The decisions on the requests of this till.
-    Till(u32),
+pub struct Outcome {
+    pub granted: u64,
+    pub denied: u64,
 }
 
-fn is_among(part: DecisionPart, decision: &Decision) -> bool
-    ensures { result ≡ is_among part decision.now }
+const NO_OUTCOME: Outcome = Outcome {
+    granted: 0,
+    denied: 0,
+};
+
+/// What a version of a rule decided on releases, on presets and on prices, and on the requests of each of the tills 1 to
+/// 64.
+#[derive(Clone, Copy)]
+pub struct Verdicts {
+    pub releases: Outcome,
+    pub presets: Outcome,
+    pub prices: Outcome,
+    pub tills: [Outcome; 64],
+}
+
+/// Returns the outcome with one decision more. A number that would be too great stays its greatest.
+fn plus(outcome: Outcome, is_granted: bool) -> Outcome
+    ensures { result ≡ plus_outcome outcome is_granted }
 {
-    match part {
-        DecisionPart::Releases => decision.asked == RequestKind::Release,
-        DecisionPart::Presets => decision.asked == RequestKind::Preset,
-        DecisionPart::Prices => decision.asked == RequestKind::Price,
-        DecisionPart::Till(till) => decision.till == till,
+    let Outcome { granted, denied } = outcome;
+    if is_granted {
+        Outcome {
+            granted: granted.saturating_add(1),
+            denied,
+        }
+    } else {
+        Outcome {
+            granted,
+            denied: denied.saturating_add(1),
+        }
     }
 }
 
-fn has_outcome(granted: bool, decision: &Decision) -> bool
-    ensures { result ≡ has_outcome granted decision.now }
-{
-    decision.is_granted == granted
-}
-
-/// Returns whether a decision is in this part and has this outcome: a grant if `granted` is true, a denial if it is
-/// false.
-#[tactic(auto, unfolding(crate::specs::Totals::is_wanted))]
-fn is_wanted(part: DecisionPart, granted: bool, decision: &Decision) -> bool
-    ensures { result ≡ is_wanted part granted decision.now }
-{
-    is_among(part, decision) && has_outcome(granted, decision)
-}
-
-/// Adds 1 to the count of a version, if `wanted` is true. All counts must be at most 2^64 - 2. The error is that memory
-/// ran out. If `wanted` is false there is no error.
-fn count_if(counts: &mut HashMap<u32, u64>, version: u32, wanted: bool) -> Result<(), AllocError>
-    requires { (v : ℕ) → count_for counts.old v ≤ 2 ^ 64 - 2 }
-    ensures counted { OnOk result ((v : ℕ) → count_for counts.new v ≡ count_for counts.old v
-        + (if wanted && version == v then 1 else 0)) }
-    ensures none { wanted ≡ false → IsOk result }
-{
-    if wanted {
-        let count = counts.get(&version).copied().unwrap_or(0);
-        counts.insert(version, count + 1)?;
+impl Verdicts {
+    /// Returns the verdicts of a version that decided nothing.
+    fn none() -> Verdicts
+        ensures { result ≡ no_verdicts }
+    {
+        Verdicts {
+            releases: NO_OUTCOME,
+            presets: NO_OUTCOME,
+            prices: NO_OUTCOME,
+            tills: [NO_OUTCOME; 64],
+        }
     }
-    Ok(())
+
+    fn count(&mut self, decision: &Decision)
+        ensures { self.new ≡ verdicts_with self.old decision.now }
+    {
+        let granted = decision.is_granted;
+        match decision.asked {
+            RequestKind::Release => self.releases = plus(self.releases, granted),
+            RequestKind::Preset => self.presets = plus(self.presets, granted),
+            RequestKind::Price => self.prices = plus(self.prices, granted),
+        }
+        let till = decision.till as usize;
+        if till >= 1 && till <= self.tills.len() {
+            self.tills[till - 1] = plus(self.tills[till - 1], granted);
+        }
+    }
 }
 
-/// Counts the decisions in `part` for each version of a rule: the grants if `granted` is true, else the denials. A
-/// version that isn't in the map has the count 0. The error is that memory ran out.
-fn by_version(
+/// Counts a decision at the place of its version's number, if there is such a place.
+fn count_in(table: &mut [Verdicts], decision: &Decision)
+    ensures { table.new ≡ table_with table.old decision.now }
+{
+    let place = decision.version as usize;
+    if place < table.len() {
+        table[place].count(decision);
+    }
+}
+
+/// Counts all decisions, of which there are fewer than 2^64.
+fn count_all(table: &mut [Verdicts], decisions: &[Decision])
+    ensures counted { table.new ≡ fold table_with table.old decisions.now }
+    ensures short { length decisions.now < 2 ^ 64 }
+{
+    for decision in decisions {
+        count_in(table, decision);
+    }
+}
+
+/// Returns the least number that is over each of these versions.
+fn places_for(versions: &[u32]) -> usize
+    ensures { result ≡ places_for versions.now }
+{
+    let mut places = 0;
+    for version in versions {
+        places = places.max(*version as usize + 1);
+    }
+    places
+}
+
+/// Returns what each of these versions decided, in the order of `versions`. The error is that memory ran out.
+pub fn verdicts_of(
     alloc: Global,
     decisions: &[Decision],
-    part: DecisionPart,
-    granted: bool,
-) -> Result<HashMap<u32, u64>, AllocError>
-    ensures { IfOk result (CountsVersions part granted decisions.now) }
+    versions: &[u32],
+) -> Result<Vec<Verdicts>, AllocError>
+    ensures { IfOk result (λ found. AllDecided versions.now decisions.now found.items) }
 {
-    let mut counts = HashMap::new(alloc);
-    for decision in decisions {
-        let wanted = is_wanted(part, granted, decision);
-        count_if(&mut counts, decision.version, wanted)?;
-    }
-    Ok(counts)
+    let mut table = empty_table(alloc, places_for(versions))?;
+    count_all(&mut table, decisions);
+    places_of(alloc, &table, versions)
 }
 
-/// Returns the counts that the map has for these versions, in the order of `versions`; 0 for a version that isn't in
-/// the map. The error is that memory ran out.
-fn counts_of(
+fn empty_table(alloc: Global, places: usize) -> Result<Vec<Verdicts>, AllocError>
+    ensures { IfOk result (λ table. table.items ≡ replicate places no_verdicts) }
+{
+    vec![in alloc; Verdicts::none(); places]
+}
+
+fn verdicts_at(table: &[Verdicts], version: u32) -> Verdicts
+    ensures { result ≡ slice_index_or table.now version no_verdicts }
+{
+    match table.get(version as usize) {
+        Some(verdicts) => *verdicts,
+        None => Verdicts::none(),
+    }
+}
+
+/// Returns what the table has at the place of each version.
+fn places_of(
     alloc: Global,
-    counts: &HashMap<u32, u64>,
+    table: &[Verdicts],
     versions: &[u32],
-) -> Result<Vec<u64>, AllocError>
-    ensures { IfOk result (λ found. found.items ≡ map (count_for counts.now) versions.now) }
+) -> Result<Vec<Verdicts>, AllocError>
+    ensures { IfOk result
+        (λ found. found.items ≡ map (λ version. slice_index_or table.now version no_verdicts) versions.now) }
 {
     versions
         .iter()
-        .map(|version| counts.get(version).copied().unwrap_or(0))
+        .map(|version| verdicts_at(table, *version))
         .collect(alloc)
 }
 
-/// Counts the decisions in `part` for each version in `versions`, in their order: the grants if `granted` is true, else
-/// the denials. The error is that memory ran out.
-pub fn tally(
-    alloc: Global,
-    decisions: &[Decision],
-    versions: &[u32],
-    part: DecisionPart,
-    granted: bool,
-) -> Result<Vec<u64>, AllocError>
-    ensures { IfOk result
-        (λ counts. counts.items ≡ map (λ v. decided_by part granted v decisions.now) versions.now) }
+/// Returns how many of the decisions are grants, and how many are denials.
+pub(crate) fn count_outcomes(decisions: &[Decision]) -> (usize, usize)
+    ensures granted { result.0 ≡ count_by (λ (d : Decision). d.is_granted) decisions.now }
+    ensures denied { result.1 ≡ count_by (λ (d : Decision). not d.is_granted) decisions.now }
 {
-    let counts = by_version(alloc, decisions, part, granted)?;
-    counts_of(alloc, &counts, versions)
-}
-
-/// Returns how many of the decisions are grants, if `granted` is true, or denials, if it is false.
-pub(crate) fn count_outcome(decisions: &[Decision], granted: bool) -> usize
-    ensures { result ≡ count_by (λ (d : Decision). has_outcome granted d) decisions.now }
-{
-    let mut count = 0;
-    for decision in decisions {
-        if has_outcome(granted, decision) {
-            count += 1;
-        }
-    }
-    count
-}
-
-/// How often each version of a rule granted and denied requests, among the decisions that one `DecisionPart` selects,
-/// such as those on presets. `granted` and `denied` each have one count for each version in `Totals::versions`, in the
-/// same order.
-#[derive(Drop)]
-pub struct Outcomes {
-    pub granted: Vec<u64>,
-    pub denied: Vec<u64>,
+    let granted = decisions.iter().filter(|decision| decision.is_granted);
+    let denied = decisions.iter().filter(|decision| !decision.is_granted);
+    (granted.count(), denied.count())
 }
 
 /// Returns how often `number` is in the list `numbers`.

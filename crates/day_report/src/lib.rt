@@ -13,8 +13,8 @@ pub mod sales;
 pub mod steps;
 pub mod sums;
 
-pub use adding::{CarriedIn, DayWatch, MAX_TILLS, Totals, Unpaid};
-pub use counting::{DecisionPart, Outcomes};
+pub use adding::{CarriedIn, DayWatch, Totals, Unpaid};
+pub use counting::{Outcome, Verdicts};
 pub use decision_journal::{FIRST_REFUSAL, REFUSALS};
 pub use loading::Load;
 pub use opening::CarriedRule;

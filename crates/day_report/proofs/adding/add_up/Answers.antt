@@ -1,4 +1,4 @@
-use Rattle.std.proofs.Common.{◌≡◌, List, ℕ, ap, ◌∙◌, subst, sym}
+use Rattle.std.proofs.Common.{◌≡◌, ap, ◌∙◌, subst, sym}
 use Rattle.std.specs.Prelude.{count_by, not, sum_by}
 use Rattle.std.specs.List.{filter_map}
 use Rattle.site_core.specs.Heads.{HeadValue}
@@ -7,11 +7,8 @@ use Rattle.day_report.specs.Carried.{carried_rules}
 use Rattle.day_report.specs.Decisions.{decision_of}
 use Rattle.day_report.specs.Sales.{sales_of}
 use Rattle.day_report.specs.Sums.{AddsUp}
-use Rattle.day_report.specs.Totals.{CountsRefusals, DecidedByTills, HasOutcomes, most_tills, unpaid_of, version_numbers, versions_of}
+use Rattle.day_report.specs.Totals.{AllDecided, CountsRefusals, unpaid_of, version_numbers, versions_of}
 use Rattle.day_report.specs.declared.adding.Unpaid.{Unpaid}
-use Rattle.day_report.specs.declared.counting.DecisionPart.{DecisionPart}
-use Rattle.day_report.specs.declared.counting.DecisionPart.TheVariants as deciding
-use Rattle.day_report.specs.declared.counting.Outcomes.{Outcomes}
 use Rattle.day_report.specs.declared.rulings.Decision.{Decision}
 use Rattle.day_report.specs.declared.rulings.Rulings.{Rulings}
 use Rattle.day_report.specs.declared.steps.Marks.{Marks}
@@ -21,12 +18,6 @@ use Rattle.day_report.proofs.adding.add_up.Goals as goal
 abbrev Seen : Type 0
 Seen = Both Sums (Both Rulings Marks)
 
--- outcomes of equal versions and decisions
-same-outcomes : (part : DecisionPart) (old new : List ℕ) (had have : List Decision) (found : Outcomes) → old ≡ new → had ≡ have
-    → HasOutcomes part old had found → HasOutcomes part new have found
-same-outcomes part old new had have found versions decisions h =
-    subst (λ ds. HasOutcomes part new ds found) decisions (subst (λ vs. HasOutcomes part vs had found) versions h)
-
 pub returns : goal.returns
 returns c = λ history day.
     let head = c.args.replayed.now.head in
@@ -35,32 +26,28 @@ returns c = λ history day.
     let points = c.points-points.ensures ∙ ap (λ (h : HeadValue). h.state.points) same in
     let config = c.config.ensures ∙ ap (λ (h : HeadValue). h.config) same in
     let have = filter_map decision_of history in
-    let decided = c.in_ok-decided.ensures in
-    let found = c.in_ok-decided.decided.verdicts in
+    let decided = c.count_outcomes-granted.ensures in
     let old = c.in_ok-versions.versions.numbers.items in
     let new = versions_of head.config history in
     let loads = c.deref.ensures.value ∙ ap (λ (s : Seen). s.second.first.loads.items) rulings ∙ day.rulings_are.loads in
     let versions : old ≡ new = c.in_ok-versions.ensures.numbers ∙ (λ i. version_numbers (config i) (loads i)) in
     let unpaid = c.in_ok-unpaid.ensures.found ∙ ap unpaid_of points in
-    let decisions = c.deref-3.ensures.value ∙ ap (λ (s : Seen). s.second.first.decisions.items) rulings ∙ day.rulings_are.decisions in
+    let decisions = c.as_slice-decisions.ensures.value ∙ ap (λ (s : Seen). s.second.first.decisions.items) rulings ∙ day.rulings_are.decisions in
     let listed = c.deref-2.ensures.value ∙ versions in
     record {
       entries = c.count.ensures ∙ ap (λ (h : HeadValue). h.count) same ∙ day.leads.count;
       sums_are = subst (λ (s : Seen). AddsUp s.first (sales_of head.config history)) (sym c.seen.ensures.same) day.sums_are;
       points_are = c.in_ok-from_slice.ensures.items ∙ points;
-      refused = subst (CountsRefusals c.in_ok-refusal_counts.field-0.items) (c.deref-4.ensures.value ∙ ap (λ (s : Seen). s.second.first.refusals.items) rulings ∙ day.rulings_are.refusals)
+      refused = subst (CountsRefusals c.in_ok-refusal_counts.field-0.items) (c.deref-3.ensures.value ∙ ap (λ (s : Seen). s.second.first.refusals.items) rulings ∙ day.rulings_are.refusals)
           c.in_ok-refusal_counts.ensures;
       carried = c.in_ok-versions.ensures.carried ∙ ap carried_rules config;
       loads_are = c.in_ok-versions.ensures.loads ∙ loads;
       versions = versions;
-      prices = c.in_ok-from_slice-2.ensures.items ∙ c.deref-5.ensures.value ∙ ap (λ (s : Seen). s.second.first.prices.items) rulings ∙ day.rulings_are.prices;
+      prices = c.in_ok-from_slice-2.ensures.items ∙ c.deref-4.ensures.value ∙ ap (λ (s : Seen). s.second.first.prices.items) rulings ∙ day.rulings_are.prices;
       unpaid = unpaid;
-      unpaid_cents = c.cents_of.ensures ∙ ap (λ us. sum_by (λ (u : Unpaid). u.amount) us) (c.deref-6.ensures.value ∙ unpaid);
+      unpaid_cents = c.cents_of.ensures ∙ ap (λ us. sum_by (λ (u : Unpaid). u.amount) us) (c.deref-5.ensures.value ∙ unpaid);
       granted = decided.granted ∙ ap (λ ds. count_by (λ (d : Decision). d.is_granted) ds) decisions;
       denied = decided.denied ∙ ap (λ ds. count_by (λ (d : Decision). not d.is_granted) ds) decisions;
-      releases = same-outcomes deciding.Releases c.deref-2.result.now new c.deref-3.result.now have found.releases listed decisions decided.releases;
-      presets = same-outcomes deciding.Presets c.deref-2.result.now new c.deref-3.result.now have found.presets listed decisions decided.presets;
-      price_requests = same-outcomes deciding.Prices c.deref-2.result.now new c.deref-3.result.now have found.prices listed decisions decided.prices;
-      tills = subst (λ ds. DecidedByTills most_tills new ds found.tills.items) decisions
-          (subst (λ vs. DecidedByTills most_tills vs c.deref-3.result.now found.tills.items) listed decided.tills);
+      verdicts = subst (λ ds. AllDecided new ds c.in_ok-verdicts.verdicts.items) decisions
+          (subst (λ vs. AllDecided vs c.as_slice-decisions.result.now c.in_ok-verdicts.verdicts.items) listed c.in_ok-verdicts.ensures);
     }
