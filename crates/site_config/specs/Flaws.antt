@@ -1,6 +1,6 @@
 -- Definitions: the fault number of each flaw of a configuration, and the position in the text that a flaw reports
 -- (source: this project).
-use Rattle.std.specs.Prelude.{◌≡◌, ℕ, ◌≤◌, List, length, true, false, Option, Some, None, Result, Ok, Err, string_bytes}
+use Rattle.std.specs.Prelude.{◌≡◌, ℕ, List, true, false, Option, Some, None, Result, Ok, Err, string_bytes}
 use Rattle.site_config.specs.declared.fault.ConfigFault.{ConfigFault}
 use Rattle.site_config.specs.declared.fault.ConfigFault.TheVariants as fault
 use Rattle.site_config.specs.declared.flaw.ConfigFlaw.{ConfigFlaw}
@@ -9,6 +9,8 @@ use Rattle.site_config.specs.declared.flaw.ConfigFlaw.TheVariants.{BothThere, Ne
 use Rattle.site_config.specs.declared.flaw.ConfigFlaw.TheVariants.{TooManyWorkers, WithoutDoor, OutOfMemory}
 use Rattle.std.specs.Str.{is_utf8}
 use Rattle.std.specs.Str.Lossy.{utf8_valid_len}
+use Rattle.toml.specs.Errors.{IsMemory, IsWithin, span_start}
+use Rattle.toml.specs.declared.de.error.Error.{Error}
 use Rattle.site_config.specs.Positions.{position_at}
 
 abbrev pub fault_of : ConfigFlaw → ConfigFault
@@ -39,19 +41,20 @@ position_of (NotToml line column message) = Some (line, column)
 position_of flaw = None
 
 -- The flaw's position is right for this text. For `NotUtf8` it is where the text stops being UTF-8. For `NotToml` the
--- text is UTF-8, and the position is that of some byte of the text, or its end. For `OutOfMemory` the text is UTF-8. Of
--- other flaws nothing is claimed.
+-- text is UTF-8, and the position is that of the start of an error that the TOML reader can give for this text. For
+-- `OutOfMemory` the text is UTF-8. Of other flaws nothing is claimed.
 abbrev pub HasRightPosition : List ℕ → ConfigFlaw → Type 0
 HasRightPosition bytes (NotUtf8 line column) = (is_utf8 bytes ≡ false) × ((line, column) ≡ position_at bytes (utf8_valid_len bytes))
-HasRightPosition bytes (NotToml line column message) =
-    (is_utf8 bytes ≡ true) × ((index : ℕ) × (index ≤ length bytes) × ((line, column) ≡ position_at bytes index))
+HasRightPosition bytes (NotToml line column message) = (is_utf8 bytes ≡ true) × ((error : Error)
+    × IsWithin bytes error × (IsMemory error → ⊥) × ((line, column) ≡ position_at bytes (span_start error)))
 HasRightPosition bytes OutOfMemory = is_utf8 bytes ≡ true
 HasRightPosition bytes flaw = Unit {0}
 
--- If the flaw is `NotToml`, its message is `message`. Other flaws have no message, and nothing is claimed of them.
-abbrev pub HasMessage : List ℕ → ConfigFlaw → Type 0
-HasMessage message (NotToml line column actual) = string_bytes actual ≡ message
-HasMessage message flaw = Unit {0}
+-- The flaw is `NotToml` with this position and this message, or `OutOfMemory`.
+abbrev pub IsNotToml : ℕ × ℕ → List ℕ → ConfigFlaw → Type 0
+IsNotToml at message (NotToml line column actual) = ((line, column) ≡ at) × (string_bytes actual ≡ message)
+IsNotToml at message OutOfMemory = Unit {0}
+IsNotToml at message flaw = ⊥
 
 -- Replaces a flaw by its fault number.
 abbrev pub numbered : {A : Type 0} → Result A ConfigFlaw → Result A ConfigFault

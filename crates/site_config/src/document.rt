@@ -1,14 +1,15 @@
 //! Reads bytes as a TOML document.
-ghost use Rattle.std.specs.Prelude.{◌≡◌, ◌≢◌, ◌<◌, ◌≤◌, Err, IfErr, IfOk, None, Some, length};
-ghost use Rattle.toml.specs.Errors.{IsBlank};
+ghost use Rattle.std.specs.Prelude.{◌≡◌, ◌≢◌, ◌<◌, ◌↔◌, Err, IfErr, IfOk, IfSome, IsNone, None, Some};
+ghost use Rattle.toml.specs.Errors.{IsBlank, IsMemory, span_start};
 ghost use Rattle.toml.specs.View.{table_view};
 ghost use Rattle.site_config.specs.Document.{document_of};
-ghost use Rattle.site_config.specs.Flaws.{HasMessage, IsOfText, HasRightPosition, position_of};
+ghost use Rattle.site_config.specs.Flaws.{HasRightPosition, IsNotToml, IsOfText};
 ghost use Rattle.site_config.specs.Positions.{past, position_behind, position_at};
 
 use crate::flaw::ConfigFlaw;
 use std::alloc::Global;
 use toml::Table;
+use toml::de::Error;
 
 /// Returns the position after `byte`, which is at the position `at`. A position is a line and a column, both counted
 /// from 1. The column counts characters, and a line ends with its LF. Both numbers of `at` must be below the greatest
@@ -44,18 +45,24 @@ fn position_at(bytes: &[u8], at: usize) -> (usize, usize)
     position_behind(bytes.get(..at).unwrap_or(bytes))
 }
 
-/// Returns the flaw `NotToml` for an error that the TOML reader found in `text`. The flaw has the line and the column
-/// of the byte at the index `at`, and a copy of `message`, the reader's message. `at` must be at most the length of
-/// `text` in bytes. If `at` is this length, the error is at the end of `text`. If memory ran out, returns
-/// `OutOfMemory`.
-fn not_toml(alloc: Global, text: &str, at: usize, message: &str) -> ConfigFlaw
-    requires { at ≤ length text.now }
-    ensures fault { result ≢ ConfigFlaw.OutOfMemory → IsOfText result }
-    ensures position { HasRightPosition text.now result }
-    ensures at { result ≢ ConfigFlaw.OutOfMemory → position_of result ≡ Some (position_at text.now at) }
-    ensures message { HasMessage message.now result }
+/// Returns the line and the column where an error starts that the TOML reader found in `text`. Returns `None` if the
+/// error is that memory ran out.
+fn start_of(text: &str, error: &Error) -> Option<(usize, usize)>
+    ensures none { IsNone result ↔ IsMemory error.now }
+    ensures start { IfSome result (λ at. at ≡ position_at text.now (span_start error.now)) }
 {
-    let (line, column) = position_at(text.as_bytes(), at);
+    match error.span() {
+        Some(span) => Some(position_at(text.as_bytes(), span.start)),
+        None => None,
+    }
+}
+
+/// Returns the flaw `NotToml` with this line, this column and a copy of `message`, the TOML reader's message. If memory
+/// ran out, returns `OutOfMemory`.
+fn not_toml(alloc: Global, at: (usize, usize), message: &str) -> ConfigFlaw
+    ensures { IsNotToml at message.now result }
+{
+    let (line, column) = at;
     match String::from_str(alloc, message) {
         Ok(message) => ConfigFlaw::NotToml {
             line,
@@ -83,8 +90,8 @@ pub fn read_document(alloc: Global, bytes: &[u8]) -> Result<Table, ConfigFlaw>
         }
         Ok(text) => match toml::table_from_str(alloc, text) {
             Ok(table) => Ok(table),
-            Err(error) => match error.span() {
-                Some(span) => Err(not_toml(alloc, text, span.start, error.message())),
+            Err(error) => match start_of(text, &error) {
+                Some(at) => Err(not_toml(alloc, at, error.message())),
                 None => Err(ConfigFlaw::OutOfMemory),
             },
         },
