@@ -90,7 +90,7 @@ def listed(root):
     with open(f"{root}/crates.txt", encoding="utf-8") as file:
         crates = [line.split()[0].rstrip(":") for line in file if ":" in line and not line.startswith("#")]
     for crate in crates:
-        if crate.endswith("_tests") or crate in ("acceptance", "refused_memory"):
+        if crate == "acceptance":
             continue
         for at, _, names in os.walk(f"{root}/crates/{crate}/src"):
             for name in names:

@@ -1,10 +1,10 @@
 /* A library that tools/faults.py preloads into the program. It refuses one of the program's allocations, reads, writes
- * or syncs, or all from that one on, or cuts each read and write to one byte. Writes to standard error are never
- * refused.
+ * or syncs, or some or all from that one on, or cuts each read and write to one byte. Writes to standard error are
+ * never refused.
  *
- * FAULTS=KIND AT HOW FILE    KIND: memory, read, write, sync or cut. AT: which call is refused, from 1. HOW: once, or
- *                            on. FILE: has five numbers of 64 bits, which the library sets: the counts of the four
- *                            kinds, and whether a call was refused
+ * FAULTS=KIND AT HOW FILE    KIND: memory, read, write, sync or cut. AT: which call is refused, from 1. HOW: once, few
+ *                            (it and the seven calls after it) or on. FILE: has five numbers of 64 bits, which the
+ *                            library sets: the counts of the four kinds, and whether a call was refused
  *
  * It calls the C library by names without a version, so that it works with the one that the program is run with. */
 #include <errno.h>
@@ -34,7 +34,7 @@ struct counts {
 static struct counts nowhere, *counts = &nowhere;
 static int kind = KINDS;
 static uint64_t at;
-static int goes_on;
+static uint64_t most; /* how many calls are refused */
 
 /* Returns the next word of the text at *rest, and moves *rest behind it. */
 static const char *next_word(const char **rest, size_t *length)
@@ -57,7 +57,7 @@ __attribute__((constructor)) static void begin(void)
         found++;
     uint64_t number = strtoull(next_word(&rest, &length), NULL, 10);
     word = next_word(&rest, &length);
-    goes_on = length == 2 && strncmp(word, "on", 2) == 0;
+    most = *word == 'f' ? 8 : strncmp(word, "on ", 3) == 0 ? UINT64_MAX : 1;
     int file = open(rest, O_RDWR);
     void *shared = mmap(NULL, sizeof *counts, PROT_READ | PROT_WRITE, MAP_SHARED, file, 0);
     syscall(SYS_close, file);
@@ -72,7 +72,7 @@ __attribute__((constructor)) static void begin(void)
 static int is_refused(int of)
 {
     uint64_t number = __atomic_add_fetch(&counts->calls[of], 1, __ATOMIC_SEQ_CST);
-    if (of != kind || number < at || (number > at && !goes_on))
+    if (of != kind || number < at || number - at >= most)
         return 0;
     counts->refused = 1;
     return 1;

@@ -1,6 +1,6 @@
 #!/usr/bin/env python3
 """Refuses the program each allocation, read, write and sync in turn, and checks what it reports. A call is refused only
-once, or all calls of its kind are refused from it on.
+once, or all calls of its kind are refused from it on. A play is also refused eight in a row.
 
 usage: tools/faults.py PROGRAM [WORD]    WORD: only the calls whose name has it
 
@@ -191,6 +191,8 @@ def printed_ill(told, wanted, status):
 class Call:
     """A call of the program: its name here, its arguments and its standard input."""
 
+    ways = ("once", "on")  # of refusing
+
     def __init__(self, name, *words, stdin=""):
         self.name, self.words, self.stdin = name, words, stdin
 
@@ -208,6 +210,8 @@ class Call:
 
 class Play(Call):
     """A play, whose script has one answer a line."""
+
+    ways = ("once", "few", "on")
 
     def __init__(self, name, *words, script, stdin=""):
         super().__init__(name, *words, stdin=stdin)
@@ -597,7 +601,7 @@ def look(shim, call):
     is_same = cut.answers == plain.answers if plain.answers else cut.seen() == plain.seen()
     wrong, runs = {("cut", "on"): [] if is_same else [(CUT, f"it isn't as unhindered: {cut.seen()}")]}, 2
     with ThreadPoolExecutor(RUNS_AT_ONCE) as pool:
-        for kind, how in itertools.product(KINDS, ("once", "on")):
+        for kind, how in itertools.product(KINDS, call.ways):
             faults = [(kind, at, how) for at in range(1, plain.calls[kind] + 2)]
             ill = pool.map(functools.partial(ill_of, shim, call, plain), faults)
             wrong[kind, how] = [(fault, what) for fault, what in zip(faults, ill) if what]

@@ -1,5 +1,6 @@
 //! Tests that can't be run through the program's commands: of devices that fail at each call, of random programs, of
-//! drafts, and of the reading of a single line.
+//! drafts, of the reading of a single line, of a gate that waits, of synced answers, and of sockets. They are a crate of
+//! their own, so that `./check` proves the tested crates only once.
 #![tactic(auto)]
 
 #[cfg(test)]
@@ -7,8 +8,16 @@ mod drafts;
 #[cfg(test)]
 mod failing;
 #[cfg(test)]
+mod gates;
+#[cfg(test)]
 mod lines;
+#[cfg(test)]
+mod programs;
 #[cfg(test)]
 mod random_programs;
 #[cfg(test)]
+mod servers;
+#[cfg(test)]
 mod sites;
+#[cfg(test)]
+mod syncs;

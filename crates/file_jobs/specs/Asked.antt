@@ -12,10 +12,10 @@ use Rattle.day_export.specs.declared.cells.Format.TheVariants as format
 use Rattle.bpf_asm.specs.Numbered.{numbered_from}
 use Rattle.bpf_asm.specs.ProgramFile.{program_in}
 use Rattle.bpf_asm.specs.Text.{canonical_text}
-use Rattle.job_texts.specs.declared.file_flaws.FileFlaw.{FileFlaw}
-use Rattle.job_texts.specs.declared.file_flaws.FileFlaw.TheVariants as flaws
-use Rattle.job_texts.specs.FileFlaws.{IsAsmFlaw, IsDisFlaw, IsVerifyFlaw, line_of}
-use Rattle.job_texts.specs.Printed.{Assembles, Disassembles, Verifies}
+use Rattle.site_files.specs.declared.file_flaws.FileFlaw.{FileFlaw}
+use Rattle.site_files.specs.declared.file_flaws.FileFlaw.TheVariants as flaws
+use Rattle.site_files.specs.FileFlaws.{IsAsmFlaw, IsDisFlaw, IsVerifyFlaw, line_of}
+use Rattle.site_files.specs.Printed.{Assembles, Disassembles, Verifies}
 use Rattle.file_jobs.specs.declared.programs.PrintRequest.{PrintRequest}
 use Rattle.file_jobs.specs.declared.programs.PrintRequest.TheVariants as request
 use Rattle.site_files.specs.declared.job_error.JobError.{JobError}

@@ -4,7 +4,7 @@ use Rattle.std.specs.Prelude.{◌≡◌, ◌≢◌, ◌++◌, ℕ, ⊤, [], code
 use Rattle.line_session.specs.declared.answering.Ended.{Ended}
 use Rattle.line_session.specs.declared.answering.SessionFault.{SessionFault}
 use Rattle.line_session.specs.declared.answering.SessionFault.TheVariants as session
-use Rattle.job_texts.specs.AuditOutput.{line_of_flaw}
+use Rattle.site_files.specs.AuditOutput.{line_of_flaw}
 use Rattle.site_core.specs.declared.opening.OpeningFault.TheVariants as opening
 use Rattle.days.specs.declared.beginning.Unfit.TheVariants as unfit
 use Rattle.days.specs.declared.chain_fault.Unbegun.{Unbegun}

@@ -4,8 +4,8 @@ ghost use Rattle.site_files.specs.Asked.{reads_twice};
 ghost use Rattle.site_files.specs.JobErrors.{Ends};
 
 use crate::audited::replayed;
-use job_texts::audit::legal_line;
 use site_core::Unwatched;
+use site_files::audit::legal_line;
 use site_files::job_error::print_text;
 use site_files::{JobError, SiteFiles};
 

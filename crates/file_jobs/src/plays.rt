@@ -5,9 +5,9 @@ ghost use Rattle.site_files.specs.JobErrors.{Ends, Refuses};
 ghost use Rattle.file_jobs.specs.Refusals.{BreaksOff, IsPlayed};
 
 use crate::answers::{Answers, Incoming, Outgoing};
+use crate::playing::play_within;
 use crate::progress::Progress;
 use crate::refused_loads::RefusedLoads;
-use console::playing::play_within;
 use line_session::{Ended, READS, SessionFault};
 use site_config::Settings;
 use site_config::head::{config_part, read_head};

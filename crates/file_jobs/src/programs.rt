@@ -1,16 +1,15 @@
 //! What `fc asm`, `fc dis` and `fc verify` print of a file.
 ghost use Rattle.std.specs.Prelude.{◌≡◌, IfOk, IfErr, string_bytes};
-ghost use Rattle.job_texts.specs.FileFlaws.{line_of};
+ghost use Rattle.site_files.specs.FileFlaws.{line_of};
 ghost use Rattle.site_files.specs.JobErrors.{EndsOrRunsOut};
 ghost use Rattle.file_jobs.specs.Asked.{Accepts, IsFlaw, PrintsAsked};
 
 use bpf_asm::AsmFault;
 use bpf_model::context::Layout;
-use job_texts::FileFlaw;
-use job_texts::programs::{asm_file, dis_file, dis_units_file, verify_file};
 use site_files::files::text_of;
 use site_files::job_error::print_text;
-use site_files::{JobError, Place};
+use site_files::programs::{asm_file, dis_file, dis_units_file, verify_file};
+use site_files::{FileFlaw, JobError, Place};
 use std::alloc::Global;
 
 /// What to print of a file:

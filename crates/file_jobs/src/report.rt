@@ -4,9 +4,9 @@ ghost use Rattle.site_files.specs.Asked.{reads_twice};
 ghost use Rattle.site_files.specs.JobErrors.{Ends};
 
 use crate::audited::replayed;
-use day_page::Page;
 use day_report::DayWatch;
 use day_report::adding::watch_day;
+use pages::Page;
 use site_core::Replayed;
 use site_files::job_error::printed;
 use site_files::{JobError, SiteFiles};

@@ -3,9 +3,9 @@ use Rattle.std.specs.Prelude.{◌≡◌, ◌⊎◌, ℕ, List, [], ◌∷◌, �
 use Rattle.http1.specs.Fields.{Header}
 use Rattle.http_server.specs.Response.{fields_of}
 use Rattle.http_server.specs.declared.response.Response.{Response}
-use Rattle.live_page.specs.declared.station.Health.{Health}
-use Rattle.live_page.specs.declared.station.Health.TheVariants as health
-use Rattle.live_page.specs.Health.{health_text}
+use Rattle.pages.specs.declared.station.Health.{Health}
+use Rattle.pages.specs.declared.station.Health.TheVariants as health
+use Rattle.pages.specs.Health.{health_text}
 use Rattle.page_port.specs.declared.routing.Refusal.{Refusal}
 use Rattle.page_port.specs.declared.routing.Refusal.TheVariants as refusals
 use Rattle.page_port.specs.declared.routing.Endpoint.{Endpoint}

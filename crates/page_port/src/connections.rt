@@ -1,6 +1,6 @@
 //! Counts of a site's workers and of their connections: for tills, for dispensers and for the owner. Also counts of the
 //! lines that are read at each door, and of the connections that are turned away there.
-use live_page::{DoorCounts, RoleCounts};
+use pages::{DoorCounts, RoleCounts};
 use std::alloc::{AllocError, Global};
 use std::sync::atomic::{AtomicU32, AtomicU64, Ordering};
 use till_request::Role;

@@ -1,6 +1,6 @@
 //! Counts of the bytes and the syncs of the file in which a served site's journal is kept.
 use crate::timings::Timings;
-use live_page::JournalFileStats;
+use pages::JournalFileStats;
 use std::sync::atomic::{AtomicBool, AtomicU64, Ordering};
 use std::time::Duration;
 

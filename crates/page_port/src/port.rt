@@ -5,7 +5,7 @@ use crate::journal_counts::JournalCounts;
 use crate::service::PageService;
 use crate::timings::Timings;
 use http_server::Service;
-use live_page::JournalFileStats;
+use pages::JournalFileStats;
 use site_lock::{Forecourt, Journal, SiteLedger};
 use std::alloc::Global;
 use std::hash::RandomState;

@@ -1,5 +1,5 @@
 //! Counts of how often something was done, such as a sync of the journal's file, and of how long it took in all.
-use live_page::DurationSummary;
+use pages::DurationSummary;
 use std::sync::atomic::{AtomicU64, Ordering};
 use std::time::Duration;
 

@@ -4,3 +4,9 @@ pub mod Asked
 pub mod Days
 pub mod Lines
 pub mod KeptFile
+pub mod AuditOutput
+pub mod FileFlaws
+pub mod JournalFlaws
+pub mod Printed
+pub mod Reasons
+pub mod Words

@@ -10,7 +10,7 @@ use Rattle.decision_journal.specs.declared.fault.JournalFault.TheVariants as jou
 use Rattle.site_files.specs.declared.job_error.JobError.{JobError}
 use Rattle.site_files.specs.declared.job_error.JobError.TheVariants as job_error
 use Rattle.reg_types.specs.Refusals.{refusal_numbers}
-use Rattle.job_texts.specs.AuditOutput.{program_text}
+use Rattle.site_files.specs.AuditOutput.{program_text}
 use Rattle.site_files.specs.JobErrors.{Ends, EndsOrRunsOut}
 
 -- a configuration with this fault

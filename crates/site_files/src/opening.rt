@@ -2,23 +2,23 @@
 //! refused.
 ghost use Rattle.std.specs.Prelude.{◌≡◌, ◌≢◌, ◌≤◌, ◌++◌, ◌∷◌, [], decimal, IfOk, IfErr, vec_len};
 ghost use Rattle.reg_types.specs.Refusals.{refusal_numbers};
-ghost use Rattle.job_texts.specs.AuditOutput.{program_text};
+ghost use Rattle.site_files.specs.AuditOutput.{program_text};
 ghost use Rattle.days.specs.File.{IsOpeningFile};
 ghost use Rattle.days.specs.Fitting.{BeginsWith};
 ghost use Rattle.site_files.specs.JobErrors.{Ends, EndsOrRunsOut, Refuses};
 ghost use Rattle.site_files.specs.Refusals.{RefusesOpening};
 ghost use Rattle.site_files.specs.Days.{BeginsDay};
 
+use crate::JournalFlaw;
+use crate::audit::refused_program_line;
 use crate::files::{Source, bytes_in};
 use crate::job_error::JobError;
 use crate::messages::Place;
+use crate::reasons::explain_refusal;
 use crate::statuses::REFUSED;
 use days::beginning::begun;
 use days::reading::read_opening;
 use days::{OpeningFile, OpeningFlaw, Unfit};
-use job_texts::JournalFlaw;
-use job_texts::audit::refused_program_line;
-use job_texts::reasons::explain_refusal;
 use reg_types::Refusal;
 use site_config::Serve;
 use site_core::{Config, OpeningFault};

@@ -1,15 +1,15 @@
 //! Why a journal is refused or can't be read.
 ghost use Rattle.std.specs.Prelude.{◌≡◌, Ok, IfErr, IsErrAnd, MatchResult};
-ghost use Rattle.job_texts.specs.AuditOutput.{line_of_flaw};
+ghost use Rattle.site_files.specs.AuditOutput.{line_of_flaw};
 ghost use Rattle.site_files.specs.JobErrors.{EndsOrRunsOut, Refuses};
 ghost use Rattle.site_files.specs.Refusals.{RefusesText};
 
+use crate::audit::line_of_flaw;
 use crate::job_error::JobError;
+use crate::journal_reasons::explained;
 use crate::messages::Place;
 use crate::statuses::FAILED;
 use decision_journal::JournalFault;
-use job_texts::audit::line_of_flaw;
-use job_texts::journal_reasons::explained;
 use site_core::EntryFlaw;
 use std::alloc::Global;
 use std::io;

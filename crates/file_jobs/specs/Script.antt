@@ -1,0 +1,45 @@
+-- Definitions: the lines of a script (source: this project). A line is an act of any role, `moment N`, `counter C` or
+-- `journal`. A line of none of these forms is bad. N is read as a number of 64 bits, and C as one of 32 bits.
+use Rattle.std.specs.Prelude.{ℕ, List, [], ◌∷◌, codes, Bool, ◌&&◌, Result, Ok, if◌then◌else◌}
+use Rattle.std.specs.Str.{bytes_eq}
+use Rattle.till_request.specs.declared.act.LineFault.{LineFault}
+use Rattle.till_request.specs.declared.act.Role.TheVariants.{All}
+use Rattle.till_request.specs.Grammar.{words, number, is_some_word, act_of_words, ◌>>=◌}
+use Rattle.file_jobs.specs.declared.script.ScriptLine.{ScriptLine}
+use Rattle.file_jobs.specs.declared.script.ScriptLine.TheVariants as lines
+
+-- Parses the words of a line as an act of any role.
+abbrev pub act_line : List (List ℕ) → Result ScriptLine LineFault
+act_line ws = do
+  act ← act_of_words All ws
+  Ok (lines.Act act)
+
+abbrev pub line_alone : List ℕ → List (List ℕ) → Result ScriptLine LineFault
+line_alone word ws = if bytes_eq word (codes "journal") then Ok lines.Journal else act_line ws
+
+-- The word is this name, and the value after it isn't empty.
+abbrev pub is_named : List ℕ → List ℕ → List ℕ → Bool
+is_named word name value = bytes_eq word name && is_some_word value
+
+abbrev pub moment_line : List ℕ → Result ScriptLine LineFault
+moment_line value = do
+  n ← number 64 value
+  Ok (lines.Moment n)
+
+abbrev pub counter_line : List ℕ → Result ScriptLine LineFault
+counter_line value = do
+  c ← number 32 value
+  Ok (lines.Counter c)
+
+abbrev pub line_with_value : List ℕ → List ℕ → List (List ℕ) → Result ScriptLine LineFault
+line_with_value word value ws =
+    if is_named word (codes "moment") value then moment_line value else if is_named word (codes "counter") value then counter_line value else act_line ws
+
+abbrev pub line_of_words : List (List ℕ) → Result ScriptLine LineFault
+line_of_words (word ∷ []) = line_alone word (word ∷ [])
+line_of_words (word ∷ value ∷ []) = line_with_value word value (word ∷ value ∷ [])
+line_of_words ws = act_line ws
+
+-- Parses a line of a script.
+abbrev pub line_of : List ℕ → Result ScriptLine LineFault
+line_of line = line_of_words (words line)

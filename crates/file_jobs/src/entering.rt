@@ -1,0 +1,92 @@
+//! Carries out the acts of a script on a site.
+ghost use Rattle.std.specs.Prelude.{◌≡◌, ℕ, None, Option, Some};
+ghost use Rattle.reg_types.specs.Refusals.{refusal_numbers};
+ghost use Rattle.bpf_model.specs.Program.{ProgramText, as_loaded};
+ghost use Rattle.reg_types.specs.RefusedPrograms.{IsRefused, IsRefusal, MayRunOutOfMemory, refusal_of};
+ghost use Rattle.site_core.specs.Site.{SiteValue, act_of};
+ghost use Rattle.file_jobs.specs.Loading.{IsLoadRefusal};
+ghost use Rattle.file_jobs.specs.Play.{EventAnswered, LoadAnswered, ActAnswered};
+
+use reg_types::Refusal;
+use site_core::auditing::event_of;
+use site_core::{CallFault, Event, Site, What};
+use std::alloc::Global;
+use till_request::{Act, Answer};
+
+/// The number of the pass with which all acts of a script are entered.
+const PASS: u32 = 1;
+
+/// Applies an event to a site at a moment, and returns the answer. If the journal is full or memory runs out, the
+/// answer is `JournalFull` or `OutOfMemory`, and the site is unchanged.
+fn enter_event(site: &mut Site, moment: u64, what: What) -> Answer
+    ensures { EventAnswered site.old moment (act_of what) result site.new }
+{
+    let event = Event {
+        pass: PASS,
+        moment,
+        what,
+    };
+    match site.apply(event) {
+        Ok(answered) => Answer::Entered {
+            number: answered.number,
+            reply: answered.reply,
+        },
+        Err(CallFault::JournalFull) => Answer::JournalFull,
+        Err(CallFault::OutOfMemory) => Answer::OutOfMemory,
+    }
+}
+
+/// The answer to an act. If the act is a load whose program the verifier refused, also the refusal.
+#[derive(Clone, Copy)]
+pub struct Entered {
+    pub answer: Answer,
+    /// Why the verifier refuses the program of a load. It is `None` if the act is no load, if the program is accepted,
+    /// or if memory ran out.
+    pub refusal: Option<Refusal>,
+}
+
+/// Returns the answer to a load that the verifier refuses, with the refusal. If the verifier ran out of memory, the
+/// answer is `OutOfMemory`, and the refusal is `None`.
+fn refuse_load(refusal: Refusal) -> Entered
+    ensures program_fault { (number : ℕ) (unit part : Option ℕ) → refusal_numbers refusal ≡ Some (number, unit, part)
+        → result.answer ≡ Answer.Program number unit part }
+    ensures answered { (old : SiteValue) (moment slot : ℕ) (p : ProgramText) → IsRefused p refusal
+        → IsRefusal (refusal_of p) refusal → (refusal_numbers refusal ≡ None → MayRunOutOfMemory p)
+        → LoadAnswered old moment slot p result.answer old }
+    ensures refused { (slot mask : ℕ) (layout : _) (bytes : _)
+        → IsRefusal (refusal_of (as_loaded bytes mask layout)) refusal
+        → IsLoadRefusal (Act.Load slot mask layout bytes) result.answer result.refusal }
+{
+    match refusal.fault_numbers() {
+        Some((number, unit, part)) => Entered {
+            answer: Answer::Program(number, unit, part),
+            refusal: Some(refusal),
+        },
+        None => Entered {
+            answer: Answer::OutOfMemory,
+            refusal: None,
+        },
+    }
+}
+
+/// Returns this answer, with no refusal.
+fn unrefused(answer: Answer) -> Entered
+    ensures { result ≡ record { answer = answer; refusal = None } }
+{
+    Entered {
+        answer,
+        refusal: None,
+    }
+}
+
+/// Carries out an act on a site at a moment. Returns the answer, and the refusal if the verifier refuses the program of
+/// a load. The site is unchanged if the program is refused, if the journal is full, or if memory ran out.
+pub fn enter(alloc: Global, site: &mut Site, moment: u64, act: &Act) -> Entered
+    ensures answered { ActAnswered site.old moment act.now result.answer site.new }
+    ensures refused { IsLoadRefusal act.now result.answer result.refusal }
+{
+    match event_of(alloc, act) {
+        Ok(what) => unrefused(enter_event(site, moment, what)),
+        Err(refusal) => refuse_load(refusal),
+    }
+}

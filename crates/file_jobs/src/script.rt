@@ -1,0 +1,98 @@
+//! Parses the lines of a script: the acts of all roles, and the lines that only scripts have.
+ghost use Rattle.std.specs.Prelude.{◌≡◌, Err, map};
+ghost use Rattle.std.specs.Str.{bytes_eq};
+ghost use Rattle.till_request.specs.Gives.{Gives};
+ghost use Rattle.till_request.specs.Grammar.{IsLoad, words as words_of};
+ghost use Rattle.file_jobs.specs.Script.{act_line, line_alone, line_with_value, line_of_words, line_of, is_named};
+
+use std::alloc::Global;
+use till_request::grammar::parse_words;
+use till_request::numbers::{number_u32, number_u64};
+use till_request::parts::split_at_most;
+use till_request::{Act, LINE_WORDS, LineFault, Role};
+
+/// A parsed line of a script.
+#[derive(Drop)]
+pub enum ScriptLine {
+    Act(Act),
+    /// `moment N` sets the moment (the time) of the acts in later lines.
+    Moment(u64),
+    /// `counter C` asks for the value and the bound of counter C, counted from 0.
+    Counter(u32),
+    /// `journal` asks for all entries of the history.
+    Journal,
+}
+
+/// Returns whether `word` is `name` and `value` isn't empty.
+fn is_pair(word: &[u8], name: &[u8], value: &[u8]) -> bool
+    ensures { result ≡ is_named word.now name.now value.now }
+{
+    word == name && !value.is_empty()
+}
+
+/// Parses the words of a line as an act of any role. The errors are those of `parse_script_line`.
+fn read_act(alloc: Global, words: &[&[u8]]) -> Result<ScriptLine, LineFault>
+    ensures given { Gives result (act_line (map (λ w. w.now) words.now)) }
+    ensures memory { result ≡ Err LineFault.OutOfMemory → IsLoad Role.All (map (λ w. w.now) words.now) }
+{
+    Ok(ScriptLine::Act(parse_words(alloc, Role::All, words)?))
+}
+
+/// Parses a line of one word: `journal`, or else an act. `words` has only this word. The errors are those of
+/// `parse_script_line`.
+fn read_alone(alloc: Global, word: &[u8], words: &[&[u8]]) -> Result<ScriptLine, LineFault>
+    ensures given { Gives result (line_alone word.now (map (λ w. w.now) words.now)) }
+    ensures memory { result ≡ Err LineFault.OutOfMemory → IsLoad Role.All (map (λ w. w.now) words.now) }
+{
+    if word == b"journal".as_slice() {
+        Ok(ScriptLine::Journal)
+    } else {
+        read_act(alloc, words)
+    }
+}
+
+/// Parses a line of two words: `moment N`, `counter C`, or else an act. `words` has both words. The errors are those of
+/// `parse_script_line`.
+fn read_with_value(
+    alloc: Global,
+    word: &[u8],
+    value: &[u8],
+    words: &[&[u8]],
+) -> Result<ScriptLine, LineFault>
+    ensures given { Gives result (line_with_value word.now value.now (map (λ w. w.now) words.now)) }
+    ensures memory { result ≡ Err LineFault.OutOfMemory → IsLoad Role.All (map (λ w. w.now) words.now) }
+{
+    if is_pair(word, b"moment", value) {
+        let moment = number_u64(value)?;
+        return Ok(ScriptLine::Moment(moment));
+    }
+    if is_pair(word, b"counter", value) {
+        let counter = number_u32(value)?;
+        return Ok(ScriptLine::Counter(counter));
+    }
+    read_act(alloc, words)
+}
+
+/// Parses the words of a script's line. The errors are those of `parse_script_line`.
+fn read_words(alloc: Global, words: &[&[u8]]) -> Result<ScriptLine, LineFault>
+    ensures given { Gives result (line_of_words (map (λ w. w.now) words.now)) }
+    ensures memory { result ≡ Err LineFault.OutOfMemory → IsLoad Role.All (map (λ w. w.now) words.now) }
+{
+    match words {
+        [word] => read_alone(alloc, word, words),
+        [word, value] => read_with_value(alloc, word, value, words),
+        _ => read_act(alloc, words),
+    }
+}
+
+/// Parses a line of a script, which is given without its LF. The error is `BadLine` if the words have none of the known
+/// forms, `BadNumber` if a value can't be read, or `OutOfMemory` if there was no memory for the bytes of a load.
+pub fn parse_script_line(alloc: Global, line: &[u8]) -> Result<ScriptLine, LineFault>
+    ensures given { Gives result (line_of line.now) }
+    ensures memory { result ≡ Err LineFault.OutOfMemory → IsLoad Role.All (words_of line.now) }
+{
+    match split_at_most::<LINE_WORDS>(line, b' ') {
+        Some(words) => read_words(alloc, words.as_slice()),
+        None => Err(LineFault::BadLine),
+    }
+}

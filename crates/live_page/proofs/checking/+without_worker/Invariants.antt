@@ -1,6 +1,0 @@
--- The recursion of `without_worker` ends, since each call has one role fewer in its list.
-use Rattle.std.proofs.Common.{length}
-use Rattle.live_page.proofs.checking.+without_worker.Given as goal
-
-abbrev pub decreases-without_worker : goal.decreases-without_worker
-decreases-without_worker l = length l.role_counts.now
