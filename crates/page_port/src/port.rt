@@ -160,12 +160,14 @@ impl<'a> PagePort<'a> {
 
     /// Accepts the next connection, and adds its client to `clients`. If `clients` is empty, waits for a connection. If
     /// `clients` isn't empty and no connection has come, the error is `WouldBlock`. Other errors are the system's, or
-    /// that memory ran out.
+    /// that memory ran out. A connection that can't be set up, as its peer has gone already, is closed.
     fn accept<R: Clock>(&self, rt: &R, clients: &mut Vec<Client>) -> io::Result<()> {
         self.listener.set_nonblocking(!clients.is_empty())?;
         let (stream, _) = self.listener.accept()?;
-        let client = Client::new(rt, self.alloc(), self.keys, stream)?;
-        Ok(clients.push(client)?)
+        match Client::new(rt, self.alloc(), self.keys, stream) {
+            Ok(client) => Ok(clients.push(client)?),
+            Err(_) => Ok(()),
+        }
     }
 
     /// If `has_failed` is false, prints on standard error that a connection couldn't be accepted because of `error`.
