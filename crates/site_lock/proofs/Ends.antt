@@ -11,7 +11,7 @@ use Rattle.site_lock.specs.declared.close.CloseRefusal.TheVariants.{PassMissing,
 use Rattle.site_lock.specs.Passes.{PassView, Opened}
 use Rattle.site_lock.specs.Merge.{AreAll, IsMergeSince, IsFault, IsFaultSince}
 use Rattle.site_lock.specs.LockedSites.{LockedSiteValue, MatchesJournal}
-use Rattle.site_lock.specs.Closing.{Closes, ClosesSince, HaltedValue, PreventsClose, IsClosable, IsHalted, IsWrong, Refuses, RefusesSince}
+use Rattle.site_lock.specs.Closing.{Closes, ClosesSince, HaltedValue, PreventsClose, IsClosable, IsFullIfTold, IsHalted, IsWrong, Refuses, RefusesSince}
 
 pub none_missing : (f : Opened) (n : ℕ) (xs ys : List PassView) (r : Bool) → r ≡ true → IsTrue r ↔ AreAll n xs → xs ≡ ys → n ≡ f.passes → AreAll f.passes ys
 none_missing f n xs ys r e h same num =
@@ -26,22 +26,26 @@ some_missing f n xs ys r e h same num all =
     let t = h.1 (subst P (sym same) (subst Q (sym num) all)) in
     absurd (cc)
 
-hinders : (h : HaltedValue) (ys : List PassView) (w : CloseRefusal) → AreAll h.opened.passes ys → h.locked_site.total ≡ sum_by (λ (p : PassView). p.amount) ys
+-- what counting the passes' calls says of what the lock protects
+abbrev Counted : LockedSiteValue → List PassView → Type 0
+Counted v ys = (v.total ≡ sum_by (λ (p : PassView). p.amount) ys) × IsFullIfTold ys v.site.history
+
+hinders : (h : HaltedValue) (ys : List PassView) (w : CloseRefusal) → AreAll h.opened.passes ys → Counted h.locked_site ys
     → PreventsClose (length h.opened.base) h.locked_site ys w → RefusesSince h ys w
 hinders h ys PassMissing all total fault = absurd fault
-hinders h ys (NotInHistory id n) all total fault = (all, total, fault)
+hinders h ys (NotInHistory id n) all total fault = (all, total.0, total.1, fault)
 hinders h ys OtherConfig all total fault = fault
 
 refused : (h : HaltedValue) (base : List Entry) (xs ys : List PassView) (v : LockedSiteValue) (w : CloseRefusal)
-    → AreAll h.opened.passes ys → xs ≡ ys → base ≡ h.opened.base → v ≡ h.locked_site → v.total ≡ sum_by (λ (p : PassView). p.amount) ys
+    → AreAll h.opened.passes ys → xs ≡ ys → base ≡ h.opened.base → v ≡ h.locked_site → Counted v ys
     → PreventsClose (length base) v xs w → RefusesSince h ys w
 refused h base xs ys v w all same from is total fault =
     let P : List PassView → Type 0 = λ zs. PreventsClose (length base) v zs w in
     let Q : LockedSiteValue → Type 0 = λ u. PreventsClose (length base) u ys w in
     let R : List Entry → Type 0 = λ b. PreventsClose (length b) h.locked_site ys w in
-    hinders h ys w all (ap (λ (u : LockedSiteValue). u.total) (sym is) ∙ total) (subst R from (subst Q is (subst P same fault)))
+    hinders h ys w all (subst (λ (u : LockedSiteValue). Counted u ys) is total) (subst R from (subst Q is (subst P same fault)))
 
-clear : (f : Opened) (ys : List PassView) (v : LockedSiteValue) → AreAll f.passes ys → v.total ≡ sum_by (λ (p : PassView). p.amount) ys
+clear : (f : Opened) (ys : List PassView) (v : LockedSiteValue) → AreAll f.passes ys → Counted v ys
     → IsClosable f.base f.taken v f.config ys → ClosesSince f ys v.site v.written
 clear f ys v all total h = record {
   all = all;
@@ -49,14 +53,15 @@ clear f ys v all total h = record {
   legal = h.legal;
   since = h.whole.since;
   history_is = h.whole.history_is;
-  calls = h.whole.counted ∙ total;
+  calls = h.whole.counted ∙ total.0;
   merge = h.merge;
+  full = total.1;
   kept = h.whole.kept;
 }
 
 closed : (h : HaltedValue) (base : List Entry) (taken : Option (List ℕ)) (xs ys : List PassView) (v : LockedSiteValue) (config : ConfigValue)
     → AreAll h.opened.passes ys → xs ≡ ys → config ≡ h.opened.config → base ≡ h.opened.base → taken ≡ h.opened.taken → v ≡ h.locked_site
-    → v.total ≡ sum_by (λ (p : PassView). p.amount) ys
+    → Counted v ys
     → IsClosable base taken v config xs → ClosesSince h.opened ys h.locked_site.site h.locked_site.written
 closed h base taken xs ys v config all same is from took locked_site total good =
     let P : List PassView → Type 0 = λ zs. IsClosable base taken v config zs in
@@ -67,7 +72,7 @@ closed h base taken xs ys v config all same is from took locked_site total good 
     subst U locked_site (clear h.opened ys v all total (subst T took (subst R from (subst Q is (subst P same good)))))
 
 pub refused_some : (h : HaltedValue) (base : List Entry) (xs ys : List PassView) (v : LockedSiteValue) (r : Option CloseRefusal)
-    → AreAll h.opened.passes ys → xs ≡ ys → base ≡ h.opened.base → v ≡ h.locked_site → v.total ≡ sum_by (λ (p : PassView). p.amount) ys
+    → AreAll h.opened.passes ys → xs ≡ ys → base ≡ h.opened.base → v ≡ h.locked_site → Counted v ys
     → IfSome r (λ w. PreventsClose (length base) v xs w) → IfSome r (λ w. RefusesSince h ys w)
 refused_some h base xs ys v None all same from is total fault = tt
 refused_some h base xs ys v (Some w) all same from is total fault = refused h base xs ys v w all same from is total fault
@@ -75,7 +80,7 @@ refused_some h base xs ys v (Some w) all same from is total fault = refused h ba
 pub closed_none : (h : HaltedValue) (base : List Entry) (taken : Option (List ℕ)) (xs ys : List PassView) (v : LockedSiteValue) (config : ConfigValue)
     (r : Option CloseRefusal)
     → AreAll h.opened.passes ys → xs ≡ ys → config ≡ h.opened.config → base ≡ h.opened.base → taken ≡ h.opened.taken → v ≡ h.locked_site
-    → v.total ≡ sum_by (λ (p : PassView). p.amount) ys
+    → Counted v ys
     → IfNone r (IsClosable base taken v config xs) → IfNone r (ClosesSince h.opened ys h.locked_site.site h.locked_site.written)
 closed_none h base taken xs ys v config None all same is from took locked_site total good =
     closed h base taken xs ys v config all same is from took locked_site total good
@@ -92,6 +97,7 @@ closes_new f ys s written none h = record {
   legal = h.legal;
   calls = ap length (from_none f.base h.since s.history none h.history_is) ∙ h.calls;
   merge = subst (λ (b : List Entry). IsMergeSince (length b) s.history ys) none h.merge;
+  full = h.full;
 }
 
 wrong_new : (h : HaltedValue) (ys : List PassView) (id n : ℕ) (journal_failed : Bool) → h.opened.base ≡ []
@@ -108,5 +114,5 @@ pub refuses_new : (f : Opened) (h : HaltedValue) (ys : List PassView) (w : Close
     → RefusesSince h ys w → Refuses h ys w
 refuses_new f h ys PassMissing none is halted why = why
 refuses_new f h ys (NotInHistory id n) none is halted why =
-    let wrong = wrong_new h ys id n h.locked_site.journal_failed (ap (λ (o : Opened). o.base) is ∙ none) halted.matches_journal why.2 in (why.0, wrong.0 ∙ why.1, wrong.1)
+    let wrong = wrong_new h ys id n h.locked_site.journal_failed (ap (λ (o : Opened). o.base) is ∙ none) halted.matches_journal why.3 in (why.0, wrong.0 ∙ why.1, why.2, wrong.1)
 refuses_new f h ys OtherConfig none is halted why = why

@@ -19,7 +19,7 @@ use Rattle.site_core.specs.Step.{entered_moment}
 use Rattle.site_core.specs.Audit.{IsGoodAct, IsRefusedAct}
 use Rattle.site_core.specs.Histories.{load_refusal}
 use Rattle.site_lock.specs.Passes.{PassView}
-use Rattle.site_lock.specs.Calls.{Gains, FitsIn, RoseWithin}
+use Rattle.site_lock.specs.Calls.{Gains, FitsIn, RoseWithin, pass_after}
 use Rattle.site_lock.specs.Decisions.{DecidedBy}
 
 -- The act was entered. The pass got a receipt of the act with this number and reply, and now has at most `number`
@@ -42,11 +42,12 @@ pub record DeskRefuses (before now : PassView) (act : Act) (number : ℕ) (unit 
   pub shown : refusal_numbers refusal ≡ Some (number, unit, part)
   pub same : now ≡ before
 
--- What holds after each answer of the desk. After an answer without an entry the pass is unchanged. The desk answers
--- `JournalFailed` only if the journal can fail, and never `Line`.
+-- What holds after each answer of the desk. After an answer without an entry the pass is unchanged, but after
+-- `JournalFull` it has it that the history was full. The desk answers `JournalFailed` only if the journal can fail, and
+-- never `Line`.
 abbrev pub DeskAnswers : ConfigValue → Type 0 → PassView → PassView → Act → ℕ → Answer → Type 0
 DeskAnswers config may_fail before now act moment (Entered number reply) = DeskEnters config before now act moment number reply
-DeskAnswers config may_fail before now act moment JournalFull = now ≡ before
+DeskAnswers config may_fail before now act moment JournalFull = now ≡ pass_after (enter.Call fault.JournalFull) before
 DeskAnswers config may_fail before now act moment OutOfMemory = now ≡ before
 DeskAnswers config may_fail before now act moment (Line fault) = ⊥
 DeskAnswers config may_fail before now act moment (Program number unit part) = DeskRefuses before now act number unit part

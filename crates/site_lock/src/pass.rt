@@ -1,10 +1,13 @@
 //! Passes: the rights of callers to call a forecourt, with the receipts of what they were answered.
-ghost use Rattle.std.specs.Prelude.{◌≡◌, length, [], None};
+ghost use Rattle.std.specs.Prelude.{◌≡◌, ◌+◌, ◌<◌, ◌≤◌, length, [], None, false};
+ghost use Rattle.site_lock.specs.Calls.{count_after};
 
-use site_core::DraftMemory;
+use super::enter_fault::EnterFault;
+use site_core::{CallFault, DraftMemory};
 use std::alloc::Global;
 use std::marker::{Brand, Model};
-use std::sync::ledger::{Ledger, Share};
+use std::snapshot::Snapshot;
+use std::sync::ledger::{Book, Ledger, Share};
 use till_request::{Act, Reply};
 
 /// The ledger of a forecourt's answered calls, for proofs alone. It has one part for each pass. It also names the
@@ -47,25 +50,96 @@ pub struct Receipt {
     pub reply: Reply,
 }
 
-/// The pass of a caller (its right to call the forecourt): its number, counted from 1, its share of the ledger, and the
-/// receipts of its answered calls, the oldest first. It also keeps the memory of the last run for the next one.
+/// What an answer that the history is full adds to an amount of the ledger. It is more than all passes together can
+/// have receipts, so the ledger counts both kinds of answers at once.
+pub(super) const FULL_MARK: u64 = u64::MAX;
+
+/// What a pass has of the ledger: the count of its answered calls, and whether a call was answered that the history is
+/// full. It takes no bytes.
+#[derive(Drop)]
+pub(super) struct CallCount<L: SiteLedger> {
+    pub(super) share: Share<L>,
+    was_full: Snapshot<bool>,
+}
+
+impl<L: SiteLedger> Model for CallCount<L> {
+    ghost use Rattle.std.specs.Prelude.{◌≡◌, ◌≤◌, true};
+    ghost use Rattle.site_lock.specs.declared.pass.TheConstants.{FULL_MARK};
+    ghost use Rattle.site_lock.specs.Passes.{CountView, calls_in};
+
+    ghost Value = { CountView };
+
+    ghost view = { λ c. record { amount = calls_in c.share.amount; was_full = c.was_full.value } };
+
+    ghost invariant = { λ c. (c.share.parts ≡ 1) × (c.was_full.value ≡ true → FULL_MARK ≤ c.share.amount) };
+}
+
+impl<L: SiteLedger> CallCount<L> {
+    /// Makes the count of a new pass. `share` must have one part of the ledger, and count no call.
+    fn new(share: Share<L>) -> CallCount<L>
+        requires { (share.parts ≡ 1) × (share.amount ≡ 0) }
+        ensures { result ≡ record { amount = 0; was_full = false } }
+    {
+        CallCount {
+            share,
+            was_full: Snapshot::of(&false),
+        }
+    }
+
+    /// Counts an answered call, also in `calls`.
+    pub(super) fn add(&mut self, calls: &mut Book<L>)
+        requires { calls.old.total + 1 < FULL_MARK }
+        ensures total { calls.new.total ≡ calls.old.total + 1 }
+        ensures amount { self.new.amount ≡ self.old.amount + 1 }
+        ensures was_full { self.new.was_full ≡ self.old.was_full }
+        ensures bound { self.new.amount ≤ calls.new.total }
+    {
+        calls.add(&mut self.share, 1);
+        calls.audit(&mut self.share);
+    }
+
+    /// Returns the error of a call that wasn't entered. If it is that the history is full, marks this, also in `calls`.
+    pub(super) fn told(&mut self, calls: &mut Book<L>, fault: CallFault) -> EnterFault
+        ensures result { result ≡ EnterFault.Call fault }
+        ensures after { self.new ≡ count_after result self.old }
+        ensures full { fault ≡ CallFault.JournalFull → calls.new.total ≡ calls.old.total + FULL_MARK }
+        ensures memory { fault ≡ CallFault.OutOfMemory → calls.new.total ≡ calls.old.total }
+    {
+        match fault {
+            CallFault::JournalFull => {
+                calls.add(&mut self.share, FULL_MARK);
+                self.was_full = Snapshot::of(&true);
+                EnterFault::Call(CallFault::JournalFull)
+            }
+            CallFault::OutOfMemory => EnterFault::Call(CallFault::OutOfMemory),
+        }
+    }
+}
+
+/// The pass of a caller (its right to call the forecourt): its number, counted from 1, its count of answered calls, and
+/// the receipts of these, the oldest first. It also keeps the memory of the last run for the next one.
 #[derive(Drop)]
 pub struct Pass<L: SiteLedger> {
     pub(super) id: u32,
-    pub(super) share: Share<L>,
+    pub(super) calls: CallCount<L>,
     pub(super) receipts: Vec<Receipt>,
     pub(super) draft_memory: Option<DraftMemory>,
 }
 
 impl<L: SiteLedger> Model for Pass<L> {
-    ghost use Rattle.std.specs.Prelude.{◌≡◌, length};
+    ghost use Rattle.std.specs.Prelude.{◌≡◌, ◌<◌, ◌^◌, length};
     ghost use Rattle.site_lock.specs.Passes.{PassView};
 
     ghost Value = { PassView };
 
-    ghost view = { λ p. record { id = p.id; amount = p.share.amount; receipts = p.receipts.items } };
+    ghost view = { λ p. record {
+      id = p.id;
+      amount = p.calls.amount;
+      was_full = p.calls.was_full;
+      receipts = p.receipts.items;
+    } };
 
-    ghost invariant = { λ p. (p.share.parts ≡ 1) × (p.share.amount ≡ length p.receipts.items) };
+    ghost invariant = { λ p. (p.calls.amount ≡ length p.receipts.items) × (length p.receipts.items < 2 ^ 32) };
 }
 
 impl<L: SiteLedger> Pass<L> {
@@ -79,7 +153,7 @@ impl<L: SiteLedger> Pass<L> {
     {
         Pass {
             id,
-            share,
+            calls: CallCount::new(share),
             receipts: Vec::new(alloc),
             draft_memory: None,
         }
@@ -106,16 +180,5 @@ impl<L: SiteLedger> Pass<L> {
         ensures counted { self.now.amount ≡ length self.now.receipts }
     {
         self.receipts.as_slice()
-    }
-
-    /// Returns a further share of the ledger that counts the answered calls of all passes. The ledger has one part for
-    /// each pass. The returned share has no part, and counts no call. The pass keeps its own share, which has one part.
-    /// To count the calls of all passes, the shares of all passes are added to the returned share for a short time.
-    pub(super) fn lend_none(&mut self) -> Share<L>
-        ensures parts { result.parts ≡ 0 }
-        ensures amount { result.amount ≡ 0 }
-        ensures same { self.new ≡ self.old }
-    {
-        self.share.empty()
     }
 }

@@ -16,7 +16,7 @@ returns-clause-some g c =
     (ap (λ (h : HaltedValue). h.opened.passes) c.self.view_is) in
     refused_some c.args.self.now g.L.SiteLedger.base c.as_slice-2.result.now c.args.passes.now.items c.count.new.self c.refusal.result all
     (c.as_slice-2.ensures.value ∙ c.count.ensures.passes) (ap (λ (h : HaltedValue). h.opened.base) c.self.view_is) (c.count.ensures.same ∙ ap
-    (λ (h : HaltedValue). h.locked_site) c.self.view_is) c.count.ensures.total c.refusal.ensures.some
+    (λ (h : HaltedValue). h.locked_site) c.self.view_is) (c.count.ensures.total, c.count.ensures.full) c.refusal.ensures.some
 
 pub returns-clause-none : goal.returns-clause-none
 returns-clause-none g c =
@@ -27,4 +27,4 @@ returns-clause-none g c =
     c.self.inside.config c.refusal.result all
     (c.as_slice-2.ensures.value ∙ c.count.ensures.passes) (ap (λ (h : HaltedValue). h.opened.config) c.self.view_is)
     (ap (λ (h : HaltedValue). h.opened.base) c.self.view_is) (ap (λ (h : HaltedValue). h.opened.taken) c.self.view_is)
-    (c.count.ensures.same ∙ ap (λ (h : HaltedValue). h.locked_site) c.self.view_is) c.count.ensures.total c.refusal.ensures.none
+    (c.count.ensures.same ∙ ap (λ (h : HaltedValue). h.locked_site) c.self.view_is) (c.count.ensures.total, c.count.ensures.full) c.refusal.ensures.none
