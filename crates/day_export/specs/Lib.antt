@@ -3,4 +3,3 @@ pub mod Acts
 pub mod Rows
 pub mod Text
 pub mod Laws
-pub mod Fault

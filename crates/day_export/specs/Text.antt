@@ -1,6 +1,7 @@
 -- Definitions: the text of rows, as CSV and as lines of JSON.
-use Rattle.std.specs.Prelude.{◌≡◌, ℕ, false, List, [], ◌∷◌, ◌++◌, map}
+use Rattle.std.specs.Prelude.{◌≡◌, ◌<◌, ℕ, false, List, [], ◌∷◌, ◌++◌, length, map, take, Option}
 use Rattle.std.specs.List.{concat}
+use Rattle.std.specs.Io.KnownBytes.{Appends}
 use Rattle.csv.specs.Writing.{default_writer, fields_written, has_written, row_text, with_terminator, writer_setup}
 use Rattle.csv.specs.declared.writer.Writer.{Writer}
 use Rattle.csv.specs.declared.parser.Terminator.TheVariants as terminator
@@ -47,9 +48,17 @@ unfoldable pub header_bytes : Rows → Format → List ℕ
 header_bytes which format.Csv = row_text csv_writer (columns which)
 header_bytes which format.Json = []
 
+-- The text before the rows, and then the text of each row of this kind for these sales or these entries.
+abbrev pub row_texts : Rows → Format → List Sale → List Entry → List (List ℕ)
+row_texts which form sales entries = header_bytes which form ∷ map (row_bytes which form) (rows_from which sales entries)
+
 -- The header, if the format has one, and then the text of all rows of this kind for these sales or these entries.
 abbrev pub rows_text : Rows → Format → List Sale → List Entry → List ℕ
-rows_text which form sales entries = header_bytes which form ++ concat (map (row_bytes which form) (rows_from which sales entries))
+rows_text which form sales entries = concat (row_texts which form sales entries)
+
+-- The first of these texts were appended, but not all of them, and nothing else was.
+abbrev pub AppendsFirst : Option (List ℕ) → Option (List ℕ) → List (List ℕ) → Type 0
+AppendsFirst old new texts = (n : ℕ) × (n < length texts) × Appends old new (concat (take n texts))
 
 -- ---- The contracts of private functions use these definitions.
 

@@ -2,19 +2,21 @@
 
 ghost use Rattle.std.specs.Prelude.{◌≡◌, ◌≢◌, ◌++◌, ◌∷◌, [], Err, OnOk, IfOk, map};
 ghost use Rattle.std.specs.Io.KnownBytes.{Appends, Keeps};
+ghost use Rattle.csv.specs.Reading.{error_kind};
 ghost use Rattle.csv.specs.Records.{fields_of, partial_of};
 ghost use Rattle.csv.specs.Writing.{row_text, text_written};
+ghost use Rattle.csv.specs.declared.error.ErrorKind.TheVariants as csv_error;
 ghost use Rattle.day_export.specs.Cells.{cell_text, columns};
 ghost use Rattle.day_export.specs.Text.{IsBetweenRecords, csv_writer, header_bytes};
 ghost use Rattle.day_export.specs.declared.cells.Format.TheVariants as format;
 
 use crate::cells::{Cell, Rows, columns, word_text};
-use crate::fault::RowsFault;
+use crate::fault::{RowFault, RowsFault};
 use crate::row_writer::RowWriter;
 use csv::{ByteRecord, Terminator, Writer, WriterBuilder};
 use itoa::Buffer;
 use std::alloc::{AllocError, Global};
-use std::io::Write;
+use std::io::{self, Write};
 
 /// A writer of rows as CSV.
 #[derive(Drop)]
@@ -64,43 +66,60 @@ fn fill_header(row: &mut ByteRecord, rows: Rows) -> Result<(), AllocError>
     Ok(())
 }
 
+/// Returns the error of the device under the CSV writer. The CSV writer has no other: it takes no memory, and all records
+/// have the same number of fields.
+fn device_error(error: csv::Error) -> io::Error
+    ensures { (cause : _) → error_kind error ≡ csv_error.Io cause → result ≡ cause }
+{
+    match error.into_kind() {
+        csv::ErrorKind::Io(error) => error,
+        _ => io::Error::from(io::ErrorKind::Other),
+    }
+}
+
 /// Writes the record `row` to `writer`. The writer must have the settings that `CsvRows::start` gives it, and be
-/// between two records. The error is an error of the underlying writer, or that memory ran out.
-fn write_record<W: Write + Drop>(writer: &mut Writer<W>, row: &ByteRecord) -> Result<(), RowsFault>
+/// between two records. The error is an error of the underlying writer.
+fn write_record<W: Write + Drop>(writer: &mut Writer<W>, row: &ByteRecord) -> io::Result<()>
     requires { IsBetweenRecords writer.old }
     ensures text { OnOk result (Appends (text_written W.contents writer.old) (text_written W.contents writer.new)
         (row_text csv_writer (fields_of row.now))) }
     ensures between { OnOk result (IsBetweenRecords writer.new) }
 {
-    Ok(writer.write_byte_record(row)?)
+    match writer.write_byte_record(row) {
+        Ok(()) => Ok(()),
+        Err(error) => Err(device_error(error)),
+    }
 }
 
 impl<W: Write + Drop> CsvRows<W> {
     /// Makes a writer of rows on top of `out`, and writes the names of the columns as the first record. Bytes can stay
-    /// in the new writer's buffer until `finish`. The error is an error of `out`, or that memory ran out.
-    pub(crate) fn start(alloc: Global, rows: Rows, out: W) -> Result<CsvRows<W>, RowsFault>
+    /// in the new writer's buffer until `finish`. The error is an error of `out`, or that memory ran out, and nothing
+    /// was written.
+    pub(crate) fn start(alloc: Global, rows: Rows, out: W) -> Result<CsvRows<W>, RowsFault<W>>
         ensures text { IfOk result (λ it. Appends (W.contents out) (text_written W.contents it.writer) (header_bytes
             rows format.Csv)) }
         ensures ready { IfOk result (λ it. IsBetweenRecords it.writer) }
+        ensures memory { (after : W) → result ≡ Err (RowsFault.OutOfMemory after) → after ≡ out }
     {
+        let mut row = ByteRecord::new(alloc);
+        let Ok(()) = fill_header(&mut row, rows) else {
+            return Err(RowsFault::OutOfMemory(out));
+        };
         let mut writer = WriterBuilder::new()
             .terminator(Terminator::CRLF)
             .from_writer(out);
-        let mut row = ByteRecord::new(alloc);
-        fill_header(&mut row, rows)?;
         write_record(&mut writer, &row)?;
         Ok(CsvRows { writer, row })
     }
 
     /// Writes the bytes that are still buffered, and returns the underlying writer. The error is an error of the
     /// underlying writer.
-    pub(crate) fn finish(self) -> Result<W, RowsFault>
-        ensures text { IfOk result (λ out. Keeps (text_written W.contents self.writer) (W.contents out)) }
-        ensures cause { result ≢ Err RowsFault.OutOfMemory }
+    pub(crate) fn finish(self) -> io::Result<W>
+        ensures { IfOk result (λ out. Keeps (text_written W.contents self.writer) (W.contents out)) }
     {
         match self.writer.into_inner() {
             Ok(out) => Ok(out),
-            Err(failed) => Err(RowsFault::Io(*failed.error())),
+            Err(failed) => Err(*failed.error()),
         }
     }
 }
@@ -114,8 +133,8 @@ impl<W: Write + Drop> RowWriter for CsvRows<W> {
 
     ghost is_ready = { λ it. IsBetweenRecords it.writer };
 
-    fn write_row(&mut self, _rows: Rows, cells: &[Cell]) -> Result<(), RowsFault> {
+    fn write_row(&mut self, _rows: Rows, cells: &[Cell]) -> Result<(), RowFault> {
         fill_record(&mut self.row, cells)?;
-        write_record(&mut self.writer, &self.row)
+        Ok(write_record(&mut self.writer, &self.row)?)
     }
 }

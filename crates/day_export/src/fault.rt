@@ -1,28 +1,48 @@
-//! The error of writing a day's rows.
+//! The errors of writing a day's rows.
 
 use std::alloc::AllocError;
 use std::io;
 
-/// Why rows couldn't be written.
-#[derive(Clone, Copy)]
-pub enum RowsFault {
-    OutOfMemory,
-    /// The writer to which the rows were written failed with this error.
+/// Why the rows of a day couldn't be written.
+#[derive(Drop)]
+pub enum RowsFault<W> {
+    /// Memory ran out. The writer has only whole rows.
+    OutOfMemory(W),
+    /// The writer failed with this error.
     Io(io::Error),
 }
 
-impl From<AllocError> for RowsFault {
+/// Why a row couldn't be written.
+#[derive(Clone, Copy)]
+pub(crate) enum RowFault {
+    OutOfMemory,
+    /// The writer to which the row was written failed with this error.
+    Io(io::Error),
+}
+
+impl From<AllocError> for RowFault {
     ghost use Rattle.std.specs.Prelude.{◌≡◌};
-    ghost use Rattle.day_export.specs.declared.fault.RowsFault.TheVariants as fault;
+    ghost use Rattle.day_export.specs.declared.fault.RowFault.TheVariants as fault;
 
     ghost from_gives = { λ _ f. f ≡ fault.OutOfMemory };
 
     fn from(_refused: AllocError) -> Self {
-        RowsFault::OutOfMemory
+        RowFault::OutOfMemory
     }
 }
 
-impl From<io::Error> for RowsFault {
+impl From<io::Error> for RowFault {
+    ghost use Rattle.std.specs.Prelude.{◌≡◌};
+    ghost use Rattle.day_export.specs.declared.fault.RowFault.TheVariants as fault;
+
+    ghost from_gives = { λ error f. f ≡ fault.Io error };
+
+    fn from(error: io::Error) -> Self {
+        RowFault::Io(error)
+    }
+}
+
+impl<W> From<io::Error> for RowsFault<W> {
     ghost use Rattle.std.specs.Prelude.{◌≡◌};
     ghost use Rattle.day_export.specs.declared.fault.RowsFault.TheVariants as fault;
 
@@ -30,22 +50,5 @@ impl From<io::Error> for RowsFault {
 
     fn from(error: io::Error) -> Self {
         RowsFault::Io(error)
-    }
-}
-
-impl From<csv::Error> for RowsFault {
-    ghost use Rattle.std.specs.Prelude.{◌≡◌};
-    ghost use Rattle.csv.specs.Reading.{error_kind};
-    ghost use Rattle.day_export.specs.Fault.{fault_of};
-
-    ghost from_gives = { λ error f. f ≡ fault_of (error_kind error) };
-
-    fn from(error: csv::Error) -> Self {
-        match error.into_kind() {
-            csv::ErrorKind::Io(error) => RowsFault::Io(error),
-            // Here any other error means that memory ran out. The CSV writer would also reject a record that has
-            // another number of fields than the first, but all records have the same number.
-            _ => RowsFault::OutOfMemory,
-        }
     }
 }

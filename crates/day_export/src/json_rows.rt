@@ -7,7 +7,7 @@ ghost use Rattle.day_export.specs.Text.{cell_data, object_of, row_bytes, with_ce
 ghost use Rattle.day_export.specs.declared.cells.Format.TheVariants as format;
 
 use crate::cells::{Cell, Rows, Word, columns, word_text};
-use crate::fault::RowsFault;
+use crate::fault::RowFault;
 use crate::row_writer::RowWriter;
 use serde_json::{Map, Value, put};
 use std::alloc::{AllocError, Global};
@@ -82,7 +82,7 @@ impl<W: Write + Drop> RowWriter for JsonRows<W> {
 
     ghost is_ready = { λ it. Unit {0} };
 
-    fn write_row(&mut self, rows: Rows, cells: &[Cell]) -> Result<(), RowsFault> {
+    fn write_row(&mut self, rows: Rows, cells: &[Cell]) -> Result<(), RowFault> {
         let line = line_of(self.alloc, rows, cells)?;
         Ok(self.out.write_all(line.as_bytes())?)
     }

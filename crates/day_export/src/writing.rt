@@ -1,16 +1,16 @@
 //! Writes the rows of a day.
 
-ghost use Rattle.std.specs.Prelude.{◌≤◌, IfOk, List, OnOk, map};
-ghost use Rattle.std.specs.Iterator.{Drains, IsFinite};
+ghost use Rattle.std.specs.Prelude.{◌≡◌, ◌≤◌, Err, IfOk, List, OnOk, Some, map};
+ghost use Rattle.std.specs.Iterator.{Drains, IsFinite, YieldsThen};
 ghost use Rattle.std.specs.List.{concat};
 ghost use Rattle.std.specs.Io.KnownBytes.{Appends};
 ghost use Rattle.day_report.specs.Sales.{sales_of};
 ghost use Rattle.day_export.specs.Rows.{rows_from};
-ghost use Rattle.day_export.specs.Text.{row_bytes, rows_text};
+ghost use Rattle.day_export.specs.Text.{AppendsFirst, row_bytes, row_texts, rows_text};
 
 use crate::cells::{Cell, Format, Rows};
 use crate::csv_rows::CsvRows;
-use crate::fault::RowsFault;
+use crate::fault::{RowFault, RowsFault};
 use crate::json_rows::JsonRows;
 use crate::row_writer::RowWriter;
 use crate::rows::{decision_row, event_row, sale_cells};
@@ -22,12 +22,12 @@ use std::io::Write;
 
 /// Writes each row that `cells` gives. A row must have at most 26 cells. `to` must be ready for a row (`is_ready`), and
 /// is ready again if there is no error. The error is an error of `write_row`. After an error, some of the rows were
-/// perhaps written.
+/// perhaps written; if memory ran out, all rows before were.
 fn put_each<T: RowWriter, const N: usize, I: Iterator<Item = [Cell; N]> + Drop>(
     to: &mut T,
     rows: Rows,
     cells: I,
-) -> Result<(), RowsFault>
+) -> Result<(), RowFault>
     requires short { N ≤ 26 }
     requires ready { T.is_ready to.old }
     requires can { I.can_next cells }
@@ -35,6 +35,9 @@ fn put_each<T: RowWriter, const N: usize, I: Iterator<Item = [Cell; N]> + Drop>(
     ensures text { OnOk result ((all : List (List Cell)) × Drains I.next_gives cells all
         × Appends (T.written_bytes to.old) (T.written_bytes to.new) (concat (map (row_bytes rows T.format) all))) }
     ensures after { OnOk result (T.is_ready to.new) }
+    ensures memory { result ≡ Err RowFault.OutOfMemory
+        → (front : List (List Cell)) × (row : List Cell) × (rest : I) × YieldsThen I.next_gives cells front (Some row) rest
+        × Appends (T.written_bytes to.old) (T.written_bytes to.new) (concat (map (row_bytes rows T.format) front)) }
 {
     for row in cells {
         to.write_row(rows, &row)?;
@@ -44,17 +47,19 @@ fn put_each<T: RowWriter, const N: usize, I: Iterator<Item = [Cell; N]> + Drop>(
 
 /// Writes all rows of the kind `rows` for these sales or these entries. `to` must be ready for a row (`is_ready`), and
 /// is ready again if there is no error. The error is an error of `write_row`. After an error, some of the rows were
-/// perhaps written.
+/// perhaps written; if memory ran out, all rows before were.
 fn put_rows<T: RowWriter>(
     to: &mut T,
     rows: Rows,
     sales: &[Sale],
     entries: &[Entry],
-) -> Result<(), RowsFault>
+) -> Result<(), RowFault>
     requires { T.is_ready to.old }
     ensures text { OnOk result (Appends (T.written_bytes to.old) (T.written_bytes to.new)
         (concat (map (row_bytes rows T.format) (rows_from rows sales.now entries.now)))) }
     ensures after { OnOk result (T.is_ready to.new) }
+    ensures memory { result ≡ Err RowFault.OutOfMemory → AppendsFirst (T.written_bytes to.old) (T.written_bytes to.new)
+        (map (row_bytes rows T.format) (rows_from rows sales.now entries.now)) }
 {
     match rows {
         Rows::Sales => put_each(to, rows, sales.iter().map(sale_cells)),
@@ -64,24 +69,29 @@ fn put_rows<T: RowWriter>(
 }
 
 /// Writes the rows of a day as CSV, after a record with the names of the columns. Returns the writer `out`. The error
-/// is that memory ran out, or an error of `out`.
+/// is an error of `out`, or that memory ran out, and `out` has the rows before.
 fn write_csv<W: Write + Drop>(
     alloc: Global,
     sales: &[Sale],
     entries: &[Entry],
     rows: Rows,
     out: W,
-) -> Result<W, RowsFault>
-    ensures { IfOk result (λ after. Appends (W.contents out) (W.contents after)
+) -> Result<W, RowsFault<W>>
+    ensures text { IfOk result (λ after. Appends (W.contents out) (W.contents after)
         (rows_text rows Format.Csv sales.now entries.now)) }
+    ensures memory { (after : W) → result ≡ Err (RowsFault.OutOfMemory after)
+        → AppendsFirst (W.contents out) (W.contents after) (row_texts rows Format.Csv sales.now entries.now) }
 {
     let mut to = CsvRows::start(alloc, rows, out)?;
-    put_rows(&mut to, rows, sales, entries)?;
-    to.finish()
+    match put_rows(&mut to, rows, sales, entries) {
+        Ok(()) => Ok(to.finish()?),
+        Err(RowFault::OutOfMemory) => Err(RowsFault::OutOfMemory(to.finish()?)),
+        Err(RowFault::Io(error)) => Err(RowsFault::Io(error)),
+    }
 }
 
-/// Writes the rows of a day as lines of JSON, and returns the writer `out`. The error is that memory ran out, or an
-/// error of `out`.
+/// Writes the rows of a day as lines of JSON, and returns the writer `out`. The error is an error of `out`, or that
+/// memory ran out, and `out` has the rows before.
 #[tactic(auto, unfolding(crate::specs::Text::header_bytes))]
 fn write_json<W: Write + Drop>(
     alloc: Global,
@@ -89,26 +99,34 @@ fn write_json<W: Write + Drop>(
     entries: &[Entry],
     rows: Rows,
     out: W,
-) -> Result<W, RowsFault>
-    ensures { IfOk result (λ after. Appends (W.contents out) (W.contents after)
+) -> Result<W, RowsFault<W>>
+    ensures text { IfOk result (λ after. Appends (W.contents out) (W.contents after)
         (rows_text rows Format.Json sales.now entries.now)) }
+    ensures memory { (after : W) → result ≡ Err (RowsFault.OutOfMemory after)
+        → AppendsFirst (W.contents out) (W.contents after) (row_texts rows Format.Json sales.now entries.now) }
 {
     let mut to = JsonRows { alloc, out };
-    put_rows(&mut to, rows, sales, entries)?;
-    Ok(to.out)
+    match put_rows(&mut to, rows, sales, entries) {
+        Ok(()) => Ok(to.out),
+        Err(RowFault::OutOfMemory) => Err(RowsFault::OutOfMemory(to.out)),
+        Err(RowFault::Io(error)) => Err(RowsFault::Io(error)),
+    }
 }
 
 /// Writes the rows of an audited day to `out`, and returns `out`. In CSV the names of the columns come first. The error
-/// is that memory ran out, or an error of `out`. After an error, some of the rows were perhaps written.
+/// is an error of `out`, and some of the rows were perhaps written, or that memory ran out, and all rows before were.
 pub fn write_rows<W: Write + Drop>(
     alloc: Global,
     day: &Watched<Sales>,
     rows: Rows,
     format: Format,
     out: W,
-) -> Result<W, RowsFault>
-    ensures { IfOk result (λ after. Appends (W.contents out) (W.contents after)
+) -> Result<W, RowsFault<W>>
+    ensures text { IfOk result (λ after. Appends (W.contents out) (W.contents after)
         (rows_text rows format (sales_of day.now.site.config day.now.site.history) day.now.site.history)) }
+    ensures memory { (after : W) → result ≡ Err (RowsFault.OutOfMemory after)
+        → AppendsFirst (W.contents out) (W.contents after)
+        (row_texts rows format (sales_of day.now.site.config day.now.site.history) day.now.site.history) }
 {
     let (sales, entries) = (&day.seen().sales, day.site().history());
     match format {

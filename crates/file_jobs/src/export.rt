@@ -64,7 +64,7 @@ fn print_rows(
     let written = match write_rows(rt.alloc(), day, rows, format, output) {
         Ok(mut output) => output.flush(),
         Err(RowsFault::Io(error)) => Err(error),
-        Err(RowsFault::OutOfMemory) => return Err(JobError::OutOfMemory),
+        Err(RowsFault::OutOfMemory(_output)) => return Err(JobError::OutOfMemory),
     };
     printed(rt.alloc(), written)
 }

@@ -6,4 +6,4 @@ pub returns-clause-text : goal.returns-clause-text
 unfolding header_bytes
 returns-clause-text g c =
     let from = c.from_writer-writer.ensures in
-    from-empty _ _ _ _ from.empty (rw (from.wtr, c.in_ok-fill_header.ensures) at c.in_ok-write_record.ensures.text)
+    from-empty _ _ _ _ from.empty (rw (from.wtr, c.in-Ok.ensures) at c.in_ok-write_record.ensures.text)
