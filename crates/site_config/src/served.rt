@@ -152,7 +152,7 @@ fn read_own_door(
     role: RawRole,
 ) -> Result<RawDoor, ConfigFlaw>
     ensures read { Finds (λ x. x) result (own_door_at section role (table_view table.now)) }
-    ensures memory { result ≡ Err ConfigFlaw.OutOfMemory → TakesDoor section KEYS (table_view table.now) }
+    ensures memory { result ≡ Err ConfigFlaw.OutOfMemory → TakesDoor section (Key.Port, Key.Socket) (table_view table.now) }
 {
     let door = value_of!(read_door(alloc, table, section, KEYS, role));
     let lines = value_of!(read_optional(table, section, Key::LinesPerSecond));
@@ -266,7 +266,8 @@ fn add_owner(
     mut doors: Vec<RawDoor>,
 ) -> Result<Vec<RawDoor>, ConfigFlaw>
     ensures read { Finds (λ v. v.items) result (with_front doors.items (owner_at (table_view table.now))) }
-    ensures memory { result ≡ Err ConfigFlaw.OutOfMemory → TakesShared OWNER_KEYS RawRole.Owner (table_view table.now) }
+    ensures memory { result ≡ Err ConfigFlaw.OutOfMemory
+        → TakesShared (Key.OwnerPort, Key.OwnerSocket) RawRole.Owner (table_view table.now) }
 {
     room_for!(doors.push(value_of!(read_door(
         alloc,
