@@ -61,6 +61,7 @@ pub(crate) fn begin_with(
 /// Returns the bytes of the opening that `source` gives, which reads the file that `word` names. The error is that they
 /// can't be read, or are more than `MOST_OPENING` (L1).
 pub fn opening_bytes(rt: &HostRuntime, word: &str, source: Source) -> Result<Vec<u8>, JobError>
+    ensures limit { MOST_OPENING ≡ 262144 }
     ensures few { IfOk result (λ bytes. vec_len bytes ≤ MOST_OPENING) }
     ensures refused { IfErr result (Refuses 1) }
 {
