@@ -6,8 +6,7 @@ use super::enter_fault::EnterFault;
 use site_core::{CallFault, DraftMemory};
 use std::alloc::Global;
 use std::marker::{Brand, Model};
-use std::snapshot::Snapshot;
-use std::sync::ledger::{Book, Ledger, Share};
+use std::sync::ledger::{Blank, Book, Ledger, Share};
 use till_request::{Act, Reply};
 
 /// The ledger of a forecourt's answered calls, for proofs alone. It has one part for each pass. It also names the
@@ -59,19 +58,20 @@ pub(super) const FULL_MARK: u64 = u64::MAX;
 #[derive(Drop)]
 pub(super) struct CallCount<L: SiteLedger> {
     pub(super) share: Share<L>,
-    was_full: Snapshot<bool>,
+    /// No ledger is made of it. For proofs alone, it has 1 part if a call was answered that the history is full, else 0.
+    told_full: Blank,
 }
 
 impl<L: SiteLedger> Model for CallCount<L> {
-    ghost use Rattle.std.specs.Prelude.{◌≡◌, ◌≤◌, true};
+    ghost use Rattle.std.specs.Prelude.{◌≡◌, ◌==◌, ◌≤◌, true};
     ghost use Rattle.site_lock.specs.declared.pass.TheConstants.{FULL_MARK};
     ghost use Rattle.site_lock.specs.Passes.{CountView, calls_in};
 
     ghost Value = { CountView };
 
-    ghost view = { λ c. record { amount = calls_in c.share.amount; was_full = c.was_full.value } };
+    ghost view = { λ c. record { amount = calls_in c.share.amount; was_full = c.told_full.parts == 1 } };
 
-    ghost invariant = { λ c. (c.share.parts ≡ 1) × (c.was_full.value ≡ true → FULL_MARK ≤ c.share.amount) };
+    ghost invariant = { λ c. (c.share.parts ≡ 1) × ((c.told_full.parts == 1) ≡ true → FULL_MARK ≤ c.share.amount) };
 }
 
 impl<L: SiteLedger> CallCount<L> {
@@ -82,7 +82,7 @@ impl<L: SiteLedger> CallCount<L> {
     {
         CallCount {
             share,
-            was_full: Snapshot::of(&false),
+            told_full: Blank::new(0),
         }
     }
 
@@ -108,7 +108,7 @@ impl<L: SiteLedger> CallCount<L> {
         match fault {
             CallFault::JournalFull => {
                 calls.add(&mut self.share, FULL_MARK);
-                self.was_full = Snapshot::of(&true);
+                self.told_full = Blank::new(1);
                 EnterFault::Call(CallFault::JournalFull)
             }
             CallFault::OutOfMemory => EnterFault::Call(CallFault::OutOfMemory),
