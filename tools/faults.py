@@ -14,7 +14,8 @@ refused. This has to hold:
 - the file of a kept journal has each answered line, and its whole lines are legal;
 - a folder of days has its journals as they were, and of a new day each file whole or not at all; its audit is legal;
 - a served site leaves no local socket, and no folder in which it makes one;
-- a look at a served site is answered 200, or 503 because memory ran out, or not at all;
+- a look at a served site is answered 200, or not at all, or 503 because memory ran out or because its health is asked;
+- nothing that is printed, said, answered or written says that memory ran out, unless an allocation was refused;
 - if each read and write is cut to one byte, all is as in the unhindered run.
 If there is no C compiler (CC, or cc), nothing is tried, and that is printed. The last line is 'N passed, M failed': it
 counts the calls, each with one kind and one way of refusing. A run at which this script fails is a fault too.
@@ -36,7 +37,7 @@ import time
 import traceback
 from concurrent.futures import ThreadPoolExecutor
 
-from shared import AS_ASKED, HERE
+from shared import AS_ASKED, HERE, OUT_OF_MEMORY
 
 KINDS = ("memory", "read", "write", "sync")
 UNHINDERED = ("none", 0, "once")
@@ -115,10 +116,16 @@ class Told:
     def __init__(self, status, printed, said, counts, journal="", answers=()):
         self.status, self.printed, self.said = status, printed, said
         self.calls, self.is_refused = dict(zip(KINDS, counts)), counts[4] == 1
-        self.journal, self.answers = journal, list(answers)
+        self.journal, self.answers, self.looks = journal, list(answers), []
 
     def seen(self):
         return self.status, self.printed, self.said, self.journal, self.answers
+
+    def wants_of_memory(self):
+        """All that says that memory ran out."""
+        texts = (self.printed, self.said, self.journal, *(answer for _, answer in self.answers))
+        lines = [line for text in texts for line in text.splitlines() if OUT_OF_MEMORY.search(line.encode())]
+        return lines + [look for look in self.looks if look[0] != "/healthz" and look[1] == "503"]
 
 
 class Shim:
@@ -431,7 +438,8 @@ class Served(Call):
             if answer is not None:
                 answers.append((line, answer))
             if turn % 3 == 0:
-                looks += [looked(program.pid, page, LOOKS[turn // 3 % len(LOOKS)]) for page in doors[3:]]
+                target = LOOKS[turn // 3 % len(LOOKS)]
+                looks += [(target, looked(program.pid, page, target)) for page in doors[3:]]
         for peer in peers.values():
             peer.close()
         return answers, looks
@@ -447,7 +455,8 @@ class Served(Call):
             return f"it was refused nothing, says {told.said[-300:]!r}, and answers {told.answers}"
         if told.left:
             return f"it leaves {told.left}"
-        if not set(told.looks) <= {"200", "503", None} or not told.is_refused and set(told.looks) - {"200"}:
+        looks = {status for _, status in told.looks}
+        if not looks <= {"200", "503", None} or not told.is_refused and looks - {"200"}:
             return f"looks are answered {told.looks}"
         return ended_ill(told, plain)
 
@@ -575,7 +584,7 @@ def calls_of_sites(shim, taken):
     yield Served("served day, synced", "--journal", "day.journal", "--sync")
     yield Served("served day in a folder", "--days", "days")
     yield Served("served day over sockets", at_sockets=True)
-    yield Served("served day with a page", has_page=True)
+    yield Served("served day with a page", "--journal", "day.journal", has_page=True)
 
 
 def words_of(error):
@@ -584,10 +593,17 @@ def words_of(error):
     return f"no look at this run: {error!r}, in line {at.lineno} of {os.path.basename(at.filename)}"
 
 
+def spurious_want(told, fault):
+    """What is wrong if a run says that memory ran out although no allocation was refused."""
+    wants = [] if fault[0] == "memory" and told.is_refused else told.wants_of_memory()
+    return f"no allocation was refused, and it says {wants[:3]}" if wants else None
+
+
 def ill_of(shim, call, plain, fault):
     """What is wrong with a call with this fault."""
     try:
-        return call.ill(shim, call.run(shim, fault), plain)
+        told = call.run(shim, fault)
+        return spurious_want(told, fault) or call.ill(shim, told, plain)
     except Exception as error:  # whatever it is
         return words_of(error)
 
@@ -599,7 +615,9 @@ def look(shim, call):
     except Exception as error:  # whatever it is
         return 0, {("cut", "on"): [(CUT, words_of(error))]}
     is_same = cut.answers == plain.answers if plain.answers else cut.seen() == plain.seen()
-    wrong, runs = {("cut", "on"): [] if is_same else [(CUT, f"it isn't as unhindered: {cut.seen()}")]}, 2
+    ill = spurious_want(plain, UNHINDERED) or spurious_want(cut, CUT)
+    ill = ill or (None if is_same else f"it isn't as unhindered: {cut.seen()}")
+    wrong, runs = {("cut", "on"): [(CUT, ill)] if ill else []}, 2
     with ThreadPoolExecutor(RUNS_AT_ONCE) as pool:
         for kind, how in itertools.product(KINDS, call.ways):
             faults = [(kind, at, how) for at in range(1, plain.calls[kind] + 2)]

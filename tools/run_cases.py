@@ -2,8 +2,8 @@
 """Runs the program's own cases, some at the same time: the folders below cases/ that have a file `stdout`. In such a
 folder the program is run with each line of the file `args` as an argument, and with the file `stdin` as its input, if
 these files exist. It must print `stdout` and end with the status in `status`, or with 0 if there is no such file. If
-there is a file `stderr`, it must print that on standard error. If there is an executable `run`, that is run instead,
-with the program's path as its first argument.
+there is a file `stderr`, it must print that on standard error. It must not say there that memory ran out, unless
+`stdout` says so. If there is an executable `run`, that is run instead, with the program's path as its first argument.
 
 A folder without `stdout` fails, unless it is a part of a case, has cases or tables below it, or is named by a table.
 Prints each case that differs, and then 'N passed, M failed'. The exit status is 0 only if nothing failed.
@@ -17,7 +17,7 @@ import sys
 import time
 from concurrent.futures import ThreadPoolExecutor
 
-from shared import HERE, Count
+from shared import HERE, OUT_OF_MEMORY, Count
 
 PATIENCE = 120  # seconds that a case may take
 AT_ONCE = 2 * (os.cpu_count() or 1)  # most cases wait more than they compute
@@ -74,6 +74,8 @@ class Folder:
         differs = [*differing("stdout", printed, self.bytes_of("stdout"))]
         if "stderr" in self.names:
             differs += differing("stderr", said, self.bytes_of("stderr"))
+        if OUT_OF_MEMORY.search(said) and not OUT_OF_MEMORY.search(self.bytes_of("stdout")):
+            differs.append("it says that memory ran out")
         if status == wanted and not differs:
             return []
         lines = said.decode(errors="replace").splitlines()

@@ -20,8 +20,8 @@ grants what is asked.
 A line 'needs: COMMAND..' before 'run', 'play' or 'audit' names commands. If the machine doesn't have one of them, the
 table is skipped, and that is printed. If LLVM is set (LLVM=-19), it is appended to each of these names.
 
-Each row is a case of its own; in a table of plays, each play is one. Prints each case that differs, and then
-'N passed, M failed'.
+Each row is a case of its own; in a table of plays, each play is one. Standard error must not say that memory ran out,
+unless that is what is to be printed. Prints each case that differs, and then 'N passed, M failed'.
 usage: tools/run_tables.py PROGRAM [WORD]    WORD: only the tables whose path has it
 """
 import os
@@ -32,7 +32,7 @@ import sys
 import tempfile
 from concurrent.futures import ThreadPoolExecutor
 
-from shared import AS_ASKED, HERE, Count
+from shared import AS_ASKED, HERE, OUT_OF_MEMORY, Count
 
 LINE = re.compile(r"\\(n|t|\\|x[0-9a-f]{2})")
 TIMES = re.compile(r"~(\d+)\*(.*?)~")
@@ -174,7 +174,7 @@ def main():
     count = Count()
     for (place, _), (printed, wanted, said) in zip(cases, results):
         faults = []
-        if printed != wanted:
+        if printed != wanted or (OUT_OF_MEMORY.search(said) and not OUT_OF_MEMORY.search(wanted)):
             texts = [it.decode(errors="replace")[:600].replace("\n", "\n  ") for it in (printed, wanted, said)]
             faults = [f"{place}: printed, wanted, and what standard error says:", *(f"  {it}" for it in texts)]
         count.case(faults)

@@ -1,12 +1,15 @@
 """What the tools here share: where the repository is, a rule that has a name, the lines of a play, and a count."""
 
 import os
+import re
 import subprocess
 import sys
 
 HERE = os.path.dirname(os.path.dirname(os.path.realpath(__file__)))
 # The program of a rule that grants what is asked.
 AS_ASKED = "79101800000000009500000000000000"
+# What the program says where memory runs out.
+OUT_OF_MEMORY = re.compile(rb"out of memory|\bS31\b")
 
 
 def text_of(path):
