@@ -3,3 +3,4 @@ pub mod Alike
 pub mod Fronts
 pub mod Journals
 pub mod LongLines
+pub mod FolderDays

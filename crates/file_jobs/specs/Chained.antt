@@ -1,13 +1,43 @@
--- Definitions: which day comes next in the audit of all days, and the first line in which a day's opening differs from
--- the opening that the day before left (source: this project).
-use Rattle.std.specs.Prelude.{◌≡◌, ◌≢◌, ◌<◌, ◌≤◌, ℕ, ◌+◌, ◌^◌, ◌==◌, List, [], length, take, drop, count_by, slice_index, slice_index_or, Option, Some, None}
-use Rattle.site_files.specs.Days.{day_after}
+-- Definitions: the days of a folder as the audit of all days reads them, and the first line in which a day's opening
+-- differs from the opening that the day before left (source: this project).
+use Rattle.std.specs.Prelude.{◌≡◌, ◌≢◌, ◌<◌, ◌≤◌, ℕ, ◌+◌, ◌-◌, ◌^◌, ◌==◌, zero, suc, List, [], ◌∷◌, length, take, drop, count_by, slice_index, slice_index_or, Option, Some, None, Result, Ok, Err}
+use Rattle.site_core.specs.Limits.{ConfigValue}
+use Rattle.site_config.specs.declared.fault.ConfigFault.{ConfigFault}
+use Rattle.days.specs.Chain.{DayText, IsChain}
+use Rattle.days.specs.declared.day.Chained.{Chained}
+use Rattle.site_files.specs.declared.folder.Part.TheVariants as part
+use Rattle.site_files.specs.declared.folder.Span.{Span}
+use Rattle.site_files.specs.Days.{FolderText, file_of, own_config, span_of}
 use Rattle.site_files.specs.Lines.{parts_of, IsWhole}
 
--- `turn next newest` is the day after `next`. It is None if `next` is None, or if `next` isn't before `newest`.
-abbrev pub turn : Option ℕ → ℕ → Option ℕ
-turn None newest = None
-turn (Some day) newest = day_after day newest
+-- A day with this opening and this journal, and with its own configuration, or `given` if it has none. If its own is
+-- refused, its opening is taken to have no bytes, which no opening has: so the day is in no chain.
+abbrev pub day_with : ConfigValue → Option (Result ConfigValue ConfigFault) → Option (List ℕ) → Option (List ℕ) → DayText
+day_with given None opening journal = record { config = given; opening = opening; journal = journal }
+day_with given (Some (Ok own)) opening journal = record { config = own; opening = opening; journal = journal }
+day_with given (Some (Err fault)) opening journal = record { config = given; opening = Some []; journal = journal }
+
+abbrev pub day_in : FolderText → ConfigValue → ℕ → DayText
+day_in folder given day =
+    day_with given (own_config (file_of folder day part.Config)) (file_of folder day part.Opening) (file_of folder day part.Journal)
+
+-- `count` days of a folder, the first of which is day `day`
+abbrev pub days_from : FolderText → ConfigValue → ℕ → ℕ → List DayText
+days_from folder given day zero = []
+days_from folder given day (suc count) = day_in folder given day ∷ days_from folder given (day + 1) count
+
+-- the days of a folder from day `next` to day `newest`, or no day if `next` is None
+abbrev pub days_left : FolderText → ConfigValue → Option ℕ → ℕ → List DayText
+days_left folder given None newest = []
+days_left folder given (Some day) newest = days_from folder given day (suc (newest - day))
+
+-- All days of a folder, from the oldest to the newest, follow one another, and these are their numbers of days and of
+-- entries.
+abbrev pub AreLegal : FolderText → ConfigValue → Chained → Type 0
+AreLegal folder given chained =
+    (span : Span) × (span_of folder ≡ Some span)
+    × IsChain span.oldest (days_left folder given (Some span.oldest) span.newest) chained.entries
+    × (chained.days ≡ length (days_left folder given (Some span.oldest) span.newest))
 
 -- The first `n` bytes of both texts are the same. If both texts are longer, their next bytes differ.
 pub record AgreeFor (text left : List ℕ) (n : ℕ) : Type 0 where

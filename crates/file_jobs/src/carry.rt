@@ -11,7 +11,7 @@ use site_files::job_error::print_text;
 use site_files::newest::refuse_uncarried;
 use site_files::refused_journals::audited;
 use site_files::settings::day_and;
-use site_files::{JobError, SiteFiles};
+use site_files::{FileIn, JobError, SiteFiles};
 
 /// Audits the journal in the file that `journal` names, as a journal of the site that `site` names. Prints the opening
 /// of the next day. The error is that a file is refused or can't be read, that two files are standard input, or that

@@ -1,40 +1,45 @@
 //! The audit of all days of a station.
-ghost use Rattle.std.specs.Prelude.{◌≡◌, ◌-◌, ◌++◌, true, [], None, Some, IfSome, IfNone, IfOk, IfErr, IsErrAnd, codes};
+ghost use Rattle.std.specs.Prelude.{◌≡◌, ◌-◌, ◌++◌, true, [], Some, IfSome, IfNone, IfOk, IfErr, IsErrAnd, codes};
+ghost use Rattle.std.specs.Prelude.{length, option_map};
 ghost use Rattle.std.specs.Fmt.{decimal};
 ghost use Rattle.std.specs.Str.{IsUtf8};
+ghost use Rattle.days.specs.Chain.{IsChain};
+ghost use Rattle.days.specs.Given.{IsGiven};
 ghost use Rattle.site_files.specs.Asked.{is_input};
+ghost use Rattle.site_files.specs.Days.{FolderText, IsConfigOf, file_of, own_config};
 ghost use Rattle.site_files.specs.JobErrors.{Ends, EndsOrRunsOut, Refuses};
 ghost use Rattle.file_jobs.specs.Refusals.{RefusesBeginning, RefusesJournal, RefusesDays};
-ghost use Rattle.file_jobs.specs.Chained.{turn, AgreeFor, IsOtherLine};
+ghost use Rattle.file_jobs.specs.Chained.{AgreeFor, AreLegal, IsOtherLine, day_in, days_left};
 
 use crate::progress::{Watched, watch};
 use days::chain::audit_days;
-use days::{Cause, DayIn, DaysFault, DaysIn, NoDay, NoNextOpening, Unbegun, Unclosed, Unfollowed};
+use days::{
+    Cause, Chained, DayIn, DaysFault, DaysIn, NoDay, NoNextOpening, Unbegun, Unclosed, Unfollowed,
+};
 use site_core::Config;
-use site_files::files::{lines_in, regular_source_of, text_of};
+use site_files::files::{lines_in, text_of};
 use site_files::job_error::printed;
 use site_files::kept::to_last_lf;
 use site_files::messages::print_message;
-use site_files::newest::{OfDay, UNOPENED, kept_config, refuse_link, refuse_uncarried};
+use site_files::newest::{OfDay, UNOPENED, own_config, refuse_link, refuse_uncarried};
 use site_files::opening::{opening_bytes, refuse_opening, refuse_unfit, refuse_words};
 use site_files::refused_journals::{refuse_entry, refuse_text};
 use site_files::settings::settings_in;
-use site_files::{Folder, JobError, Part, Place, Source, Span, day_after};
+use site_files::{DayFiles, FileIn, Folder, JobError, Part, Place, Span, day_after};
 use std::alloc::{AllocError, Global};
 use std::fmt::{self, Display};
-use std::io::ErrorKind;
 use std::str;
 use till_request::devices::StreamIn;
 use till_request::parts::first_part;
 
 /// The device from which a day's journal is read. It shows a progress line.
-type Journal<'a> = Watched<'a, StreamIn<Source>>;
+type Journal<'a, R> = Watched<'a, StreamIn<R>>;
 
 /// The days of a folder, read one after another.
 #[derive(Drop)]
-struct FolderIn<'a> {
+struct FolderIn<'a, F> {
     rt: &'a HostRuntime,
-    folder: Folder<'a>,
+    folder: F,
     /// The configuration for the days that have none in the folder.
     config: Config,
     /// The next day, or `None` after the newest.
@@ -44,42 +49,13 @@ struct FolderIn<'a> {
     job_error: Option<JobError>,
 }
 
-impl<'a> FolderIn<'a> {
-    /// Makes the reader of a folder's days, from the oldest to the newest in `span`. `config` is the configuration for
-    /// the days that have none in the folder.
-    fn new(rt: &'a HostRuntime, folder: Folder<'a>, config: Config, span: Span) -> FolderIn<'a>
-        ensures next { result.next ≡ Some span.oldest }
-        ensures newest { result.newest ≡ span.newest }
-        ensures job_error { result.job_error ≡ None }
+impl<'a, F: DayFiles + Drop> FolderIn<'a, F> {
+    fn day(&self, number: u32) -> Result<DayIn<Journal<'a, F::File>>, JobError>
+        ensures given { (texts : FolderText) → F.files self.now.folder ≡ Some texts
+            → IfOk result (IsGiven (λ j. F.File.remaining j.input.reader) (day_in texts self.now.config number)) }
+        ensures refused { IfErr result (Refuses 1) }
     {
-        FolderIn {
-            rt,
-            folder,
-            config,
-            next: Some(span.oldest),
-            newest: span.newest,
-            job_error: None,
-        }
-    }
-
-    /// Returns the number of the next day, and goes on by one day. Returns `None` after the newest day.
-    fn turn(&mut self) -> Option<u32>
-        ensures day { result ≡ self.old.next }
-        ensures next { self.new.next ≡ turn self.old.next self.old.newest }
-        ensures newest { self.new.newest ≡ self.old.newest }
-    {
-        let number = self.next?;
-        self.next = day_after(number, self.newest);
-        Some(number)
-    }
-
-    fn day(&self, number: u32) -> Result<DayIn<Journal<'a>>, JobError>
-        ensures { IfErr result (Refuses 1) }
-    {
-        let config = match kept_config(self.rt, self.folder, number)? {
-            Some(kept) => kept,
-            None => self.config.copied(self.rt.alloc())?,
-        };
+        let config = self.config(number)?;
         let opening = self.opening(number)?;
         let journal = self.journal(number)?;
         Ok(DayIn {
@@ -89,48 +65,66 @@ impl<'a> FolderIn<'a> {
         })
     }
 
-    fn opening(&self, number: u32) -> Result<Option<Vec<u8>>, JobError>
-        ensures { IfErr result (Refuses 1) }
+    fn config(&self, number: u32) -> Result<Config, JobError>
+        ensures own { (texts : FolderText) → F.files self.now.folder ≡ Some texts
+            → IfOk result (IsConfigOf self.now.config (own_config (file_of texts number Part.Config))) }
+        ensures refused { IfErr result (Refuses 1) }
     {
-        if !self.folder.has(self.rt, number, Part::Opening)? {
-            return Ok(None);
+        match own_config(self.rt, &self.folder, number)? {
+            Some(own) => Ok(own),
+            None => Ok(self.config.copied(self.rt.alloc())?),
         }
-        let path = self.folder.file(self.rt, number, Part::Opening)?;
-        match opening_bytes(self.rt, &path, regular_source_of(self.rt, &path)?) {
+    }
+
+    fn opening(&self, number: u32) -> Result<Option<Vec<u8>>, JobError>
+        ensures bytes { (texts : FolderText) → F.files self.now.folder ≡ Some texts → IfOk result (λ opening.
+            option_map (λ bytes. bytes.items) opening ≡ file_of texts number Part.Opening) }
+        ensures refused { IfErr result (Refuses 1) }
+    {
+        let Some(source) = self.folder.open(self.rt, number, Part::Opening)? else {
+            return Ok(None);
+        };
+        let path = self
+            .folder
+            .as_folder()
+            .file(self.rt, number, Part::Opening)?;
+        match opening_bytes(self.rt, &path, source) {
             Ok(bytes) => Ok(Some(bytes)),
             Err(job_error) => Err(job_error),
         }
     }
 
-    fn journal(&self, number: u32) -> Result<Option<Journal<'a>>, JobError>
-        ensures { IfErr result (Ends 3 []) }
+    fn journal(&self, number: u32) -> Result<Option<Journal<'a, F::File>>, JobError>
+        ensures text { (texts : FolderText) → F.files self.now.folder ≡ Some texts → IfOk result (λ journal.
+            option_map (λ j. F.File.remaining j.input.reader) journal
+            ≡ option_map (λ text. Some text) (file_of texts number Part.Journal)) }
+        ensures refused { IfErr result (Ends 3 []) }
     {
-        let path = self.folder.file(self.rt, number, Part::Journal)?;
-        match Source::open_regular(self.rt, &path) {
-            Ok(source) => {
+        match self.folder.open(self.rt, number, Part::Journal)? {
+            Some(source) => {
                 let size = source.size();
                 Ok(Some(watch(self.rt, source, size)))
             }
-            Err(error) if error.kind() == ErrorKind::NotFound => Ok(None),
-            Err(error) => Err(JobError::of_file(self.rt.alloc(), &path, &error)),
+            None => Ok(None),
         }
     }
 }
 
-impl<'a> DaysIn for FolderIn<'a> {
-    type Journal = Journal<'a>;
+impl<'a, F: DayFiles + Drop> DaysIn for FolderIn<'a, F> {
+    type Journal = Journal<'a, F::File>;
 
-    ghost use Rattle.std.specs.Prelude.{IsSome, None};
+    ghost use Rattle.std.specs.Prelude.{IsSome, option_map};
+    ghost use Rattle.file_jobs.specs.Chained.{days_left};
 
-    /// For proofs: the days that remain aren't known, since no contract knows what the files of a folder hold.
-    ghost remaining = { λ _. None };
+    ghost remaining = { λ s. option_map (λ texts. days_left texts s.config s.next s.newest) (F.files s.folder) };
 
     ghost failed = { λ s. IsSome s.job_error };
 
-    fn next_day(&mut self) -> Result<Option<DayIn<Journal<'a>>>, NoDay> {
-        let Some(number) = self.turn() else {
+    fn next_day(&mut self) -> Result<Option<DayIn<Journal<'a, F::File>>>, NoDay> {
+        let Some(number) = self.next else {
             return Ok(None);
         };
+        self.next = day_after(number, self.newest);
         match self.day(number) {
             Ok(day) => Ok(Some(day)),
             Err(job_error) => {
@@ -150,22 +144,41 @@ pub fn audit_folder(rt: &HostRuntime, path: &str, word: &str) -> Result<(), JobE
     let folder = Folder::named(rt, path)?;
     let text = text_of(rt, word)?;
     let settings = settings_in(rt, word, &text)?;
-    match folder.span(rt)? {
-        Some(span) => audit_span(rt, folder, settings.config, span),
-        None => Err(refuse_folder(rt.alloc(), folder)),
+    match audit_in(rt, folder, settings.config) {
+        Ok(chained) => printed(rt.alloc(), println!(rt; "{chained}")),
+        Err(job_error) => Err(job_error),
     }
 }
 
-/// Audits the days of a folder from its oldest to its newest, and prints that they are legal. The error is that a day
-/// can't be read or is refused.
-fn audit_span(
+/// Audits all days of a folder, from its oldest to its newest. `config` is the configuration for the days that have
+/// none in the folder. The error is that a day can't be read or is refused, or that the folder has no day.
+pub fn audit_in<F: DayFiles + Drop>(
     rt: &HostRuntime,
-    folder: Folder<'_>,
+    folder: F,
+    config: Config,
+) -> Result<Chained, JobError>
+    ensures { (texts : FolderText) → F.files folder ≡ Some texts → IfOk result (AreLegal texts config) }
+{
+    match folder.span(rt)? {
+        Some(span) => audit_span(rt, folder, config, span),
+        None => Err(refuse_folder(rt.alloc(), folder.as_folder())),
+    }
+}
+
+/// Audits the days of a folder from its oldest to its newest. The error is that a day can't be read or is refused.
+fn audit_span<F: DayFiles + Drop>(
+    rt: &HostRuntime,
+    folder: F,
     config: Config,
     span: Span,
-) -> Result<(), JobError> {
+) -> Result<Chained, JobError>
+    ensures chain { (texts : FolderText) → F.files folder ≡ Some texts → IfOk result (λ chained.
+        IsChain span.oldest (days_left texts config (Some span.oldest) span.newest) chained.entries) }
+    ensures days { (texts : FolderText) → F.files folder ≡ Some texts → IfOk result (λ chained.
+        chained.days ≡ length (days_left texts config (Some span.oldest) span.newest)) }
+{
     if span.oldest > 1 {
-        let (path, oldest) = (folder.path, span.oldest);
+        let (path, oldest) = (folder.as_folder().path, span.oldest);
         print_message(
             rt,
             &format_args!(
@@ -173,36 +186,43 @@ fn audit_span(
             ),
         );
     }
-    let mut days = FolderIn::new(rt, folder, config, span);
+    let mut days = FolderIn {
+        rt,
+        folder,
+        config,
+        next: Some(span.oldest),
+        newest: span.newest,
+        job_error: None,
+    };
     match audit_days(rt.alloc(), span.oldest, &mut days) {
-        Ok(chained) => printed(rt.alloc(), println!(rt; "{chained}")),
+        Ok(chained) => Ok(chained),
         Err(fault) => Err(refuse_days(rt, days, fault)?),
     }
 }
 
 /// Returns the error of a job for which the days of a folder are refused. If a day couldn't be read, that is
 /// `days.job_error`. The `AllocError` means that memory ran out.
-fn refuse_days(
+fn refuse_days<F: DayFiles + Drop>(
     rt: &HostRuntime,
-    days: FolderIn<'_>,
-    fault: DaysFault<Journal<'_>>,
+    days: FolderIn<'_, F>,
+    fault: DaysFault<Journal<'_, F::File>>,
 ) -> Result<JobError, AllocError>
     ensures { IfOk result (RefusesDays fault.entry.day fault.entry.cause days.entry.job_error) }
 {
     let DaysFault { day, cause } = fault;
-    let opening = days.folder.file(rt, day, Part::Opening)?;
-    let journal = days.folder.file(rt, day, Part::Journal)?;
+    let opening = days.folder.as_folder().file(rt, day, Part::Opening)?;
+    let journal = days.folder.as_folder().file(rt, day, Part::Journal)?;
     Ok(refuse_cause(rt, days, day, (&opening, &journal), cause))
 }
 
 /// Returns the error of a job for which the days of a folder are refused at this day. `paths` names the day's opening
 /// and its journal. If the day couldn't be read, the error is `days.job_error`.
-fn refuse_cause(
+fn refuse_cause<F: DayFiles + Drop>(
     rt: &HostRuntime,
-    days: FolderIn<'_>,
+    days: FolderIn<'_, F>,
     day: u32,
     paths: (&str, &str),
-    cause: Cause<Journal<'_>>,
+    cause: Cause<Journal<'_, F::File>>,
 ) -> JobError
     ensures { RefusesDays day cause.entry days.entry.job_error result }
 {
@@ -210,7 +230,7 @@ fn refuse_cause(
     let alloc = rt.alloc();
     match cause {
         // This case never happens: the folder had a day when it was read.
-        Cause::NoDays => refuse_folder(alloc, days.folder),
+        Cause::NoDays => refuse_folder(alloc, days.folder.as_folder()),
         Cause::Unread => days.job_error.unwrap_or(JobError::OutOfMemory),
         Cause::NoNextOpening(NoNextOpening::NoJournal) => {
             refuse_link(alloc, Place::of(journal), day, &"the day has no journal")
@@ -325,7 +345,11 @@ fn refuse_unbegun(alloc: Global, opening: &str, day: u32, why: Unbegun) -> JobEr
 }
 
 /// Makes the error for a day whose journal is refused or can't be read.
-fn refuse_unclosed(alloc: Global, path: &str, why: Unclosed<Journal<'_>>) -> JobError
+fn refuse_unclosed<R: FileIn + Drop>(
+    alloc: Global,
+    path: &str,
+    why: Unclosed<Journal<'_, R>>,
+) -> JobError
     ensures { RefusesJournal why.entry result }
 {
     match why {

@@ -15,7 +15,7 @@ use site_core::Config;
 use site_files::files::{lines_in, name_of, stream, too_long};
 use site_files::messages::print_message;
 use site_files::settings::{day_and, settings_in};
-use site_files::{FAILED, JobError, Place, REFUSED, SiteFiles, Source};
+use site_files::{FAILED, FileIn, JobError, Place, REFUSED, SiteFiles, Source};
 use std::alloc::Global;
 use std::io::{self, IsTerminal};
 use till_request::LineFault;

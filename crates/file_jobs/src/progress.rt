@@ -1,9 +1,10 @@
 //! The progress line of a long job: how many lines are read. It is shown on standard error, if that is a terminal.
+ghost use Rattle.std.specs.Prelude.{◌≡◌};
+
 use memchr::memchr_iter;
-use site_files::Source;
 use site_files::files::stream;
 use std::cell::Cell;
-use std::io::IsTerminal;
+use std::io::{IsTerminal, Read};
 use std::time::Instant;
 use till_request::devices::StreamIn;
 use till_request::{DeviceFault, LineIn};
@@ -134,11 +135,13 @@ pub struct Watched<'a, I: LineIn> {
 }
 
 /// Makes a device that reads from `source` and shows a progress line. `size` is the number of bytes, if that is known.
-pub fn watch<'a>(
+pub fn watch<'a, R: Read + Drop>(
     rt: &'a HostRuntime,
-    source: Source,
+    source: R,
     size: Option<u64>,
-) -> Watched<'a, StreamIn<Source>> {
+) -> Watched<'a, StreamIn<R>>
+    ensures { result.input.reader ≡ source }
+{
     Watched {
         input: stream(source),
         progress: Progress::new(rt, true, size),

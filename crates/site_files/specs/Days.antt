@@ -1,11 +1,16 @@
 -- Definitions: the names of a day's files, the days that a folder has, and how a day begins (source: this project). A
 -- file's name begins with the day's number: six digits, such as `000002`, or more if the number needs more.
-use Rattle.std.specs.Prelude.{◌≡◌, ℕ, ◌+◌, ◌-◌, ◌==◌, ◌||◌, List, [], ◌∷◌, ◌++◌, length, codes, decimal, replicate, min, max, nat_lt, Bool, Option, Some, None, bytes_eq, if◌then◌else◌}
+use Rattle.std.specs.Prelude.{◌≡◌, ◌≢◌, ◌⊎◌, ℕ, ◌+◌, ◌-◌, ◌==◌, ◌||◌, List, [], ◌∷◌, ◌++◌, length, codes, decimal, replicate, fold, min, max, nat_lt, Bool, false}
+use Rattle.std.specs.Prelude.{Option, Some, None, option_map, Result, Ok, Err, bytes_eq, if◌then◌else◌}
 use Rattle.std.specs.List.{before_first, after_first}
-use Rattle.std.specs.Result.{result_ok}
+use Rattle.std.specs.Map.{lookup}
+use Rattle.std.specs.Result.{result_map_both, result_ok}
 use Rattle.till_request.specs.Grammar.{number}
 use Rattle.site_core.specs.Limits.{ConfigValue}
 use Rattle.days.specs.declared.file.OpeningFile.{OpeningFile}
+use Rattle.site_config.specs.Ranges.{config_of}
+use Rattle.site_config.specs.declared.fault.ConfigFault.{ConfigFault}
+use Rattle.days.specs.Chain.{BeginsBy}
 use Rattle.days.specs.File.{IsOpeningFile}
 use Rattle.days.specs.Fitting.{BeginsWith}
 use Rattle.site_files.specs.declared.folder.Part.{Part}
@@ -13,6 +18,10 @@ use Rattle.site_files.specs.declared.folder.Part.TheVariants as part
 use Rattle.site_files.specs.declared.folder.Span.{Span}
 use Rattle.site_files.specs.declared.newest.DayToServe.{DayToServe}
 use Rattle.site_files.specs.declared.newest.DayToServe.TheVariants as going
+
+abbrev pub is_written : Option (List ℕ) → Bool
+is_written None = false
+is_written (Some text) = nat_lt 0 (length text)
 
 abbrev pub ending_of : Part → List ℕ
 ending_of part.Config = codes "toml"
@@ -22,9 +31,20 @@ ending_of part.Journal = codes "journal"
 abbrev pub six_digits : ℕ → List ℕ
 six_digits day = replicate (6 - length (decimal day)) 48 ++ decimal day
 
--- the path of a day's file: the folder, `/`, the day's number, `.`, and the ending
+-- the name of a day's file: the day's number, `.`, and the ending
+abbrev pub file_name : ℕ → Part → List ℕ
+file_name day part = six_digits day ++ (46 ∷ ending_of part)
+
 abbrev pub path_of : List ℕ → ℕ → Part → List ℕ
-path_of folder day part = folder ++ (47 ∷ (six_digits day ++ (46 ∷ ending_of part)))
+path_of folder day part = folder ++ (47 ∷ file_name day part)
+
+-- A folder of days as a value: the name and the bytes of each file.
+abbrev pub FolderText : Type 0
+FolderText = List (List ℕ × List ℕ)
+
+-- the bytes of a day's file, or None if the folder has no such file
+abbrev pub file_of : FolderText → ℕ → Part → Option (List ℕ)
+file_of folder day part = lookup (bytes_eq (file_name day part)) folder
 
 -- digits without the zeros in front
 abbrev pub without_zeros : List ℕ → List ℕ
@@ -67,9 +87,38 @@ abbrev pub with_found : Option Span → Option ℕ → Option Span
 with_found span None = span
 with_found span (Some day) = Some (with_day span day)
 
+-- the oldest and the newest of the days that have a journal or an opening, or None if there is no such day
+abbrev pub span_of : FolderText → Option Span
+span_of folder = fold (λ span file. with_found span (day_named file.0)) None folder
+
 -- the day after `day`, or None if `day` isn't before the day `newest`
 abbrev pub day_after : ℕ → ℕ → Option ℕ
 day_after day newest = if nat_lt day newest then Some (day + 1) else None
+
+-- `day` is the day to serve. The day after a day is served only once that day is closed, and it isn't if it has no entry.
+abbrev pub IsServed : DayToServe → ℕ → Type 0
+IsServed (going.This n) day = day ≡ n
+IsServed (going.After n) day = (day ≡ n) ⊎ (day ≡ n + 1)
+
+-- the configuration in the text of a day's file, or the fault of that text; None if the day has no such file
+abbrev pub own_config : Option (List ℕ) → Option (Result ConfigValue ConfigFault)
+own_config file = option_map (λ text. result_map_both (λ settings. settings.config) (λ fault. fault) (config_of text)) file
+
+-- The configuration that a day keeps. A day without an entry keeps none: its journal is missing or empty.
+abbrev pub kept_config : FolderText → ℕ → Option (Result ConfigValue ConfigFault)
+kept_config folder day = if is_written (file_of folder day part.Journal) then own_config (file_of folder day part.Config) else None
+
+-- `config` is this configuration of a day, or `given` for a day that has none. A day with one that is refused has none.
+abbrev pub IsConfigOf : ConfigValue → Option (Result ConfigValue ConfigFault) → ConfigValue → Type 0
+IsConfigOf given None config = config ≡ given
+IsConfigOf given (Some own) config = own ≡ Ok config
+
+-- A site goes on with day `day` of a folder, and then has the configuration `begun`: the one that the day keeps, or
+-- `given`, with the day's opening in it. Day 1 begins without an opening.
+abbrev pub GoesOn : FolderText → ConfigValue → ℕ → ConfigValue → Type 0
+GoesOn folder given day begun =
+    (config : ConfigValue) × IsConfigOf given (kept_config folder day) config
+    × (day ≡ 1 → begun ≡ config) × (day ≢ 1 → BeginsBy day config (file_of folder day part.Opening) begun)
 
 -- A site with the configuration `config` begins day `day` with an opening of that day, and then has the configuration
 -- `begun`.

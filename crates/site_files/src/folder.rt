@@ -6,7 +6,7 @@ ghost use Rattle.site_files.specs.JobErrors.{Ends};
 ghost use Rattle.site_files.specs.Days.{ending_of, path_of, without_zeros, day_of, shows_day, day_named, with_day};
 ghost use Rattle.site_files.specs.Days.{with_found, day_after};
 
-use crate::files::{Source, is_input, open_regular, read_all};
+use crate::files::{FileIn, Source, is_input, open_regular, read_all};
 use crate::job_error::{JobError, at_file};
 use crate::statuses::USAGE;
 use std::alloc::AllocError;
@@ -77,27 +77,6 @@ impl<'a> Folder<'a> {
     {
         let path = self.file(rt, day, part)?;
         at_file(rt.alloc(), &path, fs::exists(rt, path.as_str()))
-    }
-
-    /// Returns whether the folder has the file `part` of this day, and the file isn't empty. The error is that this
-    /// can't be found out.
-    pub(crate) fn has_bytes(self, rt: &HostRuntime, day: u32, part: Part) -> Result<bool, JobError>
-        ensures { IfErr result (Ends 3 []) }
-    {
-        let path = self.file(rt, day, part)?;
-        match fs::metadata(rt, path.as_str()) {
-            Ok(metadata) => Ok(metadata.len() > 0),
-            Err(error) if error.kind() == ErrorKind::NotFound => Ok(false),
-            Err(error) => Err(JobError::of_file(rt.alloc(), &path, &error)),
-        }
-    }
-
-    /// Returns the oldest and the newest of the days that have a journal or an opening in the folder, or `None` if
-    /// there is no such day. The error is that the folder can't be read.
-    pub fn span(self, rt: &HostRuntime) -> Result<Option<Span>, JobError>
-        ensures { IfErr result (Ends 3 []) }
-    {
-        at_file(rt.alloc(), self.path, span_of(rt, self.path))
     }
 
     /// Writes files of days: writes and syncs all of them under other names, and then renames one after another in this
@@ -177,6 +156,60 @@ impl<'a> Folder<'a> {
         ensures { IfErr result (Ends 3 []) }
     {
         at_file(rt.alloc(), self.path, synced(rt, self.path))
+    }
+}
+
+/// A folder of days, as it is read.
+pub trait DayFiles {
+    type File: FileIn + Drop;
+
+    ghost use Rattle.std.specs.Prelude.{◌≡◌, [], List, ℕ, Option, Some, IfOk, IfErr, option_map};
+    ghost use Rattle.site_files.specs.JobErrors.{Ends};
+    ghost use Rattle.site_files.specs.Days.{FolderText, file_of, span_of};
+
+    /// For proofs: the folder's files, or `None` if proofs don't know them.
+    ghost files: { Self → Option FolderText };
+
+    /// Returns the folder that messages name, and in which a day is closed.
+    fn as_folder(&self) -> Folder<'_>;
+
+    /// Returns the oldest and the newest of the days that have a journal or an opening, or `None` if there is no such
+    /// day. The error is that the folder can't be read.
+    fn span(&self, rt: &HostRuntime) -> Result<Option<Span>, JobError>
+        ensures span { (texts : FolderText) → files self.now ≡ Some texts → IfOk result (λ span. span ≡ span_of texts) }
+        ensures refused { IfErr result (Ends 3 []) };
+
+    /// Opens the file `part` of this day. Returns `None` if there is no such file. The error is that it can't be opened,
+    /// or isn't a regular file.
+    fn open(&self, rt: &HostRuntime, day: u32, part: Part) -> Result<Option<Self::File>, JobError>
+        ensures file { (texts : FolderText) → files self.now ≡ Some texts → IfOk result (λ file.
+            option_map Self.File.remaining file ≡ option_map (λ text. Some text) (file_of texts day part)) }
+        ensures refused { IfErr result (Ends 3 []) };
+}
+
+impl DayFiles for Folder<'_> {
+    type File = Source;
+
+    ghost use Rattle.std.specs.Prelude.{None};
+
+    /// For proofs: no contract knows what the system's files hold.
+    ghost files = { λ _. None };
+
+    fn as_folder(&self) -> Folder<'_> {
+        *self
+    }
+
+    fn span(&self, rt: &HostRuntime) -> Result<Option<Span>, JobError> {
+        at_file(rt.alloc(), self.path, span_of(rt, self.path))
+    }
+
+    fn open(&self, rt: &HostRuntime, day: u32, part: Part) -> Result<Option<Source>, JobError> {
+        let path = self.file(rt, day, part)?;
+        match Source::open_regular(rt, &path) {
+            Ok(source) => Ok(Some(source)),
+            Err(error) if error.kind() == ErrorKind::NotFound => Ok(None),
+            Err(error) => Err(JobError::of_file(rt.alloc(), &path, &error)),
+        }
     }
 }
 

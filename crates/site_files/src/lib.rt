@@ -22,8 +22,8 @@ pub mod settings;
 mod statuses;
 
 pub use file_flaws::FileFlaw;
-pub use files::{Outlet, Source};
-pub use folder::{DayFile, Folder, Part, Span, day_after};
+pub use files::{FileIn, Outlet, Source};
+pub use folder::{DayFile, DayFiles, Folder, Part, Span, day_after};
 pub use job_error::JobError;
 pub use journal_reasons::JournalFlaw;
 pub use kept::Kept;

@@ -1,11 +1,13 @@
 //! Closes the newest day of a station, or continues with it.
-ghost use Rattle.std.specs.Prelude.{◌≡◌, ◌≢◌, ◌⊎◌, ◌+◌, ◌++◌, Ok, [], false, IfOk, IfErr, codes};
+ghost use Rattle.std.specs.Prelude.{◌≡◌, ◌≢◌, ◌⊎◌, ◌+◌, ◌++◌, Ok, Some, [], false, IfOk, IfErr, codes, is_some, option_map};
 ghost use Rattle.std.specs.Fmt.{decimal};
 ghost use Rattle.site_files.specs.JobErrors.{Ends, EndsOrRunsOut, Refuses};
-ghost use Rattle.site_files.specs.Days.{day_to_serve, BeginsDay};
+ghost use Rattle.days.specs.Chain.{BeginsBy};
+ghost use Rattle.site_files.specs.Days.{day_to_serve, BeginsDay, FolderText, GoesOn, IsServed};
+ghost use Rattle.site_files.specs.Days.{IsConfigOf, file_of, is_written, kept_config, own_config, span_of};
 
-use crate::files::{regular_source_of, text_in};
-use crate::folder::{DayFile, Folder, Part, Span, day_after};
+use crate::files::text_in;
+use crate::folder::{DayFile, DayFiles, Folder, Part, Span, day_after};
 use crate::job_error::{JobError, at_file};
 use crate::kept::{Kept, close_journal};
 use crate::messages::{Place, print_message};
@@ -17,6 +19,7 @@ use days::{Closed, Uncarried};
 use site_core::{Config, OpeningFault};
 use std::alloc::{AllocError, Global};
 use std::fmt::{self, Display};
+use std::io::Read;
 
 /// The newest day of a folder: the configuration with which its site begins, and whether the day keeps a configuration
 /// that the folder has.
@@ -34,27 +37,27 @@ pub struct Newest {
 /// folder, or whose journal is missing or empty. Any other day keeps the configuration that it has in the folder; if the
 /// two differ, this prints so. The error is that a file can't be used or is refused, or that the next day has begun
 /// already.
-pub fn newest_day(
+pub fn newest_day<F: DayFiles>(
     rt: &HostRuntime,
-    folder: Folder<'_>,
+    folder: &F,
     word: &str,
     text: &[u8],
     given: Config,
     is_new_day: bool,
 ) -> Result<Newest, JobError>
+    ensures number { (texts : FolderText) → F.files folder.now ≡ Some texts
+        → IfOk result (λ newest. IsServed (day_to_serve (span_of texts) is_new_day) newest.number) }
+    ensures begun { (texts : FolderText) → F.files folder.now ≡ Some texts
+        → IfOk result (λ newest. GoesOn texts given newest.number newest.config) }
+    ensures kept { (texts : FolderText) → F.files folder.now ≡ Some texts
+        → IfOk result (λ newest. newest.is_kept ≡ is_some (kept_config texts newest.number)) }
     ensures first { IfOk result (λ newest. newest.is_kept ≡ false → newest.number ≡ 1 → newest.config ≡ given) }
     ensures later { IfOk result
         (λ newest. newest.is_kept ≡ false → newest.number ≢ 1 → BeginsDay given newest.number newest.config) }
     ensures refused { IfErr result (Refuses 1) }
 {
     let number = number_of(rt, folder, &given, text, is_new_day)?;
-    let (config, is_kept) = match fixed_config(rt, folder, number)? {
-        Some(kept) => {
-            print_other_config(rt, folder, number, word, kept.is_same(&given))?;
-            (kept, true)
-        }
-        None => (given, false),
-    };
+    let (config, is_kept) = config_for(rt, folder, number, word, given)?;
     match begin_day(rt, folder, number, config) {
         Ok(config) => Ok(Newest {
             number,
@@ -62,6 +65,32 @@ pub fn newest_day(
             is_kept,
         }),
         Err(job_error) => Err(job_error),
+    }
+}
+
+/// Returns the configuration that the folder has for a day whose journal isn't empty, or else `given`, which `word`
+/// names, and whether it is the folder's. If the two differ, prints so. The error is that a file can't be used or is
+/// refused.
+fn config_for<F: DayFiles>(
+    rt: &HostRuntime,
+    folder: &F,
+    day: u32,
+    word: &str,
+    given: Config,
+) -> Result<(Config, bool), JobError>
+    ensures config { (texts : FolderText) → F.files folder.now ≡ Some texts
+        → IfOk result (λ c. IsConfigOf given (kept_config texts day) c.0) }
+    ensures kept { (texts : FolderText) → F.files folder.now ≡ Some texts
+        → IfOk result (λ c. c.1 ≡ is_some (kept_config texts day)) }
+    ensures given { IfOk result (λ c. c.1 ≡ false → c.0 ≡ given) }
+    ensures refused { IfErr result (Refuses 1) }
+{
+    match kept_config(rt, folder, day)? {
+        Some(kept) => {
+            print_other_config(rt, folder.as_folder(), day, word, kept.is_same(&given))?;
+            Ok((kept, true))
+        }
+        None => Ok((given, false)),
     }
 }
 
@@ -119,20 +148,22 @@ fn day_to_serve(span: Option<Span>, is_new_day: bool) -> DayToServe
 /// The configuration `given`, whose text is `text`, is used if the folder has none for the day to close, or if that
 /// day's journal is missing or empty. The error is that a file can't be used or is refused, or that the next day has
 /// begun already.
-fn number_of(
+fn number_of<F: DayFiles>(
     rt: &HostRuntime,
-    folder: Folder<'_>,
+    folder: &F,
     given: &Config,
     text: &[u8],
     is_new_day: bool,
 ) -> Result<u32, JobError>
-    ensures { IfErr result (Refuses 1) }
+    ensures served { (texts : FolderText) → F.files folder.now ≡ Some texts
+        → IfOk result (IsServed (day_to_serve (span_of texts) is_new_day)) }
+    ensures refused { IfErr result (Refuses 1) }
 {
     let newest = match day_to_serve(folder.span(rt)?, is_new_day) {
         DayToServe::This(day) => return Ok(day),
         DayToServe::After(newest) => newest,
     };
-    let (config, day) = match fixed_config(rt, folder, newest)? {
+    let (config, day) = match kept_config(rt, folder, newest)? {
         Some(kept) => (kept, None),
         None => (given.copied(rt.alloc())?, Some(text)),
     };
@@ -149,18 +180,20 @@ struct ConfigTexts<'a> {
 
 /// Returns the configuration that a folder has for a day, or `None` if it has none. The error is that the file can't be
 /// read or is refused.
-pub fn kept_config(
+pub fn own_config<F: DayFiles>(
     rt: &HostRuntime,
-    folder: Folder<'_>,
+    folder: &F,
     day: u32,
 ) -> Result<Option<Config>, JobError>
-    ensures { IfErr result (Refuses 1) }
+    ensures own { (texts : FolderText) → F.files folder.now ≡ Some texts → IfOk result (λ own.
+        option_map (λ config. Ok config) own ≡ own_config (file_of texts day Part.Config)) }
+    ensures refused { IfErr result (Refuses 1) }
 {
-    if !folder.has(rt, day, Part::Config)? {
+    let Some(source) = folder.open(rt, day, Part::Config)? else {
         return Ok(None);
-    }
-    let path = folder.file(rt, day, Part::Config)?;
-    let text = text_in(rt, &path, regular_source_of(rt, &path)?)?;
+    };
+    let path = folder.as_folder().file(rt, day, Part::Config)?;
+    let text = text_in(rt, &path, source)?;
     match settings_in(rt, &path, &text) {
         Ok(settings) => Ok(Some(settings.config)),
         Err(job_error) => Err(job_error),
@@ -170,25 +203,49 @@ pub fn kept_config(
 /// Returns the configuration that the folder has for a day whose journal isn't empty. Returns `None` if the folder has
 /// none, or if the journal is missing or empty: then the day can still get another configuration. The error is that a
 /// file can't be used or is refused.
-fn fixed_config(rt: &HostRuntime, folder: Folder<'_>, day: u32) -> Result<Option<Config>, JobError>
-    ensures { IfErr result (Refuses 1) }
+fn kept_config<F: DayFiles>(
+    rt: &HostRuntime,
+    folder: &F,
+    day: u32,
+) -> Result<Option<Config>, JobError>
+    ensures kept { (texts : FolderText) → F.files folder.now ≡ Some texts → IfOk result (λ kept.
+        option_map (λ config. Ok config) kept ≡ kept_config texts day) }
+    ensures refused { IfErr result (Refuses 1) }
 {
-    if folder.has_bytes(rt, day, Part::Journal)? {
-        kept_config(rt, folder, day)
+    if is_written(rt, folder, day)? {
+        own_config(rt, folder, day)
     } else {
         Ok(None)
+    }
+}
+
+/// Returns whether a day has a journal that isn't empty. The error is that the file can't be used.
+fn is_written<F: DayFiles>(rt: &HostRuntime, folder: &F, day: u32) -> Result<bool, JobError>
+    ensures written { (texts : FolderText) → F.files folder.now ≡ Some texts
+        → IfOk result (λ written. written ≡ is_written (file_of texts day Part.Journal)) }
+    ensures refused { IfErr result (Ends 3 []) }
+{
+    let Some(mut source) = folder.open(rt, day, Part::Journal)? else {
+        return Ok(false);
+    };
+    let path = folder.as_folder().file(rt, day, Part::Journal)?;
+    match at_file(rt.alloc(), &path, source.read(&mut [0])) {
+        Ok(count) => Ok(count > 0),
+        Err(job_error) => Err(job_error),
     }
 }
 
 /// Reads the opening that the folder has for day `number`, and returns `config` with this opening in it. For day 1,
 /// returns `config` as it is. The error is that the opening is missing, can't be read, is refused, doesn't fit `config`
 /// or belongs to another day.
-fn begin_day(
+fn begin_day<F: DayFiles>(
     rt: &HostRuntime,
-    folder: Folder<'_>,
+    folder: &F,
     number: u32,
     config: Config,
 ) -> Result<Config, JobError>
+    ensures opening { (texts : FolderText) → F.files folder.now ≡ Some texts → number ≢ 1
+        → IfOk result (BeginsBy number config (file_of texts number Part.Opening)) }
     ensures first { number ≡ 1 → result ≡ Ok config }
     ensures later { number ≢ 1 → IfOk result (BeginsDay config number) }
     ensures refused { IfErr result (Refuses 1) }
@@ -196,11 +253,11 @@ fn begin_day(
     if number == 1 {
         return Ok(config);
     }
-    let path = folder.file(rt, number, Part::Opening)?;
-    if !folder.has(rt, number, Part::Opening)? {
+    let path = folder.as_folder().file(rt, number, Part::Opening)?;
+    let Some(source) = folder.open(rt, number, Part::Opening)? else {
         return Err(refuse_link(rt.alloc(), Place::of(&path), number, &UNOPENED));
-    }
-    let (config, of) = begin_with(rt, &path, regular_source_of(rt, &path)?, config)?;
+    };
+    let (config, of) = begin_with(rt, &path, source, config)?;
     if of != number {
         return Err(refuse_link(rt.alloc(), Place::of(&path), number, &OfDay(of)));
     }
@@ -237,9 +294,9 @@ impl Display for OfDay {
 /// Closes day `number`, unless it has no entry. Returns the number of the day that is then the newest. `config` is the
 /// configuration of the day's site, without an opening. `texts` are the configurations that closing the day also writes
 /// into the folder. The error is that a file can't be used or is refused, or that the next day has begun already.
-fn close_day(
+fn close_day<F: DayFiles>(
     rt: &HostRuntime,
-    folder: Folder<'_>,
+    folder: &F,
     number: u32,
     config: Config,
     texts: ConfigTexts<'_>,
@@ -247,11 +304,11 @@ fn close_day(
     ensures newest { IfOk result (λ newest. (newest ≡ number) ⊎ (newest ≡ number + 1)) }
     ensures refused { IfErr result (Refuses 1) }
 {
-    let path = folder.file(rt, number, Part::Journal)?;
+    let path = folder.as_folder().file(rt, number, Part::Journal)?;
     let config = begin_day(rt, folder, number, config)?;
     // The day's journal stays locked until the opening of the next day is written.
     let closing = close_journal(rt, &config, &path)?;
-    put_close(rt, folder, number, &closing, texts)
+    put_close(rt, folder.as_folder(), number, &closing, texts)
 }
 
 /// Finishes the close of day `number`, unless it has no entry. Returns the number of the day that is then the newest.

@@ -1,17 +1,20 @@
 //! Reads the opening that a site begins with, and checks that it fits the site's configuration. Says why an opening is
 //! refused.
-ghost use Rattle.std.specs.Prelude.{◌≡◌, ◌≢◌, ◌≤◌, ◌++◌, ◌∷◌, [], decimal, IfOk, IfErr, vec_len};
+ghost use Rattle.std.specs.Prelude.{◌≡◌, ◌≢◌, ◌≤◌, ◌++◌, ◌∷◌, ℕ, List, [], Some, decimal, IfOk, IfErr, vec_len};
 ghost use Rattle.reg_types.specs.Refusals.{refusal_numbers};
 ghost use Rattle.site_files.specs.AuditOutput.{program_text};
+ghost use Rattle.days.specs.Chain.{BeginsBy};
 ghost use Rattle.days.specs.File.{IsOpeningFile};
 ghost use Rattle.days.specs.Fitting.{BeginsWith};
+ghost use Rattle.days.specs.Ranges.{FileFits};
+ghost use Rattle.days.specs.Text.{opening_text};
 ghost use Rattle.site_files.specs.JobErrors.{Ends, EndsOrRunsOut, Refuses};
 ghost use Rattle.site_files.specs.Refusals.{RefusesOpening};
 ghost use Rattle.site_files.specs.Days.{BeginsDay};
 
 use crate::JournalFlaw;
 use crate::audit::refused_program_line;
-use crate::files::{Source, bytes_in};
+use crate::files::bytes_in;
 use crate::job_error::JobError;
 use crate::messages::Place;
 use crate::reasons::explain_refusal;
@@ -24,6 +27,7 @@ use site_config::Serve;
 use site_core::{Config, OpeningFault};
 use std::alloc::Global;
 use std::fmt::Display;
+use std::io::Read;
 
 /// The greatest number of bytes that an opening's file is allowed to have. An opening with the longest programs has
 /// some 150,000.
@@ -41,13 +45,15 @@ pub struct Day {
 /// Reads the opening that `source` gives, which reads the file that `word` names. Returns `config` with this opening in
 /// it, and the number of the opening's day. The error is that the opening can't be read, is refused or doesn't fit
 /// `config`.
-pub(crate) fn begin_with(
+pub(crate) fn begin_with<R: Read + Drop>(
     rt: &HostRuntime,
     word: &str,
-    source: Source,
+    source: R,
     config: Config,
 ) -> Result<(Config, u32), JobError>
     ensures begun { IfOk result (λ begun. BeginsDay config begun.1 begun.0) }
+    ensures text { (text : List ℕ) → R.remaining source ≡ Some text
+        → IfOk result (λ begun. BeginsBy begun.1 config (Some text) begun.0) }
     ensures refused { IfErr result (Refuses 1) }
 {
     let file = opening_in(rt, word, source)?;
@@ -60,9 +66,14 @@ pub(crate) fn begin_with(
 
 /// Returns the bytes of the opening that `source` gives, which reads the file that `word` names. The error is that they
 /// can't be read, or are more than `MOST_OPENING` (L1).
-pub fn opening_bytes(rt: &HostRuntime, word: &str, source: Source) -> Result<Vec<u8>, JobError>
+pub fn opening_bytes<R: Read + Drop>(
+    rt: &HostRuntime,
+    word: &str,
+    source: R,
+) -> Result<Vec<u8>, JobError>
     ensures limit { MOST_OPENING ≡ 262144 }
     ensures few { IfOk result (λ bytes. vec_len bytes ≤ MOST_OPENING) }
+    ensures all { (text : List ℕ) → R.remaining source ≡ Some text → IfOk result (λ bytes. bytes.items ≡ text) }
     ensures refused { IfErr result (Refuses 1) }
 {
     bytes_in(rt, word, source, MOST_OPENING, &"over 262,144 bytes")
@@ -70,8 +81,14 @@ pub fn opening_bytes(rt: &HostRuntime, word: &str, source: Source) -> Result<Vec
 
 /// Reads the opening that `source` gives, which reads the file that `word` names. The error is that it can't be read or
 /// is refused.
-fn opening_in(rt: &HostRuntime, word: &str, source: Source) -> Result<OpeningFile, JobError>
+fn opening_in<R: Read + Drop>(
+    rt: &HostRuntime,
+    word: &str,
+    source: R,
+) -> Result<OpeningFile, JobError>
     ensures good { IfOk result IsOpeningFile }
+    ensures fits { IfOk result FileFits }
+    ensures text { (text : List ℕ) → R.remaining source ≡ Some text → IfOk result (λ file. opening_text file ≡ text) }
     ensures refused { IfErr result (Refuses 1) }
 {
     let bytes = opening_bytes(rt, word, source)?;

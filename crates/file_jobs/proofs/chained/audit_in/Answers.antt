@@ -1,0 +1,19 @@
+use Rattle.std.proofs.Common.{◌≡◌, List, Option, Some, Result, Ok, Err, IfOk, length, sym, ◌∙◌}
+use Rattle.site_core.specs.Limits.{ConfigValue}
+use Rattle.days.specs.Chain.{IsChain}
+use Rattle.days.specs.declared.day.Chained.{Chained}
+use Rattle.site_files.specs.declared.folder.Span.{Span}
+use Rattle.site_files.specs.Days.{FolderText, span_of}
+use Rattle.file_jobs.specs.Chained.{AreLegal, days_left}
+use Rattle.file_jobs.proofs.chained.audit_in.Goals as goal
+
+legal : {E : Type 0} (texts : FolderText) (given : ConfigValue) (span : Span) (result : Result Chained E) → span_of texts ≡ Some span
+    → IfOk result (λ c. IsChain span.oldest (days_left texts given (Some span.oldest) span.newest) c.entries)
+    → IfOk result (λ c. c.days ≡ length (days_left texts given (Some span.oldest) span.newest)) → IfOk result (AreLegal texts given)
+legal texts given span (Ok chained) is chain days = (span, is, chain, days)
+legal texts given span (Err error) is chain days = chain
+
+pub returns-in-Some : goal.returns-in-Some
+returns-in-Some g c = λ texts known.
+    legal texts c.args.config c.in-Some.span c.audit_span.result (sym (c.in_ok-span.ensures.span texts known) ∙ c.in-Some.is)
+    (c.audit_span.ensures.chain texts known) (c.audit_span.ensures.days texts known)
