@@ -61,14 +61,14 @@ fn is_granted(answered: Result<Answered, CallFault>, number: u32) -> bool {
 }
 
 /// A gate that waits before it runs a draft. At its first call it sets `held` to 1 and waits until `let_go` is 1. At
-/// its second call it sets `held` to 2 and waits until `let_go` is 2, and so on. `in_time` becomes false if a wait
-/// takes too long.
+/// its second call it sets `held` to 2 and waits until `let_go` is 2, and so on. `is_well` becomes false if a wait
+/// takes too long, or if a draft is for another till than till 1.
 #[derive(Drop)]
 struct Holding<'a> {
     held: &'a AtomicU64,
     let_go: &'a AtomicU64,
     calls: u64,
-    in_time: bool,
+    is_well: bool,
 }
 
 /// Waits until `count` is `wanted`, and returns true. Gives up after 100,000,000 looks, and returns false.
@@ -89,18 +89,18 @@ impl Gate for Holding<'_> {
 
     ghost makes = { λ before _ after. RoseBy 1 before.calls after.calls };
 
-    fn run(&mut self, _till: u32, draft: Draft) -> Ready {
+    fn run(&mut self, till: u32, draft: Draft) -> Ready {
         self.calls = self.calls.wrapping_add(1);
         self.held.store(self.calls, Ordering::SeqCst);
-        self.in_time &= wait_for(self.let_go, self.calls);
+        self.is_well &= wait_for(self.let_go, self.calls) && till == 1;
         draft.run()
     }
 }
 
 /// Asks for a release as till 1. The gate of this request waits before it runs the rule, while the caller doesn't hold
 /// the site's lock. `other_calls` changes point 2 during each wait, so the gate's two runs are stale, and the request
-/// is then decided under the site's lock. Returns whether the gate was called twice, no wait took too long, and the
-/// request was granted as entry 6.
+/// is then decided under the site's lock. Returns whether the gate was called twice, each time for till 1, no wait took
+/// too long, and the request was granted as entry 6.
 fn held_call<L: SiteLedger, R: Wait>(
     rt: &R,
     forecourt: &Forecourt<L>,
@@ -112,10 +112,10 @@ fn held_call<L: SiteLedger, R: Wait>(
         held,
         let_go,
         calls: 0,
-        in_time: true,
+        is_well: true,
     };
     let answered = forecourt.request(rt, pass, &mut gate, 1, 0, Request::Release(1, 8000));
-    is_granted(answered, 6) && gate.calls == 2 && gate.in_time
+    is_granted(answered, 6) && gate.calls == 2 && gate.is_well
 }
 
 /// Changes point 2 twice, each time while the gate in `held_call` waits before it runs the rule for till 1's request.
