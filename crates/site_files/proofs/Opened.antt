@@ -1,5 +1,5 @@
 -- What holds of the bytes that an opened file gives holds of the folder's file.
-use Rattle.std.proofs.Common.{◌≡◌, ℕ, List, Option, Some, None, option_map, ap, refl, rules, subst}
+use Rattle.std.proofs.Common.{◌≡◌, ℕ, List, Option, Some, None, option_map, rules, subst}
 
 given : (known file : Option (List ℕ)) (P : Option (List ℕ) → Type 0) → Some known ≡ option_map (λ text. Some text) file
     → ((text : List ℕ) → known ≡ Some text → P (Some text)) → P file

@@ -1,7 +1,7 @@
 -- Definitions: the names of a day's files, the days that a folder has, and how a day begins (source: this project). A
 -- file's name begins with the day's number: six digits, such as `000002`, or more if the number needs more.
 use Rattle.std.specs.Prelude.{◌≡◌, ◌≢◌, ◌⊎◌, ℕ, ◌+◌, ◌-◌, ◌==◌, ◌||◌, List, [], ◌∷◌, ◌++◌, length, codes, decimal, replicate, fold, min, max, nat_lt, Bool, false}
-use Rattle.std.specs.Prelude.{Option, Some, None, option_map, Result, Ok, Err, bytes_eq, if◌then◌else◌}
+use Rattle.std.specs.Prelude.{Option, Some, None, option_map, Result, Ok, bytes_eq, if◌then◌else◌}
 use Rattle.std.specs.List.{before_first, after_first}
 use Rattle.std.specs.Map.{lookup}
 use Rattle.std.specs.Result.{result_map_both, result_ok}

@@ -1,4 +1,4 @@
-use Rattle.std.proofs.Common.{◌≡◌, subst, rules}
+use Rattle.std.proofs.Common.{subst}
 use Rattle.days.specs.Chain.{BeginsBy}
 use Rattle.site_files.specs.Days.{file_of}
 use Rattle.site_files.specs.declared.folder.Part.TheVariants as part
