@@ -5,7 +5,7 @@ use Rattle.till_request.specs.declared.act.LineFault.TheVariants.{BadLine}
 use Rattle.till_request.specs.declared.act.Role.TheVariants.{All}
 use Rattle.till_request.specs.Grammar.{◌>>=◌, template, fits, suits, allows, sender, all_forms, act_by, act_of_words}
 use Rattle.till_request.proofs.Fitting.{fits_count, not_true, find_none, between}
-use Rattle.file_jobs.specs.Script.{act_line, line_of_words}
+use Rattle.file_jobs.specs.Script.{line_of_words}
 use Rattle.file_jobs.specs.declared.script.ScriptLine.TheVariants as lines
 
 too_many : (ws : List (List ℕ)) → 5 < length ws → act_of_words All ws ≡ Err BadLine

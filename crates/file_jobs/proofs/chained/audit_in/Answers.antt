@@ -1,4 +1,4 @@
-use Rattle.std.proofs.Common.{◌≡◌, List, Option, Some, Result, Ok, Err, IfOk, length, sym, ◌∙◌}
+use Rattle.std.proofs.Common.{◌≡◌, Some, Result, Ok, Err, IfOk, length, sym, ◌∙◌}
 use Rattle.site_core.specs.Limits.{ConfigValue}
 use Rattle.days.specs.Chain.{IsChain}
 use Rattle.days.specs.declared.day.Chained.{Chained}
