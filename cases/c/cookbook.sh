@@ -15,6 +15,4 @@ awk -v rule="$1" -v room="$ROOM" '
     /^```$/ { wanted = 0 }
     wanted { print > (room "/wanted") }' docs/use/cookbook.md
 echo "$(cat "$ROOM/load") $(tr -d '\n' <"examples/c/$1.hex")" | cat - "$ROOM/lines" |
-    fc play examples/sites/cookbook.toml - >"$ROOM/answers"
-(echo 'the rule' && cat "$ROOM/lines") | paste -d '|' - "$ROOM/answers" | sed 's/|/: /' | diff - "$ROOM/wanted" &&
-    echo 'the same'
+    fc play examples/sites/cookbook.toml - | diff - "$ROOM/wanted" && echo 'the same'
