@@ -102,11 +102,16 @@ def walk(steps, fc, free):
             raise SystemExit(f"left behind: {left}")
 
 
-def follow(document, fc, seconds=55):
-    """Types the commands on ports that are free, one after another; then pastes all of them at once into another shell.
-    If another process took one of the ports meanwhile, the commands wait for ever: then all is tried once more."""
+def text_of(document):
     with open(os.path.join(ROOT, document)) as file:
-        text = file.read()
+        return file.read()
+
+
+def follow(documents, fc, seconds=55):
+    """Types the commands of these documents on ports that are free, one after another; then pastes all of them at once
+    into another shell. If another process took one of the ports meanwhile, the commands wait for ever: then all is
+    tried once more."""
+    text = "\n".join(map(text_of, documents))
     signal.signal(signal.SIGALRM, gave_up)
     for is_last in (False, True):
         signal.alarm(seconds)
