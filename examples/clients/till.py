@@ -73,11 +73,12 @@ def follow(site, till, point):
 
 
 def settle(site, till, point, last):
-    """Locks and clears the point's next transaction. Numbers rise by 1, and a settled transaction is gone (S28)."""
-    number = last + 1
-    while site.ask(f"till {till} lock {point} {number}") == ["S28"]:
-        number += 1
-    return number, site.ask(f"till {till} clear {point} {number}")
+    """Locks and clears the point's next transaction. Numbers rise by 1, and a settled transaction is gone (S28). Each try
+    is an entry, so there are ten at most."""
+    for number in range(last + 1, last + 11):
+        if site.ask(f"till {till} lock {point} {number}") != ["S28"]:
+            return number, site.ask(f"till {till} clear {point} {number}")
+    raise SystemExit(f"point {point}: its next transaction is none of {last + 1} to {last + 10}")
 
 
 def main():
