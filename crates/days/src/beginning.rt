@@ -1,4 +1,4 @@
-//! Puts an opening (what a day leaves for the next day) into the configuration that a site begins with.
+//! Puts an opening into the configuration that a site begins with.
 
 ghost use Rattle.std.specs.Prelude.{IfErr, IfOk};
 ghost use Rattle.days.specs.Fitting.{BeginsWith};
@@ -9,13 +9,12 @@ use site_core::{Config, Opening, OpeningFault};
 use std::alloc::Global;
 use std::fmt::{self, Display};
 
-/// Why a site with a given configuration can't begin with a given opening, or that memory ran out.
+/// Why no site of a configuration begins with an opening.
 #[derive(Clone, Copy)]
 pub enum Unfit {
-    /// The opening and the configuration don't fit each other.
+    /// They don't fit each other.
     Misfit(Misfit),
-    /// The opening fits the configuration, but has this fault, so that no site of the configuration can begin with it.
-    /// Or the fault is that memory ran out.
+    /// They fit, but the opening has this fault; or memory ran out.
     Fault(OpeningFault),
 }
 
@@ -33,15 +32,13 @@ impl Display for Unfit {
     }
 }
 
-/// Returns `config` with `opening` as the opening that a site begins with. An opening that `config` had is dropped.
-/// Each counter has its value from `opening` and its bound from `config`. If no site of `config` can begin with
-/// `opening`, the error is why. If one can, the only possible error is that memory ran out.
+/// `config` with `opening` in place of its own. Each counter has its value from `opening` and its bound from `config`.
 pub fn begun(alloc: Global, config: Config, opening: Opening) -> Result<Config, Unfit>
     ensures begun { IfOk result (BeginsWith config opening) }
     ensures unfit { IfErr result (IsUnfit config opening) }
     ensures none { IfErr result (λ unfit. ¬ IsOutOfMemory unfit → CannotBegin config opening) }
 {
-    // This read tells the prover that there are 32 counters.
+    // This read brings that there are 32 counters.
     let _first = opening.counters.get(0);
     let opening = match fitted(&config, opening) {
         Ok(opening) => opening,

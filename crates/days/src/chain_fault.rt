@@ -4,16 +4,16 @@ use crate::file::{OpeningFlaw, Uncarried};
 use decision_journal::JournalFault;
 use site_core::EntryFlaw;
 
-/// Why a day leaves no opening for the next day.
+/// Why a day leaves no opening.
 #[derive(Clone, Copy)]
 pub enum NoNextOpening {
     /// The day has no journal.
     NoJournal,
-    /// Why the day's site leaves no opening, or that memory ran out.
+    /// The day's site leaves none, or memory ran out.
     Uncarried(Uncarried),
 }
 
-/// Why a day doesn't begin with the opening that the day before left. Each case has the text of that opening.
+/// Why a day doesn't begin with the opening that the day before left, whose text each case has.
 #[derive(Drop)]
 pub enum Unfollowed {
     /// The day has no opening.
@@ -22,16 +22,16 @@ pub enum Unfollowed {
     OtherOpening(Vec<u8>, String),
 }
 
-/// Why no site of a day's configuration begins the day.
+/// Why no site of its configuration begins a day.
 #[derive(Drop)]
 pub enum Unbegun {
-    /// The day has no opening, and isn't day 1.
+    /// It has no opening, and isn't day 1.
     NoOpening,
-    /// The day is day 1, and yet it has an opening: one is given for it, or its configuration has one.
+    /// It is day 1 and has an opening, given for it or in its configuration.
     HasOpening,
-    /// Why the opening couldn't be read: its bytes aren't the text of an opening, or memory ran out.
+    /// The opening couldn't be read, or memory ran out.
     Flawed(OpeningFlaw),
-    /// The opening is one for another day, which has this number.
+    /// The opening is for the day of this number.
     OtherDay(u32),
     /// No site of the configuration begins with the opening, or memory ran out.
     Unfit(Unfit),
@@ -40,34 +40,28 @@ pub enum Unbegun {
 /// Why a day can't be closed.
 #[derive(Drop)]
 pub enum Unclosed<J> {
-    /// The device of the journal, and why no journal could be read from it.
+    /// No journal could be read from this device.
     Text(J, JournalFault),
-    /// What is wrong with the first entry of the journal that the day's site can't have.
+    /// What is wrong with the first entry that the day's site can't have.
     History(EntryFlaw),
     /// Memory ran out for a day without a journal.
     OutOfMemory,
 }
 
-/// Why days don't follow one another, or why it isn't known whether they do: a day couldn't be read (`Unread`), the
-/// device of a day's journal failed (`Unclosed`), or memory ran out (`NoNextOpening`, `Unbegun` or `Unclosed`).
+/// Why days don't follow one another; or a day couldn't be read (`Unread`), the device of a journal failed
+/// (`Unclosed`), or memory ran out (`NoNextOpening`, `Unbegun` or `Unclosed`).
 #[derive(Drop)]
 pub enum Cause<J> {
-    /// There is no day.
     NoDays,
-    /// The day couldn't be read.
     Unread,
-    /// The day leaves no opening for the next day.
     NoNextOpening(NoNextOpening),
-    /// The day doesn't begin with the opening that the day before left.
     Unfollowed(Unfollowed),
-    /// No site of the day's configuration begins the day.
     Unbegun(Unbegun),
-    /// The day can't be closed.
     Unclosed(Unclosed<J>),
 }
 
-/// Why an audit of days failed: the number of the day that the cause is about, and the cause. If there are no days, the
-/// number is the one that the first day would have. For an unread day after day 4,294,967,295, it is 4,294,967,295.
+/// Why an audit of days failed: at which day, and the cause. Where there are no days, it is the number that the first
+/// would have; for an unread day after day 4,294,967,295, it is this number.
 #[derive(Drop)]
 pub struct DaysFault<J> {
     pub day: u32,

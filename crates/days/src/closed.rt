@@ -1,4 +1,4 @@
-//! The close of a day, and the opening that the day leaves for the next day.
+//! The close of a day, and the opening that it leaves.
 ghost use Rattle.std.specs.Prelude.{◌≡◌, IfErr, IfOk, OnOk, length};
 ghost use Rattle.sha2.specs.Sha256.{sha256};
 ghost use Rattle.decision_journal.specs.Text.{journal_text};
@@ -10,8 +10,8 @@ ghost use Rattle.days.specs.Leaving.{IsUncarried};
 use crate::file::{OpeningFile, Uncarried};
 use site_core::Site;
 
-/// The close of a day: the site that the day's journal leads to, and the SHA-256 of the journal's bytes. For a day
-/// without a journal, these are a new site and the SHA-256 of no bytes.
+/// The close of a day: the site that its journal leads to, and the SHA-256 of the journal's bytes; of no bytes where
+/// there is no journal.
 #[derive(Drop)]
 pub struct Closed {
     pub site: Site,
@@ -20,10 +20,7 @@ pub struct Closed {
 }
 
 impl Closed {
-    /// Returns the opening that this day leaves for the next day. `day` is the number of this day. The error is that
-    /// `day` is the greatest number that a day can have, that memory ran out, or that one of these numbers is too great
-    /// for an opening: the number of a point's newest transaction, the cleared total, the count of cleared
-    /// transactions, or the count of versions.
+    /// The opening that this day, whose number is `day`, leaves.
     pub fn opening(&self, day: u32) -> Result<OpeningFile, Uncarried>
         ensures left { IfOk result (λ file. file ≡ next_opening day self.now.site) }
         ensures carries { OnOk result (IsOpening (length self.now.site.config.points) (carried self.now.site)) }

@@ -1,11 +1,9 @@
-//! A station's days, as a caller gives them to be checked: one after another, each with its configuration, opening and
-//! journal.
+//! A station's days, as a caller gives them to be checked.
 use site_core::Config;
 use std::fmt;
 use till_request::LineIn;
 
-/// A day as a caller gives it. `opening` is the bytes of the opening that the day begins with, or `None` if the day has
-/// no opening. `journal` is the device that the day's journal is read from, or `None` if the day has no journal.
+/// A day. `opening` is the bytes with which it begins, and `journal` the device of its journal, if it has them.
 #[derive(Drop)]
 pub struct DayIn<J> {
     pub config: Config,
@@ -13,36 +11,36 @@ pub struct DayIn<J> {
     pub journal: Option<J>,
 }
 
-/// The error that a day couldn't be read. It doesn't say why.
+/// A day couldn't be read. It doesn't say why.
 #[derive(Clone, Copy)]
 pub struct NoDay;
 
-/// The days of a station, which are given one after another.
+/// A station's days, one after another.
 pub trait DaysIn {
-    /// The device that a day's journal is read from.
+    /// The device of a day's journal.
     type Journal: LineIn + Drop;
 
     ghost use Rattle.std.specs.Prelude.{List, Option, IfErr, IfOk, IfSome};
     ghost use Rattle.days.specs.Chain.{DayText};
     ghost use Rattle.days.specs.Given.{GivesDay};
 
-    /// For proofs: all days that will still be given, or `None` if they aren't known.
+    /// All days that will still be given, or `None` if they aren't known.
     ghost remaining: { Self → Option (List DayText) };
 
-    /// For proofs: what holds of `self` after `next_day` returned an error.
+    /// What holds after `next_day` returned an error.
     ghost failed: { Self → Type 0 };
 
-    /// For proofs: what holds of the device of each journal that `next_day` returned. By default nothing is claimed.
+    /// What holds of the device of each journal that `next_day` returned.
     ghost gave: { Self.Journal → Type 0 } = { λ _. Unit {0} };
 
-    /// Returns the next day, or `None` if there are no more. The error is that the day couldn't be read.
+    /// The next day, or `None` if there are no more.
     fn next_day(&mut self) -> Result<Option<DayIn<Self::Journal>>, NoDay>
         ensures gives { IfOk result (GivesDay Self.Journal.remaining (remaining self.old) (remaining self.new)) }
         ensures gave { IfOk result (λ next. IfSome next (λ day. IfSome day.journal gave)) }
         ensures failed { IfErr result (λ _. failed self.new) };
 }
 
-/// How many days were found to follow one another, and how many entries they have together.
+/// How many days follow one another, and how many entries they have in all.
 #[derive(Clone, Copy)]
 pub struct Chained {
     pub days: u32,

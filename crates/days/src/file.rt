@@ -1,34 +1,31 @@
-//! The values in the text of an opening, why a text isn't that of an opening, and why a day leaves no opening.
+//! The values of an opening, why a text isn't one, and why a day leaves none.
 
 use reg_types::Refusal;
 use site_core::{Opening, OpeningFault};
 use std::fmt;
 
-/// The values in the text of an opening: what a day leaves for the next day.
+/// What a day leaves for the next.
 #[derive(Drop)]
 pub struct OpeningFile {
-    /// The number of the day that begins with the opening: 2 or more if the opening was read from a text.
+    /// The number of the day that begins with the opening: 2 or more if it was read.
     pub day: u32,
     pub opening: Opening,
-    /// How many entries the journal of the day before `day` has.
+    /// How many entries the day before has.
     pub entries: u32,
-    /// The SHA-256 of the bytes of the journal of the day before `day`.
+    /// The SHA-256 of the journal of the day before.
     pub digest: [u8; 32],
 }
 
-/// Why bytes couldn't be read as the text of an opening. Lines are counted from 1; a line's number above 4,294,967,295
-/// is given as 4,294,967,295.
+/// Why bytes aren't the text of an opening. Lines count from 1, up to 4,294,967,295.
 #[derive(Drop)]
 pub enum OpeningFlaw {
-    /// J1: the lines before this line are the first lines of the opening that was read of the text, but that one has
-    /// another line here, or none.
+    /// J1: the opening that was read has another line here, or none, and the same lines before.
     BadLine(u32),
-    /// J1: the text ends before this line, which an opening would have.
+    /// J1: the text ends before this line of an opening.
     Ends(u32),
-    /// J2: the last line, which has this number, has no LF.
+    /// J2: the last line, of this number, has no LF.
     CutLine(u32),
-    /// F2: this line is another than that opening has too, and is a version's, whose program the verifier refuses: the
-    /// slot, the program's bytes, and the refusal.
+    /// F2: this line is another than that opening has too, and is a version's, whose program the verifier refuses.
     BadProgram {
         line: u32,
         slot: u32,
@@ -38,12 +35,12 @@ pub enum OpeningFlaw {
     OutOfMemory,
 }
 
-/// Why the site of a day leaves no opening for the next day.
+/// Why a day's site leaves no opening.
 #[derive(Clone, Copy)]
 pub enum Uncarried {
-    /// The day has the greatest number that a day can have: 4,294,967,295.
+    /// The day is the greatest, 4,294,967,295.
     LastDay,
-    /// One of the site's numbers is too great for an opening, or memory ran out.
+    /// A number of the site is too great for an opening, or memory ran out.
     Fault(OpeningFault),
 }
 

@@ -1,5 +1,5 @@
-//! Whether an opening fits a configuration: both have the same number of fuelling points, each counter is within its
-//! bound in the configuration, and the configuration has each till that holds a transaction.
+//! Whether an opening fits a configuration: as many points, each counter within its bound, and the tills that hold
+//! transactions.
 ghost use Rattle.std.specs.Prelude.{◌≡◌, ◌≤◌, ◌<◌, ℕ, All, MatchOption, IfErr, IfOk, OnOk, Some, option_to_list};
 ghost use Rattle.bpf_model.specs.Machine.{counter};
 ghost use Rattle.days.specs.Fitting.{AreBounded, AreWithin, Fits, HasTill, HaveTills};
@@ -10,18 +10,15 @@ use fuelling_point::{Point, Transaction};
 use site_core::{Config, Opening};
 use std::fmt::{self, Display};
 
-/// Why an opening doesn't fit a configuration, so that no site of the configuration can begin with it. If several cases
-/// apply, this is the first of them.
+/// Why an opening doesn't fit a configuration: the first case that applies.
 #[derive(Clone, Copy)]
 pub enum Misfit {
-    /// How many fuelling points the opening has, and how many the configuration has. These numbers differ.
+    /// The numbers of points, of the opening and of the configuration, differ.
     Points(usize, usize),
-    /// An unpaid transaction is held by a till whose number is over the configuration's number of tills. The values are
-    /// the index of the first point with such a transaction, counted from 0, this point's first such transaction, and
-    /// the configuration's number of tills.
+    /// A till beyond the configuration's number of tills, which comes last, holds a transaction. First come the place
+    /// of the first point with such a one, counted from 0, and its first.
     Till(usize, Transaction, u32),
-    /// The first counter whose value in the opening is over its bound in the configuration: the counter's number, the
-    /// value and the bound.
+    /// The first counter whose value is over its bound in the configuration: number, value and bound.
     Counter(u32, u64, u64),
 }
 
@@ -50,7 +47,7 @@ impl Display for Misfit {
     }
 }
 
-/// A transaction that a till holds, and how many tills the configuration has.
+/// A transaction that a till holds, and the number of tills.
 #[derive(Clone, Copy)]
 struct HeldBy(Transaction, u32);
 
@@ -69,7 +66,7 @@ impl Display for HeldBy {
     }
 }
 
-/// A counter's value in the opening, and the counter's bound in the configuration.
+/// A counter's value and its new bound.
 #[derive(Clone, Copy)]
 struct OverBound(u64, u64);
 
@@ -88,9 +85,7 @@ impl Display for OverBound {
     }
 }
 
-/// Returns the opening with the bounds of its counters replaced by those in the configuration. The error is why no site
-/// of this configuration can begin with the opening. If there are several reasons, it is the first in the order of
-/// `Misfit`.
+/// The opening with the configuration's bounds.
 pub fn fitted(config: &Config, opening: Opening) -> Result<Opening, Misfit>
     ensures same { IfOk result (λ new. new ≡ record opening { counters = new.counters }) }
     ensures bounds { IfOk result (λ new. AreBounded opening.counters config.now.counters new.counters) }
@@ -113,8 +108,7 @@ pub fn fitted(config: &Config, opening: Opening) -> Result<Opening, Misfit>
     }
 }
 
-/// Finds the first point that has an unpaid transaction held by a till whose number is over `tills`. Returns the
-/// point's place, counted from 0, and the point's first such transaction, or `None` if there is no such point.
+/// The first point, counted from 0, with a transaction held by a till over `tills`, and its first such one.
 fn held_over(points: &[Point], tills: u32) -> Option<(usize, Transaction)>
     ensures { MatchOption result (HaveTills tills points.now) (λ m. IsHeldOver tills points.now m.0 m.1) }
 {
@@ -126,8 +120,6 @@ fn held_over(points: &[Point], tills: u32) -> Option<(usize, Transaction)>
     None
 }
 
-/// Returns the point's first unpaid transaction that is held by a till whose number is over `tills`, or `None` if there
-/// is no such transaction.
 fn held_at(point: &Point, tills: u32) -> Option<Transaction>
     ensures { MatchOption result (All (HasTill tills) point.now.unpaid)
         (λ t. first_held tills point.now.unpaid ≡ Some t) }
@@ -139,8 +131,6 @@ fn held_at(point: &Point, tills: u32) -> Option<Transaction>
     }
 }
 
-/// Returns the transaction in `place` if a till whose number is over `tills` holds it. Otherwise, or if `place` is
-/// `None`, returns `None`.
 fn held(place: Option<Transaction>, tills: u32) -> Option<Transaction>
     ensures { MatchOption result (All (HasTill tills) (option_to_list place))
         (λ t. first_held tills (option_to_list place) ≡ Some t) }
@@ -153,9 +143,8 @@ fn held(place: Option<Transaction>, tills: u32) -> Option<Transaction>
     }
 }
 
-/// Returns the counters with their values, but with new bounds: the second number of each pair in `bounds`. The first
-/// numbers of the pairs aren't used. The error is the first counter whose value is over its new bound: its number, its
-/// value and its new bound.
+/// The counters' values with the bounds that come second in `bounds`. The error is the first counter over its new
+/// bound: number, value and bound.
 fn rebounded(counters: &Counters, bounds: &[(u64, u64); 32]) -> Result<Counters, (u32, u64, u64)>
     ensures bounds { IfOk result (AreBounded counters.now bounds.now) }
     ensures within { OnOk result (AreWithin counters.now bounds.now) }
@@ -168,7 +157,6 @@ fn rebounded(counters: &Counters, bounds: &[(u64, u64); 32]) -> Result<Counters,
     }
 }
 
-/// Returns for each counter a pair of its value and its new bound: the second number of the counter's pair in `bounds`.
 fn bounded(counters: &Counters, bounds: &[(u64, u64); 32]) -> [(u64, u64); 32]
     ensures { AreBounded counters.now bounds.now result }
 {
@@ -179,8 +167,7 @@ fn bounded(counters: &Counters, bounds: &[(u64, u64); 32]) -> [(u64, u64); 32]
     cells
 }
 
-/// Returns the number of the first counter whose value is over its bound, or `None` if there is no such counter. Each
-/// pair in `cells` is a counter's value and its bound, from counter 0 on.
+/// The first counter over its bound.
 fn over(cells: &[(u64, u64); 32]) -> Option<usize>
     ensures { MatchOption result (All (λ (c : ℕ × ℕ). c.0 ≤ c.1) cells.now)
         (λ c. (c < 32) × ((counter cells.now c).1 < (counter cells.now c).0)

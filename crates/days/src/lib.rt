@@ -1,5 +1,5 @@
-//! How one day of a station follows another: openings, as text that is written and read back, whether an opening fits a
-//! configuration, the close of a day, and the audit of days that follow one another.
+//! How one day of a station follows another: openings as text, whether one fits a configuration, the close of a day,
+//! and the audit of days.
 #![tactic(auto)]
 
 pub mod beginning;

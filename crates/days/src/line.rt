@@ -4,18 +4,16 @@ use bpf_model::context::Layout;
 use fuelling_point::{Snapshot, Transaction};
 use till_request::Bytes;
 
-/// A line of an opening's text. Amounts are in cents, volumes in centilitres, prices in thousandths of the currency per
-/// litre.
+/// A line of an opening. Amounts are in cents, volumes in centilitres, prices in thousandths of the currency per litre.
 #[derive(Drop)]
 pub enum Line {
-    /// The number of the day that begins with the opening.
+    /// The day that begins with the opening.
     Day(u32),
-    /// The total of all cleared amounts, and how many transactions were cleared.
+    /// The total of all cleared amounts, and how many there were.
     Cleared(u64, u64),
     /// How many versions were ever loaded.
     Versions(u32),
-    /// The version (a loaded rule) in force in `slot`; slots are counted from 0. `number` is the version's number.
-    /// `mask` has a bit for each counter that the program declares. `layout` and `bytes` are the program's.
+    /// The version (a loaded rule) in a slot, counted from 0. Bit c of `mask` declares counter c.
     Version {
         slot: u64,
         number: u32,
@@ -23,14 +21,14 @@ pub enum Line {
         layout: Layout,
         bytes: Bytes,
     },
-    /// A product's number, counted from 1, and the product's price.
+    /// A product, counted from 1, and its price.
     Price(u32, u32),
-    /// A counter's number, counted from 0, and the counter's value and bound.
+    /// A counter, counted from 0, its value and its bound.
     Counter(u32, u64, u64),
-    /// The number of a fuelling point, counted from 1, and all values of the point except its unpaid transactions.
+    /// A fuelling point, counted from 1, without its unpaid transactions.
     Point(u64, Snapshot),
-    /// The number of a fuelling point, counted from 1, and one of the point's unpaid transactions.
+    /// A fuelling point, counted from 1, and one of its unpaid transactions.
     Unpaid(u64, Transaction),
-    /// The journal of the day that left this opening: how many entries it has, and the SHA-256 of its bytes.
+    /// How many entries the day before has, and the SHA-256 of its journal.
     Journal(u32, [u8; 32]),
 }

@@ -1,4 +1,4 @@
-//! Reads the text of an opening: reads its lines loosely, and compares the text of what was read with it.
+//! Reads an opening: its lines loosely, and then the text of what was read is compared with what was given.
 
 ghost use Rattle.std.specs.Prelude.{◌≡◌, ◌↔◌, ◌<◌, ◌∷◌, ℕ, Ok, IfErr, IfOk, IsTrue, MatchOption, OnOk};
 ghost use Rattle.bpf_model.specs.Program.{as_loaded};
@@ -23,15 +23,13 @@ use std::alloc::{AllocError, Global};
 use till_request::LineFault;
 use till_request::parts::first_part;
 
-/// Returns whether two texts are the same.
 pub(crate) fn is_same(text: &[u8], other: &[u8]) -> bool
     ensures { IsTrue result ↔ (text.now ≡ other.now) }
 {
     text == other
 }
 
-/// Adds what a line says to `reading`, if it is read as a line of an opening and can be taken. `line` is the line
-/// without its LF. The error is that memory ran out.
+/// Adds a line, given without its LF, if it is read as one of an opening and can be taken.
 fn take_line(alloc: Global, reading: &mut Reading, line: &[u8]) -> Result<(), AllocError>
     ensures { OnOk result (TakesRead reading.old (line_read line.now) reading.new) }
 {
@@ -46,7 +44,6 @@ fn take_line(alloc: Global, reading: &mut Reading, line: &[u8]) -> Result<(), Al
     }
 }
 
-/// Adds what the lines of a text say to `reading`. The error is that memory ran out.
 fn take_lines(alloc: Global, reading: &mut Reading, text: &[u8]) -> Result<(), AllocError>
     ensures { OnOk result (Reads reading.old (pieces text.now) reading.new) }
 {
@@ -59,8 +56,7 @@ fn take_lines(alloc: Global, reading: &mut Reading, text: &[u8]) -> Result<(), A
     Ok(())
 }
 
-/// Reads the lines of a text, in whatever order they stand, and returns the opening that they describe. What isn't read
-/// as a line of an opening is skipped. The error is that memory ran out.
+/// The opening that the lines of a text describe, in whatever order. What is no line of an opening is skipped.
 fn read_loosely(alloc: Global, text: &[u8]) -> Result<OpeningFile, AllocError>
     ensures reads { IfOk result (λ file. Reads blank_file (pieces text.now) file) }
     ensures good { IfOk result (λ file. IsOpeningFile file) }
@@ -70,7 +66,7 @@ fn read_loosely(alloc: Global, text: &[u8]) -> Result<OpeningFile, AllocError>
     Ok(reading.finish())
 }
 
-/// Returns what comes after `line` and its LF, if a text begins with these, or else `None`.
+/// What comes after `line` and its LF, if a text begins with these.
 fn behind_line<'a>(text: &'a [u8], line: &[u8]) -> Option<&'a [u8]>
     ensures { MatchOption result (LacksLine text.now line.now)
         (λ behind. pieces text.now ≡ line.now ∷ pieces behind.now) }
@@ -86,7 +82,6 @@ fn behind_line<'a>(text: &'a [u8], line: &[u8]) -> Option<&'a [u8]>
     }
 }
 
-/// Returns the flaw that the verifier refuses the program in these bytes, which is for `slot`, or that memory ran out.
 fn refused(alloc: Global, number: u32, slot: u32, bytes: &[u8], refusal: Refusal) -> OpeningFlaw
     ensures { slot < 16 → (version mask : ℕ) (layout : Layout)
         → IsRefusal (refusal_of (as_loaded bytes.now mask layout)) refusal
@@ -106,7 +101,7 @@ fn refused(alloc: Global, number: u32, slot: u32, bytes: &[u8], refusal: Refusal
     }
 }
 
-/// Returns the flaw in line `number`, which is that of a version, but not the one that it should be.
+/// The flaw in a version's line that isn't the one that it should be.
 fn version_flaw(
     alloc: Global,
     number: u32,
@@ -126,7 +121,7 @@ fn version_flaw(
     }
 }
 
-/// Returns the flaw in line `number`, whose bytes without the LF are `line`, and which isn't the one that it should be.
+/// The flaw in a line, given without its LF, that isn't the one that it should be.
 fn line_flaw(alloc: Global, number: u32, line: &[u8]) -> OpeningFlaw
     ensures { IsLineFlaw number (line_read line.now) result }
 {
@@ -150,8 +145,7 @@ fn line_flaw(alloc: Global, number: u32, line: &[u8]) -> OpeningFlaw
     }
 }
 
-/// Returns the flaw in the first line in which a text differs from the text `other` of an opening. Lines are counted
-/// from 1; a number above 4,294,967,295 is given as 4,294,967,295.
+/// The flaw in the first line in which `text` differs from the text `other` of an opening.
 fn first_flaw(alloc: Global, text: &[u8], other: &[u8]) -> OpeningFlaw
     ensures { Differs text.now other.now result }
 {
@@ -173,16 +167,8 @@ fn first_flaw(alloc: Global, text: &[u8], other: &[u8]) -> OpeningFlaw
     OpeningFlaw::Ends(number)
 }
 
-/// Reads the text of an opening, and returns the opening. No other opening has the same text.
-///
-/// The lines are read loosely, and the text of the opening that they describe is compared with `text`. If they differ,
-/// the error is the flaw in the first line in which they do, or that memory ran out:
-///
-/// - `BadLine`: the opening has another line there. Its program isn't why
-/// - `Ends`, with the number of the last line plus 1: the text ends too early
-/// - `CutLine`: the last line has no LF
-/// - `BadProgram`: the verifier refuses the program of the line
-/// - `OutOfMemory`: memory ran out
+/// Reads the text of an opening; no other opening has it. The error is the flaw in the first line in which it differs
+/// from the text of what was read of it.
 pub fn read_opening(alloc: Global, text: &[u8]) -> Result<OpeningFile, OpeningFlaw>
     ensures read { IfOk result (λ file. opening_text file ≡ text.now) }
     ensures good { IfOk result (λ file. IsOpeningFile file) }
@@ -199,7 +185,7 @@ pub fn read_opening(alloc: Global, text: &[u8]) -> Result<OpeningFile, OpeningFl
     if !is_same(text, own.as_bytes()) {
         return Err(first_flaw(alloc, text, own.as_bytes()));
     }
-    // This call tells the prover that the numbers in `file` are in the ranges of their types.
+    // This call brings that the numbers are in the ranges of their types.
     file_in_range(&file);
     Ok(file)
 }

@@ -20,14 +20,14 @@ use std::alloc::{AllocError, Global};
 use std::marker::Model;
 use std::sync::Arc;
 
-/// The greatest number that a point's newest transaction is allowed to have, and the greatest count of versions.
+/// The greatest number of a point's newest transaction, and of versions.
 const MOST: u32 = 4_290_000_000;
 
-/// The greatest total of cleared amounts in cents, and the greatest count of cleared transactions.
+/// The greatest total of cleared amounts in cents, and count of cleared transactions.
 const MOST_CLEARED: u64 = 1_000_000_000_000_000_000;
 
-/// What has been read of an opening. What hasn't been read is blank: 0, `None` or an empty list; the day is then 2. A
-/// counter is a pair of its value and its bound.
+/// What has been read of an opening. The rest is blank: 0, `None` or an empty list, and day 2. A counter is its value
+/// and its bound.
 #[derive(Drop)]
 pub(crate) struct Reading {
     alloc: Global,
@@ -67,7 +67,7 @@ impl Model for Reading {
     ghost invariant = { λ r. length r.rules.items ≡ 16 };
 }
 
-/// Returns a list of 16 slots without a version. The error is that memory ran out.
+/// 16 slots without a version.
 fn empty_slots(alloc: Global) -> Result<Vec<Option<Version>>, AllocError>
     ensures { IfOk result (λ rules. rules.items ≡ replicate 16 None) }
 {
@@ -79,7 +79,7 @@ fn empty_slots(alloc: Global) -> Result<Vec<Option<Version>>, AllocError>
 }
 
 impl Reading {
-    /// Makes a reading of no lines. The error is that memory ran out.
+    /// Nothing is read yet.
     pub(crate) fn new(alloc: Global) -> Result<Reading, AllocError>
         ensures { IfOk result (λ reading. reading ≡ blank_file) }
     {
@@ -99,7 +99,7 @@ impl Reading {
         })
     }
 
-    /// Returns what was read. The value of each counter must be at most the counter's bound.
+    /// What was read. Each counter must be within its bound.
     pub(crate) fn finish(self) -> OpeningFile
         requires { All (λ c. c.0 ≤ c.1) self.opening.counters }
         ensures { result ≡ self }
@@ -244,8 +244,7 @@ impl Reading {
         true
     }
 
-    /// Takes a line, if what it says is still blank, and is allowed in an opening. Returns whether it was taken. The
-    /// error is that memory ran out.
+    /// Takes a line, if what it says is still blank and allowed in an opening. Returns whether it was taken.
     pub(crate) fn take(&mut self, line: &Line) -> Result<bool, AllocError>
         ensures taken { IfOk result (λ taken. Takes self.old line.now taken self.new) }
         ensures memory { IfErr result (λ _. TakesMemory line.now) }
@@ -270,7 +269,6 @@ impl Reading {
     }
 }
 
-/// Returns whether this slot has no version.
 fn is_free(rules: &[Option<Version>], slot: usize) -> bool
     requires { slot < length rules.now }
     ensures { IsTrue result ↔ (slice_index_or rules.now slot None ≡ None) }
@@ -278,9 +276,7 @@ fn is_free(rules: &[Option<Version>], slot: usize) -> bool
     rules[slot].is_none()
 }
 
-/// Verifies the program in `bytes`, and returns it as the version with this number, or `None` if the verifier refuses
-/// it. `mask` is the set of the counters that the program declares, and `layout` is the form of the record that it
-/// starts with. The error is that memory ran out.
+/// Verifies a program, and returns it as the version of this number; `None` if it is refused.
 fn verified(
     alloc: Global,
     number: u32,
@@ -299,8 +295,7 @@ fn verified(
     Ok(Some(Version { number, program }))
 }
 
-/// Returns the point with this transaction added after its other unpaid ones, or `None` if the result would have values
-/// that no point can have.
+/// The point with one more unpaid transaction, or `None` if no point can have these values.
 fn owing(point: &Point, unpaid: Transaction) -> Option<Point>
     ensures state { IfSome result (λ new. new ≡ with_unpaid point.now unpaid) }
     ensures when { IsTrue (is_some result) ↔ IsPointState (with_unpaid point.now unpaid) }

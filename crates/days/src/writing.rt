@@ -14,7 +14,7 @@ use std::alloc::{AllocError, Global};
 use std::fmt;
 use till_request::spelling::load_word;
 
-/// A pending order. `Display` writes it as one word, which is `none` if there is no order.
+/// A pending order as one word, `none` for none.
 #[derive(Clone, Copy)]
 struct OrderWord(Option<Order>);
 
@@ -41,7 +41,7 @@ fn yes_or_no(answer: bool) -> &'static str
     if answer { "yes" } else { "no" }
 }
 
-/// Appends the first three lines of an opening. The error is that memory ran out.
+/// Appends the first three lines.
 fn put_head(text: &mut String, file: &OpeningFile) -> Result<(), AllocError>
     ensures { OnOk result (AddsLines (string_bytes text.old) (string_bytes text.new) (head_lines file.now)) }
 {
@@ -53,7 +53,6 @@ fn put_head(text: &mut String, file: &OpeningFile) -> Result<(), AllocError>
     )
 }
 
-/// Appends the line of a slot, if the slot has a version. The error is that memory ran out.
 fn put_rule(
     alloc: Global,
     text: &mut String,
@@ -72,8 +71,6 @@ fn put_rule(
     write!(text, "version {slot} {number} {mask} {load} {bytes}\n")
 }
 
-/// Appends the lines of all slots that have a version. The first item of `rules` is that of slot 0. The error is that
-/// memory ran out.
 fn put_rules(alloc: Global, text: &mut String, rules: &[Option<Version>]) -> Result<(), AllocError>
     ensures { OnOk result (AddsLines (string_bytes text.old) (string_bytes text.new)
         (numbered_lines version_lines 0 rules.now)) }
@@ -84,7 +81,7 @@ fn put_rules(alloc: Global, text: &mut String, rules: &[Option<Version>]) -> Res
     Ok(())
 }
 
-/// Appends the line of a product, unless `price` is 0: then the product has no price. The error is that memory ran out.
+/// Appends the line of a product, unless it has no price.
 fn put_price(text: &mut String, product: u32, price: u32) -> Result<(), AllocError>
     ensures lines { OnOk result (AddsLines (string_bytes text.old) (string_bytes text.new) (price_lines product price)) }
     ensures none { price ≡ 0 → IsOk result }
@@ -95,8 +92,7 @@ fn put_price(text: &mut String, product: u32, price: u32) -> Result<(), AllocErr
     write!(text, "price {product} {price}\n")
 }
 
-/// Appends the lines of all products that have a price. The first item of `prices` is the price of product 1. There
-/// must be at most 8 items. The error is that memory ran out.
+/// Appends the lines of products, from 1 on and at most 8, that have a price.
 fn put_prices(text: &mut String, prices: &[u32]) -> Result<(), AllocError>
     requires { length prices.now ≤ 8 }
     ensures { OnOk result (AddsLines (string_bytes text.old) (string_bytes text.new)
@@ -108,7 +104,7 @@ fn put_prices(text: &mut String, prices: &[u32]) -> Result<(), AllocError>
     Ok(())
 }
 
-/// Appends the line of a counter, unless both its value and its bound are 0. The error is that memory ran out.
+/// Appends the line of a counter, unless its value and its bound are 0.
 fn put_counter(text: &mut String, counter: u32, value: u64, bound: u64) -> Result<(), AllocError>
     ensures lines { OnOk result (AddsLines (string_bytes text.old) (string_bytes text.new)
         (counter_lines counter (value, bound))) }
@@ -120,8 +116,6 @@ fn put_counter(text: &mut String, counter: u32, value: u64, bound: u64) -> Resul
     write!(text, "counter {counter} {value} {bound}\n")
 }
 
-/// Appends the line of an unpaid transaction of point `number`, counted from 1, if there is a transaction. The error is
-/// that memory ran out.
 fn put_unpaid(text: &mut String, number: u64, unpaid: Option<Transaction>) -> Result<(), AllocError>
     ensures lines { OnOk result (AddsLines (string_bytes text.old) (string_bytes text.new)
         (map (λ t. Line.Unpaid number t) (option_to_list unpaid))) }
@@ -137,8 +131,7 @@ fn put_unpaid(text: &mut String, number: u64, unpaid: Option<Transaction>) -> Re
     )
 }
 
-/// Appends the line of point `number`, counted from 1. The unpaid transactions in `s` aren't written: they have lines
-/// of their own. The error is that memory ran out.
+/// Appends the line of a point, counted from 1, without its unpaid transactions.
 fn put_snapshot(text: &mut String, number: u64, s: &Snapshot) -> Result<(), AllocError>
     ensures { OnOk result (AddsLines (string_bytes text.old) (string_bytes text.new) (Line.Point number s.now ∷ [])) }
 {
@@ -150,8 +143,7 @@ fn put_snapshot(text: &mut String, number: u64, s: &Snapshot) -> Result<(), Allo
     )
 }
 
-/// Appends the line of point `number`, counted from 1, and then the lines of its unpaid transactions. The error is that
-/// memory ran out.
+/// Appends the line of a point, counted from 1, and those of its unpaid transactions.
 fn put_point(text: &mut String, number: u64, point: &Point) -> Result<(), AllocError>
     ensures { OnOk result (AddsLines (string_bytes text.old) (string_bytes text.new) (point_lines number point.now)) }
 {
@@ -161,13 +153,11 @@ fn put_point(text: &mut String, number: u64, point: &Point) -> Result<(), AllocE
     put_unpaid(text, number, snapshot.unpaid[1])
 }
 
-/// Appends the lines of all counters, except of those whose value and bound are both 0. The error is that memory ran
-/// out.
 fn put_counters(text: &mut String, counters: &Counters) -> Result<(), AllocError>
     ensures { OnOk result (AddsLines (string_bytes text.old) (string_bytes text.new)
         (numbered_lines counter_lines 0 counters.now)) }
 {
-    // This read tells the prover that there are 32 counters.
+    // This read brings that there are 32 counters.
     let _first = counters.get(0);
     for counter in 0..32u32 {
         let (value, bound) = (counters.get(counter), counters.bound(counter));
@@ -176,7 +166,6 @@ fn put_counters(text: &mut String, counters: &Counters) -> Result<(), AllocError
     Ok(())
 }
 
-/// Appends the lines of all points. The first item of `points` is point 1. The error is that memory ran out.
 fn put_points(text: &mut String, points: &[Point]) -> Result<(), AllocError>
     ensures { OnOk result (AddsLines (string_bytes text.old) (string_bytes text.new)
         (numbered_lines point_lines 1 points.now)) }
@@ -187,7 +176,6 @@ fn put_points(text: &mut String, points: &[Point]) -> Result<(), AllocError>
     Ok(())
 }
 
-/// Appends the last line of an opening. The error is that memory ran out.
 fn put_journal(alloc: Global, text: &mut String, file: &OpeningFile) -> Result<(), AllocError>
     ensures { OnOk result (AddsLines (string_bytes text.old) (string_bytes text.new)
         (Line.Journal file.now.entries file.now.digest ∷ [])) }
@@ -196,8 +184,7 @@ fn put_journal(alloc: Global, text: &mut String, file: &OpeningFile) -> Result<(
     write!(text, "journal {} {digest}\n", file.entries)
 }
 
-/// Returns the text of an opening: its lines, each with an LF. Each opening has exactly one text. The error is that
-/// memory ran out.
+/// The one text of an opening: its lines, each with an LF.
 #[tactic(auto, using(crate::proofs::Written::whole_text))]
 pub fn opening_text(alloc: Global, file: &OpeningFile) -> Result<String, AllocError>
     ensures { IfOk result (λ text. string_bytes text ≡ opening_text file.now) }

@@ -1,4 +1,4 @@
-//! Snapshots: all values of a fuelling point as plain data, which can be written down and read back.
+//! All values of a fuelling point as plain data, to write down and read back.
 
 ghost use Rattle.std.specs.Prelude.{◌↔◌, IsTrue};
 ghost use Rattle.fuelling_point.specs.Snapshot.{IsSnapshot, IsUnpaid};
@@ -7,11 +7,10 @@ ghost use Rattle.fuelling_point.specs.Views.{AreValidPlaces, IsFreeOrUnpaid, IsO
 
 use crate::kinds::{Order, State, Transaction};
 
-/// The greatest amount of a delivery in cents, and its greatest volume in centilitres.
+/// The greatest cents and centilitres of a delivery.
 pub const GREATEST: u64 = 999_999_999;
 
-/// All values of a fuelling point, as plain data. The fields from `state` to `volume`, and `last`, are what the methods
-/// of `Point` with these names return: amounts in cents, volumes in centilitres.
+/// The values of a point. Fields are what the methods of `Point` with these names return.
 #[derive(Clone, Copy)]
 pub struct Snapshot {
     pub state: State,
@@ -20,23 +19,18 @@ pub struct Snapshot {
     pub limit: u64,
     pub amount: u64,
     pub volume: u64,
-    /// The pending order.
     pub order: Option<Order>,
-    /// Whether the dispenser has taken the order `Authorise` of the current delivery.
+    /// Whether the dispenser has taken the `Authorise` of the current delivery.
     pub taken: bool,
     pub last: u32,
-    /// The unpaid transactions, the older one first.
+    /// The older one first.
     pub unpaid: [Option<Transaction>; 2],
 }
 
 impl Snapshot {
-    /// Returns whether a point can have the values of this snapshot. These are the conditions:
-    /// - `nozzle` is at most 8.
-    /// - `amount` and `volume` are at most 999,999,999, and so are the amount and the volume of each unpaid
-    ///   transaction.
-    /// - The unpaid transactions have numbers from 1 to `last`. The older one has the smaller number.
-    /// - There is a newer unpaid transaction only if there is an older one.
-    /// - At most one transaction is unpaid while a delivery is authorised or under way.
+    /// Whether a point can have these values: `nozzle` is at most 8; amounts and volumes are at most 999,999,999;
+    /// unpaid transactions are numbered from 1 to `last`, the older one smaller; there is a newer only with an older;
+    /// at most one is unpaid while a delivery is authorised or under way.
     pub fn is_of_point(&self) -> bool
         ensures { IsTrue result ↔ IsSnapshot self.now }
     {
@@ -50,12 +44,8 @@ impl Snapshot {
     }
 }
 
-/// Returns whether `first` and `second` can be the older and the newer unpaid transaction of a point in this state.
-/// There are two cases in which they can:
-/// - `second` is `None`.
-/// - Both are transactions, `first` has the smaller number, and the state has no delivery authorised or under way.
-///
-/// The ranges of their values are checked by `is_free_or_unpaid`.
+/// Whether these can be the older and the newer unpaid transaction in this state: no newer one; or both, numbered in
+/// order, with no delivery authorised or under way. Ranges are checked by `is_free_or_unpaid`.
 fn are_places(first: Option<Transaction>, second: Option<Transaction>, state: State) -> bool
     ensures { IsTrue result ↔ (AreValidPlaces first second (is_busy state) × IsOlder first second) }
 {
@@ -66,8 +56,7 @@ fn are_places(first: Option<Transaction>, second: Option<Transaction>, state: St
     }
 }
 
-/// Returns whether `place` is `None`, or its transaction has a number from 1 to `last`, and an amount in cents and a
-/// volume in centilitres of at most 999,999,999 each. `last` is the number of the point's newest transaction.
+/// Whether there is none, or its number is 1 to `last`, and cents and centilitres are in range.
 fn is_free_or_unpaid(place: Option<Transaction>, last: u32) -> bool
     ensures { IsTrue result ↔ IsFreeOrUnpaid last place }
 {

@@ -11,9 +11,7 @@ use std::alloc::Global;
 use toml::Table;
 use toml::de::Error;
 
-/// Returns the position after `byte`, which is at the position `at`. A position is a line and a column, both counted
-/// from 1. The column counts characters, and a line ends with its LF. Both numbers of `at` must be below the greatest
-/// `usize`.
+/// The position after `byte`, which is at `at`: line and column from 1, columns by characters, a line up to its LF.
 fn past(at: (usize, usize), byte: u8) -> (usize, usize)
     requires { (at.0 < usize.MAX) × (at.1 < usize.MAX) }
     ensures { result ≡ past at byte }
@@ -26,7 +24,7 @@ fn past(at: (usize, usize), byte: u8) -> (usize, usize)
     }
 }
 
-/// Returns the line and the column of the end of a text, both counted from 1. The column counts characters.
+/// The position of a text's end.
 fn position_behind(text: &[u8]) -> (usize, usize)
     ensures { result ≡ position_behind text.now }
 {
@@ -37,16 +35,14 @@ fn position_behind(text: &[u8]) -> (usize, usize)
     at
 }
 
-/// Returns the line and the column of the byte at the index `at`, both counted from 1. The column counts characters. If
-/// `bytes` has no such index, returns the line and the column of the end of `bytes`.
+/// The position of the byte at `at`, or of the end if there is none.
 fn position_at(bytes: &[u8], at: usize) -> (usize, usize)
     ensures { result ≡ position_at bytes.now at }
 {
     position_behind(bytes.get(..at).unwrap_or(bytes))
 }
 
-/// Returns the line and the column where an error starts that the TOML reader found in `text`. Returns `None` if the
-/// error is that memory ran out.
+/// Where an error of the TOML reader starts; `None` if memory ran out.
 fn start_of(text: &str, error: &Error) -> Option<(usize, usize)>
     ensures none { IsNone result ↔ IsMemory error.now }
     ensures start { IfSome result (λ at. at ≡ position_at text.now (span_start error.now)) }
@@ -57,8 +53,7 @@ fn start_of(text: &str, error: &Error) -> Option<(usize, usize)>
     }
 }
 
-/// Returns the flaw `NotToml` with this line, this column and a copy of `message`, the TOML reader's message. If memory
-/// ran out, returns `OutOfMemory`.
+/// `NotToml` with this position and message, or `OutOfMemory`.
 fn not_toml(alloc: Global, at: (usize, usize), message: &str) -> ConfigFlaw
     ensures { IsNotToml at message.now result }
 {
@@ -73,8 +68,7 @@ fn not_toml(alloc: Global, at: (usize, usize), message: &str) -> ConfigFlaw
     }
 }
 
-/// Reads the bytes as a TOML document. The error is `NotUtf8` or `NotToml` with its position (K1), or that memory ran
-/// out.
+/// Reads bytes as a TOML document (K1).
 #[tactic(auto, using(crate::proofs::Memory::not_blank), unfolding(crate::specs::Document::document_of))]
 pub fn read_document(alloc: Global, bytes: &[u8]) -> Result<Table, ConfigFlaw>
     ensures read { IfOk result (λ table. document_of bytes.now ≡ Some (table_view table)) }

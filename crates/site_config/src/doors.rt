@@ -1,5 +1,4 @@
-//! Checks and makes the doors of `[serve]`. A door is where connections come in. The fault of each flaw is K3: a value
-//! is out of its range, a list has a wrong length, or another condition isn't met.
+//! Checks and makes the doors of `[serve]`, where connections come in. All flaws are K3.
 ghost use Rattle.std.specs.Prelude.{◌≡◌, ◌≢◌, ◌<◌, ◌≤◌, ◌+◌, length, map, IfOk, IfSome, IsOkAnd, Err};
 ghost use Rattle.site_config.specs.Document.{Finds};
 ghost use Rattle.site_config.specs.Demands.{ranged};
@@ -22,18 +21,16 @@ use crate::settings::{Address, Door, Serve};
 use std::alloc::Global;
 use till_request::Role;
 
-/// The greatest number of workers that the doors of tills are allowed to have in all. A worker serves one connection at
-/// a time.
+/// The most workers of all doors of tills. A worker serves one connection at a time.
 const MOST_OF_TILLS: u32 = 64;
 
-/// The greatest number of workers that the doors of dispensers are allowed to have in all.
+/// The most workers of all doors of dispensers.
 const MOST_OF_DISPENSERS: u32 = 31;
 
-/// The greatest bound on how many lines are read at a door in a second.
+/// The most lines a second at a door.
 const MOST_LINES: u32 = 1_000_000;
 
-/// Returns the place of `key` in the same table as the key at `place`. If `place` isn't the place of a key, returns
-/// `place` itself.
+/// The place of `key` in the table of the key at `place`; else `place`.
 fn beside(place: Place, key: Key) -> Place
     ensures { result ≡ beside place key }
 {
@@ -43,8 +40,7 @@ fn beside(place: Place, key: Key) -> Place
     }
 }
 
-/// Returns where an item of a list stands in the configuration. `list` says where the list stands, and `place` is the
-/// item's index in the list, counted from 0. If `list` isn't a `Place::At` (where a key stands), returns `list` itself.
+/// The place of an item, counted from 0, of the list at `list`; else `list`.
 fn item_of(list: Place, place: usize) -> Place
     ensures { result ≡ item_of list place }
 {
@@ -54,8 +50,7 @@ fn item_of(list: Place, place: usize) -> Place
     }
 }
 
-/// Makes the address of a door. `place` is the place of the key that gives the address. The error is `OutOfRange` if a
-/// port isn't from 1 to 65,535, `Empty` if a path is empty, or that memory ran out.
+/// The address of a door; `place` is that of its key.
 #[tactic(auto, unfolding(crate::specs::Doors::address_of))]
 fn make_address(alloc: Global, place: Place, address: &RawAddress) -> Result<Address, ConfigFlaw>
     ensures read { Finds address_seen result (address_of place address.now) }
@@ -72,8 +67,7 @@ fn make_address(alloc: Global, place: Place, address: &RawAddress) -> Result<Add
     }
 }
 
-/// Checks the address of a door. `place` is the place of the key that gives the address. The error is `OutOfRange` if a
-/// port isn't from 1 to 65,535, or `Empty` if a path is empty.
+/// Checks the address of a door; `place` is that of its key.
 #[tactic(auto, unfolding(crate::specs::Doors::address_fits, crate::specs::Doors::address_of))]
 fn check_address(place: Place, address: &RawAddress) -> Result<(), ConfigFlaw>
     ensures read { Finds (λ x. x) result (address_fits place address.now) }
@@ -92,9 +86,8 @@ fn check_address(place: Place, address: &RawAddress) -> Result<(), ConfigFlaw>
     Ok(())
 }
 
-/// Adds the point `value` to the points in `bits`, and returns all of them as bits: point p is bit p - 1. The value is
-/// item `place`, counted from 0, of the list at `list`. The site has `points` points, which must be at most 32. The
-/// error is `OutOfRange` if the value isn't from 1 to `points`, or `PointTwice` if `bits` has the point already.
+/// Adds a point, item `place` (counted from 0) of the list at `list`, to `bits`, in which point p is bit p - 1. The
+/// site has `points`, at most 32.
 #[tactic(auto, unfolding(crate::specs::Doors::with_point))]
 fn add_point(
     list: Place,
@@ -131,10 +124,7 @@ fn add_points(list: Place, points: u32, values: &[i64]) -> Result<u32, ConfigFla
     Ok(bits)
 }
 
-/// Returns the points in `values`, the list at `list`, as bits: point p is bit p - 1. The site has `points` points,
-/// which must be at most 32. The error is `WrongCount` if the list is empty. Otherwise the error is the flaw of the
-/// first wrong value: `OutOfRange` if the value isn't from 1 to `points`, or `PointTwice` if the value comes a second
-/// time.
+/// The points of the list at `list` as bits: point p is bit p - 1. The site has `points`, at most 32.
 #[tactic(auto, unfolding(crate::specs::Doors::bits_of))]
 fn make_bits(list: Place, points: u32, values: &[i64]) -> Result<u32, ConfigFlaw>
     requires { points ≤ POINTS }
@@ -147,17 +137,13 @@ fn make_bits(list: Place, points: u32, values: &[i64]) -> Result<u32, ConfigFlaw
     add_points(list, points, values)
 }
 
-/// Does nothing. Its contract is a law: a door takes a line exactly if the door's sessions are allowed to send the
-/// line. The door's `RawRole`, its role in the configuration, says which lines the door takes. The `Role` that is made
-/// from this `RawRole` says which lines the door's sessions are allowed to send. The law covers each till's line, and
-/// each dispenser's line that names a point from 1 to 32.
+/// A law: a door takes a line exactly if its sessions may send it, by the role made of its `RawRole`: each till's line,
+/// and each dispenser's of a point from 1 to 32.
 pub fn law_of_own_lines()
     ensures { DoorsTakeOwnLines }
 {}
 
-/// Makes the role of a door, at a site with `tills` tills and `points` points. `points` must be at most 32. `place` is
-/// where the configuration has the door's address. The error is `OutOfRange` if a number names no till or point of the
-/// site, `PointTwice` if a point is listed twice, or `WrongCount` if no point is listed.
+/// The role of a door at a site with `tills` and `points`, at most 32. `place` is that of its address.
 #[tactic(auto, unfolding(crate::specs::Doors::role_of))]
 fn make_role(tills: u32, points: u32, place: Place, role: &RawRole) -> Result<Role, ConfigFlaw>
     requires { points ≤ POINTS }
@@ -179,9 +165,7 @@ fn make_role(tills: u32, points: u32, place: Place, role: &RawRole) -> Result<Ro
     }
 }
 
-/// Returns how many lines are read at a door in a second at most, or 0 if there is no bound. `own` is the number in the
-/// door's own table, or `None` if it has no such table: then the result is `shared`. `place` is where the configuration
-/// has the door's address. The error is `OutOfRange` if the number isn't from 0 to 1,000,000.
+/// How many lines a second are read at a door, 0 without a bound: `own`, else `shared`. `place` is that of its address.
 fn lines_of(shared: u32, place: Place, own: Option<i64>) -> Result<u32, ConfigFlaw>
     ensures read { Finds (λ x. x) result (lines_of shared place own) }
     ensures memory { result ≢ Err ConfigFlaw.OutOfMemory }
@@ -192,8 +176,7 @@ fn lines_of(shared: u32, place: Place, own: Option<i64>) -> Result<u32, ConfigFl
     }
 }
 
-/// Checks the address of a door, then its role, and then the bound on its lines. `points` must be at most 32. The error
-/// is the first flaw: an error of `check_address`, of `make_role`, or of `lines_of`.
+/// Checks a door's address, then its role, then the bound on its lines. `points` must be at most 32.
 #[tactic(auto, unfolding(crate::specs::Doors::door_fits, crate::specs::Doors::address_fits))]
 fn check_door(tills: u32, points: u32, door: &RawDoor) -> Result<(), ConfigFlaw>
     requires { points ≤ POINTS }
@@ -217,7 +200,7 @@ fn check_doors(tills: u32, points: u32, doors: &[RawDoor]) -> Result<(), ConfigF
     Ok(())
 }
 
-/// Returns the flaw `SamePort` or `SameSocket` if two doors have the same address, or `None` otherwise.
+/// The flaw that two doors have one address.
 fn address_clash(first: &RawDoor, second: &RawDoor) -> Option<ConfigFlaw>
     ensures found { result ≡ address_clash first.now.place second.now.place first.now.address second.now.address }
     ensures memory { IfSome result (λ flaw. flaw ≢ ConfigFlaw.OutOfMemory) }
@@ -233,7 +216,7 @@ fn address_clash(first: &RawDoor, second: &RawDoor) -> Option<ConfigFlaw>
     }
 }
 
-/// Returns the flaw `SameTill` if both doors are for the same single till, or `None` otherwise.
+/// The flaw that two doors are for one single till.
 fn till_clash(first: &RawDoor, second: &RawDoor) -> Option<ConfigFlaw>
     ensures found { result ≡ till_clash first.now.place second.now.place first.now.role second.now.role }
     ensures memory { IfSome result (λ flaw. flaw ≢ ConfigFlaw.OutOfMemory) }
@@ -268,8 +251,7 @@ fn clash_with(door: &RawDoor, others: &[RawDoor]) -> Option<ConfigFlaw>
     None
 }
 
-/// Checks that all doors have different addresses, and that each till has at most one door of its own. The error is
-/// `SamePort`, `SameSocket` or `SameTill`.
+/// Checks that doors have different addresses, and each till at most one of its own.
 fn check_apart(doors: &[RawDoor]) -> Result<(), ConfigFlaw>
     ensures read { Finds (λ x. x) result (without (clash_among doors.now)) }
     ensures memory { result ≢ Err ConfigFlaw.OutOfMemory }
@@ -284,8 +266,7 @@ fn check_apart(doors: &[RawDoor]) -> Result<(), ConfigFlaw>
     Ok(())
 }
 
-/// Returns the flaw `SamePort` for the first door that has the port `port`, or `None` if no door has it. `port` is the
-/// port of the page on which the site is shown.
+/// The flaw that a door has the page's port.
 fn page_clash(port: i64, doors: &[RawDoor]) -> Option<ConfigFlaw>
     ensures found { result ≡ page_clash port doors.now }
     ensures memory { IfSome result (λ flaw. flaw ≢ ConfigFlaw.OutOfMemory) }
@@ -302,8 +283,7 @@ fn page_clash(port: i64, doors: &[RawDoor]) -> Option<ConfigFlaw>
     None
 }
 
-/// Checks and returns how many connections each worker serves. Returns `None` if it serves connections without end. The
-/// error is `OutOfRange` if the number isn't from 1 to 1,000,000.
+/// How many connections each worker serves, 1 to 1,000,000; `None` without end.
 fn connections_of(connections: Option<i64>) -> Result<Option<u32>, ConfigFlaw>
     ensures read { Finds (λ x. x) result (connections_of connections) }
     ensures memory { result ≢ Err ConfigFlaw.OutOfMemory }
@@ -314,8 +294,7 @@ fn connections_of(connections: Option<i64>) -> Result<Option<u32>, ConfigFlaw>
     }
 }
 
-/// Checks and returns the port of the page on which the site is shown. Returns `None` if there is no page. The error is
-/// `OutOfRange` if the port isn't from 1 to 65,535, or `SamePort` if a door has the same port.
+/// The page's port, 1 to 65,535, which no door has; `None` without a page.
 #[tactic(auto, unfolding(crate::specs::Doors::page_of))]
 fn page_of(doors: &[RawDoor], port: Option<i64>) -> Result<Option<u32>, ConfigFlaw>
     ensures read { Finds (λ x. x) result (page_of doors.now port) }
@@ -331,9 +310,7 @@ fn page_of(doors: &[RawDoor], port: Option<i64>) -> Result<Option<u32>, ConfigFl
     }
 }
 
-/// Returns how many workers a shared door (one for all tills, or for all dispensers) has. `value` is the value of the
-/// key `key` of `[serve]`, or `None` if there is no such door: then the result is 0. The error is `OutOfRange` if the
-/// value isn't from 1 to `most`.
+/// How many workers a shared door (of all tills or all dispensers) has, 1 to `most`; 0 without such a door.
 fn shared_of(key: Key, value: Option<i64>, most: u32) -> Result<u32, ConfigFlaw>
     ensures read { Finds (λ x. x) result (shared_workers key most value) }
     ensures range { IfOk result (λ n. n ≤ most) }
@@ -355,8 +332,7 @@ fn is_one(side: Side, role: &RawRole) -> bool
     }
 }
 
-/// If `side` is tills, returns how many doors are for one till each. If `side` is dispensers, returns how many doors
-/// are for some points only.
+/// How many doors are for one till each, or for some points each.
 fn count_of(side: Side, doors: &[RawDoor]) -> usize
     ensures count { result ≡ count_single side doors.now }
     ensures bound { result ≤ length doors.now }
@@ -368,8 +344,7 @@ fn count_of(side: Side, doors: &[RawDoor]) -> usize
     count
 }
 
-/// If `side` is tills, returns whether a door of this role takes the lines of till `number`. If `side` is dispensers,
-/// returns whether it takes the dispensers' lines that name point `number`.
+/// Whether a door takes the lines of till `number`, or those of point `number`.
 fn takes_lines(side: Side, number: u32, role: &RawRole) -> bool
     ensures { result ≡ takes side number role.now }
 {
@@ -395,11 +370,7 @@ fn is_taken(side: Side, number: u32, doors: &[RawDoor]) -> bool
     false
 }
 
-/// Looks for a till or a point without a door, and returns the flaw `WithoutDoor` for the one with the lowest number
-/// from 1 to `most`. Returns `None` if there is none.
-///
-/// - If `side` is tills, looks for a till whose lines no door takes.
-/// - If `side` is dispensers, looks for a point such that no door takes the dispensers' lines that name this point.
+/// The flaw that the lines of the first till, or point, from 1 to `most` are taken at no door.
 fn first_without_door(side: Side, doors: &[RawDoor], most: u32) -> Option<ConfigFlaw>
     ensures found { result ≡ first_without_door side doors.now most }
     ensures memory { IfSome result (λ flaw. flaw ≢ ConfigFlaw.OutOfMemory) }
@@ -414,13 +385,8 @@ fn first_without_door(side: Side, doors: &[RawDoor], most: u32) -> Option<Config
     None
 }
 
-/// Checks the doors of tills if `side` is tills, or those of dispensers if `side` is dispensers. `shared` is how many
-/// workers the shared door of all tills, or of all dispensers, has, or 0 if there is no such door. `shared` must be at
-/// most `most`.
-///
-/// The error is `TooManyWorkers` if these doors have more than `most` workers in all. Otherwise it is `WithoutDoor` for
-/// the first number from 1 to `numbers` such that no door takes the lines of the till with this number, or the
-/// dispensers' lines that name the point with this number.
+/// Checks the doors of one side: at most `most` workers in all, `shared` of them at the shared door, and a door for
+/// each till or point from 1 to `numbers`.
 #[tactic(auto, unfolding(crate::specs::Doors::side_fits))]
 fn check_side(
     side: Side,
@@ -444,8 +410,7 @@ fn check_side(
     }
 }
 
-/// Returns how many workers a door of this role has: `till_workers` if it takes all tills' lines, `dispenser_workers`
-/// if it takes all dispensers' lines, else 1.
+/// How many workers a door has: those of the shared doors, else 1.
 fn workers_for(till_workers: u32, dispenser_workers: u32, role: &RawRole) -> u32
     ensures { result ≡ workers_of till_workers dispenser_workers role.now }
 {
@@ -456,9 +421,8 @@ fn workers_for(till_workers: u32, dispenser_workers: u32, role: &RawRole) -> u32
     }
 }
 
-/// The numbers of a site's tills and points, and the numbers of workers of its shared doors: the door for all tills,
-/// and the door for all dispensers. A shared door that doesn't exist has 0 workers. `lines_per_second` is how many lines
-/// are read in a second at most, at each door without a table of its own (0 for no bound).
+/// How many tills and points a site has, how many workers its shared doors (0 where there is none), and how many lines
+/// a second are read at each door without a table of its own (0 without a bound).
 #[derive(Clone, Copy)]
 struct DoorCounts {
     tills: u32,
@@ -500,8 +464,7 @@ fn make_doors(alloc: Global, counts: DoorCounts, doors: &[RawDoor]) -> Result<Ve
     Ok(made)
 }
 
-/// Returns `value`, which the key `key` of `[serve]` has, if it is from `low` to `high`. Otherwise the error is
-/// `OutOfRange`.
+/// `value`, that of `key` in `[serve]`, if it is from `low` to `high`.
 fn number_of(key: Key, value: i64, low: u32, high: u32) -> Result<u32, ConfigFlaw>
     ensures read { Finds (λ x. x) result (ranged (Place.At Section.Serve key) low high value) }
     ensures memory { result ≢ Err ConfigFlaw.OutOfMemory }
@@ -509,8 +472,7 @@ fn number_of(key: Key, value: i64, low: u32, high: u32) -> Result<u32, ConfigFla
     in_range(Place::At(Section::Serve, key), value, low, high)
 }
 
-/// Checks `served`, and makes the settings of `[serve]` for a site that has `tills` tills and `points` points. `points`
-/// must be at most 32. The error is the first flaw in the values (K3), or that memory ran out.
+/// Checks `served`, and makes the settings of `[serve]` for a site with `tills` and `points`, at most 32.
 #[tactic(auto, unfolding(crate::specs::Doors::serve_of))]
 pub(crate) fn make_serve(
     alloc: Global,

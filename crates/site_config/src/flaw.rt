@@ -1,4 +1,4 @@
-//! What exactly is wrong in the text of a configuration, and the message that describes it.
+//! What exactly is wrong in a configuration, and the message that says it.
 ghost use Rattle.std.specs.Prelude.{◌≡◌};
 ghost use Rattle.site_config.specs.Keys.{counted};
 
@@ -44,7 +44,7 @@ impl Key {
     ghost use Rattle.std.specs.Prelude.{◌≡◌};
     ghost use Rattle.site_config.specs.Keys.{name_of};
 
-    /// Returns the key's name in a configuration, such as `till_port`.
+    /// The key's name, such as `till_port`.
     pub fn name(self) -> &'static str
         ensures { result.now ≡ name_of self }
     {
@@ -92,17 +92,15 @@ impl fmt::Display for Key {
     }
 }
 
-/// Returns the number, counted from 1, of the item at `place`, which is counted from 0. If `place` is the greatest
-/// `usize`, returns `place`.
+/// The number from 1 of the item at `place`, from 0; the greatest `usize` stays.
 fn counted(place: usize) -> usize
     ensures { result ≡ counted place }
 {
     place.saturating_add(1)
 }
 
-/// A table of a configuration. `Top` is the whole document, and `Serve` is `[serve]`. Each other variant is one table
-/// of `[[point]]`, `[[counter]]`, `[[serve.till]]` or `[[serve.dispenser]]`, with its place in this list of tables,
-/// counted from 0.
+/// A table: `Top` is the document, `Serve` is `[serve]`. The others are one of `[[point]]`, `[[counter]]`,
+/// `[[serve.till]]` or `[[serve.dispenser]]`, counted from 0.
 #[derive(Clone, Copy)]
 pub enum Section {
     Top,
@@ -119,8 +117,8 @@ impl fmt::Display for Section {
 
     ghost output = { λ s. Some (section_text s) };
 
-    /// Writes what comes before a key of this section in a message, such as `point[1].`. Points and doors are counted
-    /// from 1 and counters from 0, as the site counts them.
+    /// Writes what comes before a key in a message, such as `point[1].`. Points and doors count from 1, counters from
+    /// 0.
     fn fmt<W: fmt::Write>(&self, f: &mut fmt::Formatter<W>) -> fmt::Result {
         match *self {
             Section::Top => Ok(()),
@@ -133,9 +131,7 @@ impl fmt::Display for Section {
     }
 }
 
-/// The place of a value in a configuration. `At` is the value of a key. `Item` is an item of a key's list, with its
-/// place in the list. `Counter` is a table of `[[counter]]`, with its place in this list of tables. Both places are
-/// counted from 0.
+/// The place of a value: of a key, of an item in a key's list, or of a table of `[[counter]]`; both counted from 0.
 #[derive(Clone, Copy)]
 pub enum Place {
     At(Section, Key),
@@ -149,7 +145,7 @@ impl fmt::Display for Place {
 
     ghost output = { λ p. Some (place_text p) };
 
-    /// Writes the place. Counters are counted from 0, as the site counts them, and all other items from 1.
+    /// Counters count from 0, all other items from 1.
     fn fmt<W: fmt::Write>(&self, f: &mut fmt::Formatter<W>) -> fmt::Result {
         match *self {
             Place::At(section, key) => write!(f, "{section}{key}"),
@@ -159,8 +155,7 @@ impl fmt::Display for Place {
     }
 }
 
-/// One of two kinds of peers: tills, whose lines name the till's number, or dispensers, whose lines name a point's
-/// number.
+/// Tills, whose lines name their number, or dispensers, whose lines name a point's.
 #[derive(Clone, Copy)]
 pub enum Side {
     Tills,
@@ -217,8 +212,7 @@ impl fmt::Display for Type {
     }
 }
 
-/// The least and the greatest number that are allowed, as a message shows them. If they are equal, only one number is
-/// written.
+/// The least and the greatest number that are allowed; one number if they are equal.
 #[derive(Clone, Copy)]
 struct Range(usize, usize);
 
@@ -238,62 +232,53 @@ impl fmt::Display for Range {
     }
 }
 
-/// What is wrong in the text of a configuration: the first flaw in the order in which the text is checked.
+/// What is wrong in a configuration: the first flaw in the order of the checks.
 #[derive(Drop)]
 pub enum ConfigFlaw {
-    /// The text isn't UTF-8 from this line and column on, both counted from 1 (K1).
+    /// K1: the text isn't UTF-8 from this line and column on, counted from 1.
     NotUtf8 {
         line: usize,
         column: usize,
     },
-    /// The text isn't TOML (K1): the line and the column of the error, both counted from 1, and the message of the TOML
-    /// reader.
+    /// K1: where the error starts, counted from 1, and the TOML reader's message.
     NotToml {
         line: usize,
         column: usize,
         message: String,
     },
-    /// K2: a table of this section has an unknown key, which is given by its name.
+    /// K2: a table of this section has an unknown key.
     UnknownKey(Section, Text),
-    /// K2: a key that must be given is missing.
+    /// K2: a key is missing.
     Missing(Place),
-    /// K2: a value isn't of the type that it must have.
+    /// K2: a value has a wrong type.
     WrongType(Place, Type),
-    /// K2: two keys are given, and only one of them is allowed.
+    /// K2: two keys of which only one is allowed.
     BothThere(Place, Place),
-    /// K2: the number of workers of a shared door (of all tills, or of all dispensers) is given, but neither the port
-    /// nor the socket of this door. The places are those of three keys, in this order: the number of workers, the port,
-    /// the socket.
+    /// K2: the workers of a shared door, without its port or socket: the places of these three keys.
     Needless(Place, Place, Place),
-    /// K3: a value isn't in its range. The numbers are the value, and the least and the greatest that are allowed.
+    /// K3: a value, and the least and the greatest that are allowed.
     OutOfRange(Place, i64, u64, u64),
-    /// K3: a list has a wrong number of items. The numbers are how many it has, and the least and the greatest number
-    /// that are allowed.
+    /// K3: how many items a list has, and the least and the most that are allowed.
     WrongCount(Place, usize, usize, usize),
-    /// K3: a counter's value is over its bound. The numbers are, in this order: the counter's number, counted from 0,
-    /// its value, and its bound.
+    /// K3: a counter, from 0, its value, and the bound that the value is over.
     OverBound(usize, u64, u64),
-    /// K3: the path of a socket is empty.
+    /// K3: a socket's path is empty.
     Empty(Place),
-    /// K3: two keys give the same port. The number is this port.
+    /// K3: two keys give this port.
     SamePort(Place, Place, i64),
-    /// K3: two keys give the same path of a socket.
+    /// K3: two keys give one socket.
     SameSocket(Place, Place),
-    /// K3: two doors are for the same single till. The places are those of the doors' addresses. The number is the
-    /// till's.
+    /// K3: two doors are for this till: the places of their addresses.
     SameTill(Place, Place, i64),
     /// K3: a list of points has this point twice.
     PointTwice(Place, u32),
-    /// K3: the doors of tills, or those of dispensers, have too many workers. The numbers are how many they have, and
-    /// how many are allowed at most.
+    /// K3: how many workers the doors of one side have, and the most that are allowed.
     TooManyWorkers(Side, usize, usize),
-    /// K3: a till or a point has no door. If the side is tills, no door takes the lines of the till with this number.
-    /// If the side is dispensers, no door takes the dispensers' lines that name the point with this number.
+    /// K3: the lines of this till, or of this point, are taken at no door.
     WithoutDoor(Side, u32),
     OutOfMemory,
 }
 
-/// How many items a list has, and the least and the greatest number of items that are allowed.
 #[derive(Clone, Copy)]
 struct Miscounted(usize, usize, usize);
 
@@ -308,7 +293,6 @@ impl fmt::Display for Miscounted {
     }
 }
 
-/// A value, and the least and the greatest value that are allowed.
 #[derive(Clone, Copy)]
 struct Outside(i64, u64, u64);
 
@@ -323,7 +307,6 @@ impl fmt::Display for Outside {
     }
 }
 
-/// A counter's value, and the bound that the value is over.
 #[derive(Clone, Copy)]
 struct Over(u64, u64);
 
@@ -338,8 +321,7 @@ impl fmt::Display for Over {
     }
 }
 
-/// The message for a flaw that only `[serve]` can have: `BothThere`, `Needless`, `Empty`, `SamePort`, `SameSocket`,
-/// `SameTill`, `PointTwice`, `TooManyWorkers` or `WithoutDoor`. For any other flaw the message is empty.
+/// The message of a flaw that only `[serve]` can have; empty for any other.
 #[derive(Clone, Copy)]
 struct ServeFlawText<'a>(&'a ConfigFlaw);
 
@@ -428,7 +410,7 @@ impl ConfigFlaw {
     ghost use Rattle.std.specs.Prelude.{◌≡◌};
     ghost use Rattle.site_config.specs.Flaws.{fault_of, position_of};
 
-    /// Returns the fault number of the flaw, K1 to K3, or `OutOfMemory` if memory ran out.
+    /// K1 to K3, or that memory ran out.
     pub fn fault(&self) -> ConfigFault
         ensures { result ≡ fault_of self.now }
     {
@@ -453,8 +435,7 @@ impl ConfigFlaw {
         }
     }
 
-    /// Returns the line and the column of a flaw with the fault K1, both counted from 1: where the text stops being
-    /// UTF-8, or where the TOML reader found an error. The column counts characters. Returns `None` for other flaws.
+    /// Where a flaw K1 is: line and column, counted from 1, columns by characters.
     pub fn position(&self) -> Option<(usize, usize)>
         ensures { result ≡ position_of self.now }
     {

@@ -9,10 +9,10 @@ use std::alloc::Global;
 use till_request::line::next_byte;
 use till_request::{InputFault, LineIn};
 
-/// The greatest number of bytes that a configuration is allowed to have.
+/// The most bytes of a configuration.
 pub const MOST_BYTES: usize = 65_536;
 
-/// Returns whether the bytes end with a whole line `---` and its LF.
+/// Whether the bytes end with a line `---`.
 fn is_head_end(bytes: &[u8]) -> bool
     ensures { result ≡ ends_head bytes.now }
 {
@@ -20,13 +20,11 @@ fn is_head_end(bytes: &[u8]) -> bool
     bytes == b"---\n".as_slice() || &bytes[from..] == b"\n---\n".as_slice()
 }
 
-/// Reads and returns the bytes up to the end of the first line `---`, with its LF. What follows this line stays unread.
-/// If there is no such line, reads and returns all bytes. Also stops after 65,541 bytes, which are too many for a
-/// configuration and its line `---`, and returns these bytes.
+/// Reads up to the end of the first line `---` and its LF, or to the end of the input; at most 65,541 bytes, which are
+/// too many for a configuration and its line `---`.
 ///
-/// Each read asks for one byte, and subtracts 1 from `left`, the number of reads that are still allowed. The read that
-/// finds the end of the input also subtracts 1. The error is `ReadsSpent` if a read is needed and `left` is 0, `Read`
-/// if the input failed, or `OutOfMemory` if there was no memory for a byte that was read.
+/// Each read is of one byte and subtracts 1 from `left`, the reads that are still allowed; so does the one that finds
+/// the end.
 pub fn read_head<I: LineIn>(
     alloc: Global,
     input: &mut I,
@@ -57,8 +55,7 @@ pub fn read_head<I: LineIn>(
     }
 }
 
-/// Returns the configuration in the bytes that `read_head` returned: what comes before the line `---`, or all bytes if
-/// there is no such line. Returns `None` if the configuration has over 65,536 bytes.
+/// What comes before the line `---`, or all bytes; `None` if they are over 65,536.
 pub fn config_part(bytes: &[u8]) -> Option<&[u8]>
     ensures { option_map (λ part. part.now) result ≡ head_part bytes.now }
 {

@@ -1,8 +1,7 @@
 //! Reads the configuration of a site from its text.
 #![tactic(auto)]
 
-/// Gives the value of a result. If the result is a flaw, the function that uses the macro returns the flaw. The macro
-/// is `?` without a conversion of the flaw, and takes half the time to prove.
+/// `?` for a flaw, without a conversion: half the time to prove.
 macro_rules! value_of {
     ($result:expr) => {
         match $result {
@@ -12,8 +11,7 @@ macro_rules! value_of {
     };
 }
 
-/// Gives the value that an allocation returned. If memory ran out, the function that uses the macro returns the flaw
-/// `OutOfMemory`.
+/// `?` for an allocation: the flaw `OutOfMemory`.
 macro_rules! room_for {
     ($result:expr) => {
         match $result {

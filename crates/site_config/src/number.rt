@@ -5,8 +5,7 @@ ghost use Rattle.site_config.specs.Demands.{ranged};
 
 use crate::flaw::{ConfigFlaw, Place};
 
-/// Returns `value`, which the configuration has at `place`, if it is from `low` to `high`. Otherwise the error is
-/// `OutOfRange`.
+/// `value`, which stands at `place`, if it is from `low` to `high`.
 pub fn in_range(place: Place, value: i64, low: u32, high: u32) -> Result<u32, ConfigFlaw>
     ensures read { Finds (λ x. x) result (ranged place low high value) }
     ensures range { IfOk result (λ n. (low ≤ n) × (n ≤ high)) }

@@ -1,5 +1,4 @@
-//! Checks the values of a configuration, and makes the settings from them. If a value is out of its range, a list has a
-//! wrong length, or another condition isn't met, the fault is K3.
+//! Checks the values of a configuration (K3), and makes the settings from them.
 ghost use Rattle.std.specs.Prelude.{◌≡◌, ◌≢◌, ◌≤◌, ◌-◌, ◌++◌, length, replicate, option_map, IfErr, IfOk, All};
 ghost use Rattle.std.specs.Prelude.{None, Some, Err, IsOkAnd, IsSomeAnd, true};
 ghost use Rattle.std.specs.Str.{is_utf8};
@@ -29,13 +28,12 @@ use site_core::Config;
 use std::alloc::Global;
 use toml::Table;
 
-/// The greatest value and the greatest bound of a counter: the greatest number that a document can contain.
+/// The greatest value and bound of a counter: the greatest number of a document.
 const MOST_COUNTER: u64 = 9_223_372_036_854_775_807;
 
 /// The greatest price of a litre, in thousandths of the currency.
 const MOST_PRICE: u32 = 9_999_999;
 
-/// Returns `value`, which the configuration has at `place`, if it is not below 0. Otherwise the error is `OutOfRange`.
 fn not_negative(place: Place, value: i64) -> Result<u64, ConfigFlaw>
     ensures read { Finds (λ x. x) result (ranged place 0 MOST_COUNTER value) }
     ensures memory { result ≢ Err ConfigFlaw.OutOfMemory }
@@ -46,8 +44,6 @@ fn not_negative(place: Place, value: i64) -> Result<u64, ConfigFlaw>
     }
 }
 
-/// Returns the flaw `WrongCount` for the list at the key `key` of the document: the list has `count` items, but must
-/// have `low` to `high`.
 fn wrong_count(key: Key, count: usize, low: usize, high: usize) -> ConfigFlaw
     ensures { result ≡ ConfigFlaw.WrongCount (Place.At Section.Top key) count low high }
 {
@@ -81,8 +77,7 @@ fn make_counter(place: usize, pair: (i64, i64)) -> Result<(u64, u64), ConfigFlaw
     Ok((value, bound))
 }
 
-/// Returns `value` as the price of the product at `place`, counted from 0. The error is `OutOfRange` if the value isn't
-/// from 0 to 9,999,999.
+/// The price of the product at `place`, counted from 0: 0 to 9,999,999.
 fn make_price(place: usize, value: i64) -> Result<u32, ConfigFlaw>
     ensures read { Finds (λ x. x) result (price_of place value) }
     ensures range { IfOk result (λ price. price ≤ MOST_PRICE) }
@@ -114,7 +109,6 @@ fn each_price(alloc: Global, values: &[i64]) -> Result<Vec<u32>, ConfigFlaw>
     Ok(prices)
 }
 
-/// Copies a list, which must have exactly 8 numbers, into an array.
 fn eight_of(list: &[u32]) -> [u32; 8]
     requires { length list.now ≡ 8 }
     ensures { result ≡ list.now }
@@ -177,9 +171,7 @@ fn each_counter(alloc: Global, pairs: &[(i64, i64)]) -> Result<Vec<(u64, u64)>, 
     Ok(counters)
 }
 
-/// Copies a list of counters into an array, and fills the rest of the array with counters of value 0 and bound 0. The
-/// list must have at most 32 counters. Each counter must have a value that is at most its bound, and a bound that is at
-/// most 9,223,372,036,854,775,807.
+/// Copies at most 32 counters, each within its bound, and fills up with 0 and bound 0.
 fn table_of(list: &[(u64, u64)]) -> [(u64, u64); 32]
     requires room { length list.now ≤ COUNTERS }
     requires range { All IsCounter list.now }
@@ -222,8 +214,7 @@ fn maybe_serve(
     }
 }
 
-/// Checks `raw`, the values of a document's keys, and makes the settings from them. The error is the first flaw in
-/// these values (K3), or that memory ran out.
+/// Checks the values of a document's keys (K3), and makes the settings.
 #[tactic(auto, using(crate::proofs::Making::prices_made), unfolding(crate::specs::Ranges::settings_of_typed, crate::specs::Memory::TakesSettings))]
 fn make_settings(alloc: Global, raw: &Raw) -> Result<Settings, ConfigFlaw>
     ensures read { Finds settings_view result (settings_of_typed (seen raw.now)) }
@@ -247,8 +238,7 @@ fn make_settings(alloc: Global, raw: &Raw) -> Result<Settings, ConfigFlaw>
     }
 }
 
-/// Reads the settings from a document. The error is the document's first flaw, or that memory ran out. The keys and the
-/// types of their values are checked first (K2), and then the values themselves (K3).
+/// Reads the settings of a document: keys and types first (K2), then values (K3).
 #[tactic(auto, unfolding(crate::specs::Ranges::settings_of, crate::specs::Memory::TakesDocument))]
 fn settings_in(alloc: Global, document: &Table) -> Result<Settings, ConfigFlaw>
     ensures read { Finds settings_view result (settings_of (table_view document.now)) }
@@ -258,12 +248,8 @@ fn settings_in(alloc: Global, document: &Table) -> Result<Settings, ConfigFlaw>
     make_settings(alloc, &raw)
 }
 
-/// Reads the settings from a text. The error is the text's first flaw, or that memory ran out. The checks come in this
-/// order:
-///
-/// - Is the text a TOML document (K1)?
-/// - Are the keys and the types of their values right (K2)?
-/// - Are the values themselves right: ranges, counts and other conditions (K3)?
+/// Reads the settings of a text. The error is its first flaw: it is no TOML (K1), keys or types are wrong (K2), or
+/// values are (K3).
 #[tactic(auto, unfolding(crate::specs::Ranges::config_of))]
 pub fn read_settings(alloc: Global, bytes: &[u8]) -> Result<Settings, ConfigFlaw>
     ensures found { Gives settings_view (numbered result) (config_of bytes.now) }
@@ -278,7 +264,7 @@ pub fn read_settings(alloc: Global, bytes: &[u8]) -> Result<Settings, ConfigFlaw
     }
 }
 
-/// Reads the settings from a text. The error is the fault number of the text's first flaw, or that memory ran out.
+/// As `read_settings`, with the fault's number alone.
 pub fn read_config(alloc: Global, bytes: &[u8]) -> Result<Settings, ConfigFault>
     ensures found { Gives settings_view result (config_of bytes.now) }
     ensures memory { result ≡ Err ConfigFault.OutOfMemory → (is_utf8 bytes.now ≡ true) × (¬ IsBlank bytes.now) }

@@ -1,5 +1,4 @@
-//! Reads the table `[serve]` and the tables of doors in it, and checks their keys and the types of the keys' values. If
-//! a key is unknown or missing, doesn't go with the other keys, or has a value of a wrong type, the fault is K2.
+//! Reads the table `[serve]` and its tables of doors, and checks their keys and types (K2).
 ghost use Rattle.std.specs.Prelude.{◌≡◌, ◌≢◌, ◌<◌, Err, IsOkAnd, IsSomeAnd, length, option_map};
 ghost use Rattle.toml.specs.View.{view, table_view, items_view};
 ghost use Rattle.toml.specs.Data.{get_member};
@@ -21,19 +20,18 @@ use crate::values::{
 use std::alloc::Global;
 use toml::{Table, Value};
 
-/// The keys that name the address of the tills' shared door: its port and its socket.
+/// Port and socket of the tills' shared door.
 const TILL_KEYS: (Key, Key) = (Key::TillPort, Key::TillSocket);
 
-/// The keys that name the address of the dispensers' shared door.
+/// Port and socket of the dispensers' shared door.
 const DISPENSER_KEYS: (Key, Key) = (Key::DispenserPort, Key::DispenserSocket);
 
-/// The keys that name the address of the owner's door.
+/// Port and socket of the owner's door.
 const OWNER_KEYS: (Key, Key) = (Key::OwnerPort, Key::OwnerSocket);
 
-/// The keys that name the address of a door in a table of its own.
+/// Port and socket of a door in a table of its own.
 const KEYS: (Key, Key) = (Key::Port, Key::Socket);
 
-/// Copies the text of a value. The error is `WrongType` if the value isn't a text, or that memory ran out.
 fn read_text(alloc: Global, value: &Value, place: Place) -> Result<Text, ConfigFlaw>
     ensures read { Finds (λ t. t) result (text_of place (view value.now)) }
     ensures memory { result ≡ Err ConfigFlaw.OutOfMemory
@@ -43,9 +41,7 @@ fn read_text(alloc: Global, value: &Value, place: Place) -> Result<Text, ConfigF
     Ok(room_for!(Text::copied(alloc, text)))
 }
 
-/// Reads a door whose port is the value of the key `keys.0`, or whose socket is the value of the key `keys.1`. The
-/// error is `Missing` if neither key is given, `BothThere` if both are, `WrongType` if the port isn't a number or the
-/// socket isn't a text, or that memory ran out.
+/// Reads a door whose port is at the key `keys.0`, or its socket at `keys.1`: exactly one of them.
 #[tactic(auto, unfolding(crate::specs::Typed::door_at, crate::specs::Memory::TakesDoor))]
 fn read_door(
     alloc: Global,
@@ -80,22 +76,15 @@ fn read_door(
     }
 }
 
-/// Returns whether there is a shared door (of all tills, or of all dispensers): whether the key of its port, or that of
-/// its socket, is given.
+/// Whether the port or the socket of a shared door is given.
 fn is_shared(table: &Table, keys: (Key, Key)) -> bool
     ensures { result ≡ has_shared keys (table_view table.now) }
 {
     has_key(table, keys.0) || has_key(table, keys.1)
 }
 
-/// Reads the shared door of all tills, or of all dispensers, and appends it to `doors`. `keys` are the keys of
-/// `[serve]` for the door's port and for its socket. `tables` is the key of the doors that aren't shared (of single
-/// tills, or of some points).
-///
-/// - If any of `keys` is given, the error is `BothThere` if both are given, `WrongType` if the port isn't a number or
-///   the socket isn't a text, or that memory ran out.
-/// - If none of `keys` is given, there is no shared door, and `doors` is returned as it is. The error is `Missing` if
-///   `tables` isn't given either. The value of `tables` isn't checked here.
+/// Adds the shared door whose port and socket are at `keys`, if one of them is given. If neither is, the key `tables`
+/// of the doors that aren't shared has to be there.
 #[tactic(auto, unfolding(crate::specs::Typed::shared_at, crate::specs::Memory::TakesShared))]
 fn add_shared(
     alloc: Global,
@@ -119,10 +108,8 @@ fn add_shared(
     Ok(doors)
 }
 
-/// Reads how many workers a shared door (of all tills, or of all dispensers) has. There is such a door if any of
-/// `keys`, the keys of its port and of its socket, is given.
-/// - If there is such a door, the error is `Missing` if `key` isn't given, or `WrongType` if its value isn't a number.
-/// - If there is no such door, the result is `None`, or the error `Needless` if `key` is given.
+/// How many workers the shared door has whose port and socket are at `keys`. `key` has to be given exactly if the door
+/// is.
 #[tactic(auto, unfolding(crate::specs::Typed::workers_at))]
 fn read_workers(table: &Table, keys: (Key, Key), key: Key) -> Result<Option<i64>, ConfigFlaw>
     ensures read { Finds (λ x. x) result (workers_at keys key (table_view table.now)) }
@@ -141,9 +128,7 @@ fn read_workers(table: &Table, keys: (Key, Key), key: Key) -> Result<Option<i64>
     Ok(None)
 }
 
-/// Reads a door from a table of its own, with the bound on its lines in this table. The error is `Missing` if neither a
-/// port nor a socket is given, `BothThere` if both are, `WrongType` if a number isn't one or the socket isn't a text, or
-/// that memory ran out.
+/// Reads a door from a table of its own, with the bound on its lines.
 #[tactic(auto, unfolding(crate::specs::Typed::own_door_at))]
 fn read_own_door(
     alloc: Global,
@@ -162,9 +147,7 @@ fn read_own_door(
     })
 }
 
-/// Reads the door of one till from `value`, which is item `place`, counted from 0, of `[[serve.till]]`. The error is
-/// that memory ran out, or the first flaw (K2): `value` isn't a table, a key in it is unknown or missing, a port
-/// and a socket are both given, or a key's value has a wrong type.
+/// Reads the door of one till, item `place` (from 0) of `[[serve.till]]`.
 #[tactic(auto, unfolding(crate::specs::Typed::till_in, crate::specs::Memory::TakesTill))]
 fn read_till(alloc: Global, value: &Value, place: usize) -> Result<RawDoor, ConfigFlaw>
     ensures read { Finds (λ x. x) result (till_in place (view value.now)) }
@@ -177,9 +160,7 @@ fn read_till(alloc: Global, value: &Value, place: usize) -> Result<RawDoor, Conf
     read_own_door(alloc, table, section, RawRole::OneTill(number))
 }
 
-/// Reads the door of some points from `value`, which is item `place`, counted from 0, of `[[serve.dispenser]]`. The
-/// error is that memory ran out, or the first flaw (K2): `value` isn't a table, a key in it is unknown or missing, a
-/// port and a socket are both given, or a key's value has a wrong type.
+/// Reads the door of some points, item `place` (from 0) of `[[serve.dispenser]]`.
 #[tactic(auto, unfolding(crate::specs::Typed::dispenser_in, crate::specs::Typed::integers_at, crate::specs::Memory::TakesDispenser, crate::specs::Memory::TakesIntegers))]
 fn read_dispenser(alloc: Global, value: &Value, place: usize) -> Result<RawDoor, ConfigFlaw>
     ensures read { Finds (λ x. x) result (dispenser_in place (view value.now)) }
@@ -194,9 +175,7 @@ fn read_dispenser(alloc: Global, value: &Value, place: usize) -> Result<RawDoor,
     read_own_door(alloc, table, section, role)
 }
 
-/// Reads a door from `value`: the door of one till (`read_till`) if the side is tills, or the door of some points
-/// (`read_dispenser`) if the side is dispensers. `value` is item `place`, counted from 0, of a list of such doors. The
-/// error is that memory ran out, or the first flaw (K2) in `value`.
+/// Reads the door of one till or of some points, item `place` (from 0) of its list.
 fn read_single(
     alloc: Global,
     side: Side,
@@ -212,9 +191,7 @@ fn read_single(
     }
 }
 
-/// Reads each of `values` as a door (of one till if `side` is tills, or of some points if `side` is dispensers), and
-/// appends the doors to `doors` in this order. The error is the flaw of the first value that isn't the table of a door,
-/// or that memory ran out.
+/// Adds a door for each of `values`, in this order.
 fn each_single(
     alloc: Global,
     side: Side,
@@ -234,10 +211,7 @@ fn each_single(
     Ok(doors)
 }
 
-/// Reads doors from the tables at the key `key`, and appends them to `doors`. If `side` is tills, each table is the
-/// door of one till. If `side` is dispensers, each table is the door of some points. If the key isn't given, returns
-/// `doors` as it is. The error is `WrongType` if the key's value isn't an array, an error of `each_single`, or that
-/// memory ran out.
+/// Adds the doors of the tables at `key`, if it is given.
 fn add_singles(
     alloc: Global,
     table: &Table,
@@ -279,8 +253,7 @@ fn add_owner(
     Ok(doors)
 }
 
-/// Reads all doors from the table `[serve]`, in the order in which workers get their passes (rights to call the site).
-/// The error is the first flaw in the keys or the types of their values (K2), or that memory ran out.
+/// Reads all doors, in the order in which workers get their passes (rights to call the site).
 #[tactic(auto, unfolding(crate::specs::Typed::doors_at, crate::specs::Typed::tills_at, crate::specs::Typed::dispensers_at, crate::specs::Memory::TakesDoors))]
 fn read_doors(alloc: Global, table: &Table) -> Result<Vec<RawDoor>, ConfigFlaw>
     ensures read { Finds (λ v. v.items) result (doors_at (table_view table.now)) }
@@ -295,8 +268,7 @@ fn read_doors(alloc: Global, table: &Table) -> Result<Vec<RawDoor>, ConfigFlaw>
     add_owner(alloc, table, doors)
 }
 
-/// Reads the port of the page on which the site is shown. Returns `None` if its key isn't given. The error is
-/// `WrongType` if the value isn't a number.
+/// The page's port; `None` if its key isn't given.
 fn read_page(table: &Table) -> Result<Option<i64>, ConfigFlaw>
     ensures read { Finds (λ x. x) result (page_from (get_member (name_of Key.PagePort) (table_view table.now))) }
     ensures memory { result ≢ Err ConfigFlaw.OutOfMemory }
@@ -335,9 +307,7 @@ fn read_served(alloc: Global, value: &Value) -> Result<Served, ConfigFlaw>
     })
 }
 
-/// Reads the table `[serve]`, or returns `None` if the document has no key `serve`. The error is the first wrong or
-/// missing key, or wrong type, in the value of `serve` (K2), or that memory ran out. Whether the table's numbers are in
-/// range is checked later.
+/// Reads the table `[serve]`, if there is one. Ranges are checked later.
 #[tactic(auto, unfolding(crate::specs::Typed::served_at))]
 pub fn find_served(alloc: Global, table: &Table) -> Result<Option<Served>, ConfigFlaw>
     ensures read { Finds (option_map seen_serve) result (served_at (table_view table.now)) }

@@ -6,7 +6,7 @@ use std::alloc::{AllocError, Global};
 use std::fmt;
 use std::marker::Model;
 
-/// A text. In contracts its value is the list of its bytes.
+/// A text. In contracts it is its bytes.
 #[derive(Drop)]
 pub struct Text {
     text: String,
@@ -27,7 +27,7 @@ impl Text {
         Text { text }
     }
 
-    /// Copies a text. The error is that memory ran out. An empty text needs no memory.
+    /// An empty text takes no memory.
     pub fn copied(alloc: Global, text: &str) -> Result<Text, AllocError>
         ensures same { IfOk result (λ copy. copy ≡ text.now) }
         ensures memory { OnErr result (0 < length text.now) }

@@ -1,5 +1,4 @@
-//! Reads the keys of a document, and checks the types of their values. If a key is unknown or missing, doesn't go
-//! with the other keys, or has a value of a wrong type, the fault is K2.
+//! Reads the keys of a document, and checks them and the types of their values (K2).
 ghost use Rattle.std.specs.Prelude.{◌≡◌, Err};
 ghost use Rattle.toml.specs.View.{view, table_view, items_view};
 ghost use Rattle.site_config.specs.Document.{Finds};
@@ -17,9 +16,8 @@ use crate::values::{
 use std::alloc::Global;
 use toml::{Table, Value};
 
-/// Reads the numbers of the two keys `keys` from `value`, the document's value at `place`. The error is `WrongType` if
-/// `value` isn't a table or a key's value isn't a number, `UnknownKey` if `section` doesn't allow a key of the table,
-/// `Missing` if one of `keys` isn't given, or that memory ran out.
+/// Reads the numbers of two keys from `value`, which stands at `place` and has to be a table with no other keys than
+/// those of `section`.
 #[tactic(auto, unfolding(crate::specs::Typed::pair_in, crate::specs::Memory::TakesPair))]
 fn read_pair(
     alloc: Global,
@@ -68,8 +66,7 @@ fn read_counter(alloc: Global, value: &Value, place: usize) -> Result<(i64, i64)
     )
 }
 
-/// Reads each item of a list as a point, and returns the two slots of each point: `release`, then `preset`. The error
-/// is the flaw of the first item that isn't a point, or that memory ran out.
+/// The slots of each point: `release`, then `preset`.
 fn read_points(alloc: Global, values: &[Value]) -> Result<Vec<(i64, i64)>, ConfigFlaw>
     ensures read { Finds (λ v. v.items) result (each_in point_in 0 (items_view values.now)) }
     ensures memory { result ≡ Err ConfigFlaw.OutOfMemory → KeepsFirst point_in TakesPoint (items_view values.now) }
@@ -81,8 +78,7 @@ fn read_points(alloc: Global, values: &[Value]) -> Result<Vec<(i64, i64)>, Confi
     Ok(pairs)
 }
 
-/// Reads each item of a list as a counter, and returns the value and the bound of each counter. The error is the flaw
-/// of the first item that isn't a counter, or that memory ran out.
+/// The value and the bound of each counter.
 fn read_counters(alloc: Global, values: &[Value]) -> Result<Vec<(i64, i64)>, ConfigFlaw>
     ensures read { Finds (λ v. v.items) result (each_in counter_in 0 (items_view values.now)) }
     ensures memory { result ≡ Err ConfigFlaw.OutOfMemory → KeepsFirst counter_in TakesCounter (items_view values.now) }
@@ -126,8 +122,7 @@ fn find_counters(alloc: Global, table: &Table) -> Result<Vec<(i64, i64)>, Config
     }
 }
 
-/// Reads the values of all keys of a document. The error is the first flaw in the keys or the types of their values
-/// (K2), or that memory ran out.
+/// Reads the values of all keys.
 #[tactic(auto, unfolding(crate::specs::Typed::typed_of, crate::specs::Memory::TakesTyped))]
 pub fn read_typed(alloc: Global, table: &Table) -> Result<Raw, ConfigFlaw>
     ensures read { Finds seen result (typed_of (table_view table.now)) }

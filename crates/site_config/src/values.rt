@@ -1,4 +1,4 @@
-//! Reads the values of keys, and checks which keys are given and that their values have the right types (K2).
+//! Reads the values of keys, and checks which are given and their types (K2).
 ghost use Rattle.std.specs.Prelude.{◌≡◌, ◌≢◌, Err, not, option_map, string_bytes};
 ghost use Rattle.std.specs.List.{find};
 ghost use Rattle.std.specs.BTreeMap.{keys};
@@ -17,21 +17,18 @@ use crate::text::Text;
 use std::alloc::Global;
 use toml::{Table, Value};
 
-/// Returns the value of a key, or `None` if the key isn't given.
 pub fn find_value<'a>(table: &'a Table, key: &str) -> Option<&'a Value>
     ensures { option_map (λ v. view v.now) result ≡ get_member key.now (table_view table.now) }
 {
     table.get(key)
 }
 
-/// Returns whether a table has a value at a key.
 pub fn has_key(table: &Table, key: Key) -> bool
     ensures { result ≡ has_key key (table_view table.now) }
 {
     find_value(table, key.name()).is_some()
 }
 
-/// Returns whether a table of this section is allowed to have a key of this name.
 fn is_known(section: Section, key: &str) -> bool
     ensures { result ≡ is_key_of section key.now }
 {
@@ -52,8 +49,7 @@ fn find_unknown(table: &Table, section: Section) -> Option<&String>
     table.keys().find(|key| !is_known(section, key.as_str()))
 }
 
-/// Returns the first key of `table`, in the order of the keys' bytes, that a table of this section isn't allowed to
-/// have, or `None` if there is no such key.
+/// The first key of `table`, by its bytes, that this section doesn't have.
 fn unknown_key(table: &Table, section: Section) -> Option<&str>
     ensures { option_map (λ key. key.now) result ≡ other_key (is_key_of section) (table_view table.now) }
 {
@@ -63,7 +59,7 @@ fn unknown_key(table: &Table, section: Section) -> Option<&str>
     }
 }
 
-/// Returns a value as a whole number. The error is `WrongType` if it isn't one. `place` is the value's place.
+/// A whole number; `place` is where it stands.
 pub fn integer_of(value: &Value, place: Place) -> Result<i64, ConfigFlaw>
     ensures read { Finds (λ x. x) result (integer_of place (view value.now)) }
     ensures memory { result ≢ Err ConfigFlaw.OutOfMemory }
@@ -73,8 +69,7 @@ pub fn integer_of(value: &Value, place: Place) -> Result<i64, ConfigFlaw>
         .ok_or(ConfigFlaw::WrongType(place, Type::Integer))
 }
 
-/// Returns a value that is a whole number or `"unlimited"`: the number, or `None` for `"unlimited"`. The error is
-/// `WrongType` if it is anything else, also another text. `place` is the value's place.
+/// A whole number, or `None` for `"unlimited"`; `place` is where it stands.
 fn limit_of(value: &Value, place: Place) -> Result<Option<i64>, ConfigFlaw>
     ensures read { Finds (λ x. x) result (limit_of place (view value.now)) }
     ensures memory { result ≢ Err ConfigFlaw.OutOfMemory }
@@ -88,7 +83,7 @@ fn limit_of(value: &Value, place: Place) -> Result<Option<i64>, ConfigFlaw>
     }
 }
 
-/// Returns a value as a text. The error is `WrongType` if it isn't one. `place` is the value's place.
+/// A text; `place` is where it stands.
 pub fn text_of(value: &Value, place: Place) -> Result<&str, ConfigFlaw>
     ensures read { Finds (λ t. t.now) result (text_of place (view value.now)) }
     ensures memory { result ≢ Err ConfigFlaw.OutOfMemory }
@@ -98,7 +93,7 @@ pub fn text_of(value: &Value, place: Place) -> Result<&str, ConfigFlaw>
         .ok_or(ConfigFlaw::WrongType(place, Type::Text))
 }
 
-/// Returns a value as a table. The error is `WrongType` if it isn't one. `place` is the value's place.
+/// A table; `place` is where it stands.
 pub fn table_of(value: &Value, place: Place) -> Result<&Table, ConfigFlaw>
     ensures read { Finds (λ t. table_view t.now) result (table_of place (view value.now)) }
     ensures memory { result ≢ Err ConfigFlaw.OutOfMemory }
@@ -108,7 +103,7 @@ pub fn table_of(value: &Value, place: Place) -> Result<&Table, ConfigFlaw>
         .ok_or(ConfigFlaw::WrongType(place, Type::Table))
 }
 
-/// Returns a value as an array. The error is `WrongType` if it isn't one. `place` is the value's place.
+/// An array; `place` is where it stands.
 pub fn array_of(value: &Value, place: Place) -> Result<&Vec<Value>, ConfigFlaw>
     ensures read { Finds (λ v. items_view v.now.items) result (array_of place (view value.now)) }
     ensures memory { result ≢ Err ConfigFlaw.OutOfMemory }
@@ -118,8 +113,7 @@ pub fn array_of(value: &Value, place: Place) -> Result<&Vec<Value>, ConfigFlaw>
         .ok_or(ConfigFlaw::WrongType(place, Type::Array))
 }
 
-/// Returns the value of a key as a whole number. The error is `Missing` if the key isn't given, or `WrongType` if the
-/// value isn't a whole number.
+/// The whole number at a key that must be given.
 pub fn read_integer(table: &Table, section: Section, key: Key) -> Result<i64, ConfigFlaw>
     ensures read { Finds (λ x. x) result (integer_at section key (table_view table.now)) }
     ensures memory { result ≢ Err ConfigFlaw.OutOfMemory }
@@ -131,8 +125,7 @@ pub fn read_integer(table: &Table, section: Section, key: Key) -> Result<i64, Co
     }
 }
 
-/// Returns the value of a key that is a whole number or `"unlimited"`: the number, or `None` for `"unlimited"`. The
-/// error is `Missing` if the key isn't given, or `WrongType` if the value is anything else.
+/// The whole number at a key that must be given, or `None` for `"unlimited"`.
 pub fn read_limit(table: &Table, section: Section, key: Key) -> Result<Option<i64>, ConfigFlaw>
     ensures read { Finds (λ x. x) result (limit_at section key (table_view table.now)) }
     ensures memory { result ≢ Err ConfigFlaw.OutOfMemory }
@@ -144,8 +137,7 @@ pub fn read_limit(table: &Table, section: Section, key: Key) -> Result<Option<i6
     }
 }
 
-/// Returns the value of a key as a whole number, or 0 if the key isn't given. The error is `WrongType` if the value
-/// isn't a whole number.
+/// The whole number at a key, 0 if it isn't given.
 pub fn read_optional(table: &Table, section: Section, key: Key) -> Result<i64, ConfigFlaw>
     ensures read { Finds (λ x. x) result (optional_at section key (table_view table.now)) }
     ensures memory { result ≢ Err ConfigFlaw.OutOfMemory }
@@ -228,9 +220,7 @@ fn is_dispenser(key: &str) -> bool
     key == "points" || key == "port" || key == "socket" || key == "lines_per_second"
 }
 
-/// Checks that a table of this section is allowed to have each key of `table`. The error is `UnknownKey` with the first
-/// key, in the order of the keys' bytes, that such a table isn't allowed to have. The error can also be that memory ran
-/// out.
+/// Checks that `table` has no key, by its bytes the first, that this section doesn't have.
 pub fn check_keys(alloc: Global, table: &Table, section: Section) -> Result<(), ConfigFlaw>
     ensures read { Finds (λ x. x) result (known_in section (table_view table.now)) }
     ensures memory { result ≡ Err ConfigFlaw.OutOfMemory → CopiesKey section (table_view table.now) }
@@ -242,8 +232,7 @@ pub fn check_keys(alloc: Global, table: &Table, section: Section) -> Result<(), 
     Err(ConfigFlaw::UnknownKey(section, name))
 }
 
-/// Returns the items of a key's list as numbers. The error is `WrongType` for the first item that isn't an integer. The
-/// error can also be that memory ran out.
+/// The whole numbers of a list.
 pub fn read_integers(
     alloc: Global,
     values: &[Value],
@@ -262,8 +251,7 @@ pub fn read_integers(
     Ok(numbers)
 }
 
-/// Returns the value of a key as an array. The error is `Missing` if the key isn't given, or `WrongType` if the value
-/// isn't an array.
+/// The array at a key that must be given.
 pub fn find_array(table: &Table, section: Section, key: Key) -> Result<&Vec<Value>, ConfigFlaw>
     ensures read { Finds
         (λ v. items_view v.now.items) result (array_at section key (table_view table.now)) }

@@ -10,8 +10,7 @@ use fuelling_point::{DispenserEvent, Order};
 use std::alloc::{AllocError, Global};
 use std::marker::Model;
 
-/// A list of bytes, such as a program's. Contracts see it as a list of numbers. The vector is in a `Box`, so that the
-/// type `Act` is small: few acts have bytes.
+/// A list of bytes, such as a program's. The vector is in a `Box` to keep `Act` small: few acts have bytes.
 #[derive(Drop)]
 pub struct Bytes {
     items: Option<Box<Vec<u8>>>,
@@ -27,7 +26,7 @@ impl Model for Bytes {
 }
 
 impl Bytes {
-    /// Makes a `Bytes` of a vector's bytes. The error is that memory ran out. An empty vector needs no memory.
+    /// An empty vector takes no memory.
     pub fn new(alloc: Global, items: Vec<u8>) -> Result<Self, AllocError>
         ensures same { IfOk result (λ b. b ≡ items.items) }
         ensures memory { OnErr result (0 < length items.items) }
@@ -41,7 +40,7 @@ impl Bytes {
         }
     }
 
-    /// Makes a `Bytes` of a copy of a slice. The error is that memory ran out. An empty slice needs no memory.
+    /// Copies a slice; an empty one takes no memory.
     pub fn from_slice(alloc: Global, items: &[u8]) -> Result<Self, AllocError>
         ensures same { IfOk result (λ b. b ≡ items.now) }
         ensures memory { OnErr result (0 < length items.now) }
@@ -51,14 +50,12 @@ impl Bytes {
         Bytes::new(alloc, copy)
     }
 
-    /// Returns whether both lists have the same bytes in the same order.
     pub fn is_same(&self, other: &Bytes) -> bool
         ensures { IsTrue result ↔ self.now ≡ other.now }
     {
         self == other
     }
 
-    /// Returns all bytes of the list as a slice.
     pub fn as_slice(&self) -> &[u8]
         ensures { result.now ≡ self.now }
     {
@@ -79,8 +76,7 @@ impl PartialEq for Bytes {
     }
 }
 
-/// A till's request. If a variant has only one number, it is the number of a fuelling point. The numbers of points and
-/// of products, and those of a point's transactions, begin at 1.
+/// A till's request. A lone number is a fuelling point's. Points, products and a point's transactions count from 1.
 #[derive(Clone, Copy, PartialEq)]
 pub enum Request {
     /// `Release(point, amount)`: allow a delivery of at most this amount, in cents.
@@ -104,8 +100,7 @@ pub enum Request {
     Show(u32),
 }
 
-/// What a line asks for or reports: a till's request, a dispenser's event, or the load of a program. The numbers of
-/// tills and of points begin at 1.
+/// What a line asks for or reports. Tills and points count from 1.
 #[derive(PartialEq, Drop)]
 pub enum Act {
     Till {
@@ -116,8 +111,8 @@ pub enum Act {
         point: u32,
         event: DispenserEvent,
     },
-    /// Load the program in `bytes` into this slot (a place for a rule), counted from 0. Bit c of `mask`, for c from 0
-    /// to 31, is set if the program declares counter c. `layout` is the layout of the program's context (its input).
+    /// Load the program in `bytes` into this slot, counted from 0. Bit c of `mask` declares counter c. `layout` is that
+    /// of the context, the program's input.
     Load {
         slot: u32,
         mask: u32,
@@ -135,13 +130,11 @@ pub enum Reply {
     Granted(u64, u32),
     /// `Version(version)`: a program was loaded, and this is the number of its version, counted from 1.
     Version(u32),
-    /// The order that was waiting at the fuelling point until its dispenser asked for it.
+    /// The order that was waiting for the dispenser to take it.
     Order(Order),
-    /// A fuelling point as it is: the number of its state (1 to 9), the number of its lifted nozzle (0 if none is
-    /// lifted), and how many of its transactions are unpaid. `amount` (cents) and `volume` (centilitres) are those of
-    /// the delivery so far. `limit` (cents) is the amount that was granted to the delivery. When a delivery ends,
-    /// `amount`, `volume` and `limit` become 0. `preset` (cents) bounds the next release, and is 0 if there is no
-    /// preset.
+    /// A fuelling point: the number of its state (1 to 9), its lifted nozzle (0 for none), and how many transactions
+    /// are unpaid. `amount` (cents) and `volume` (centilitres) are those of the delivery so far, and `limit` (cents) is
+    /// what was granted to it: 0 when a delivery ends. `preset` (cents) bounds the next release; 0 for none.
     Point {
         state: u32,
         nozzle: u32,
@@ -151,38 +144,36 @@ pub enum Reply {
         limit: u64,
         preset: u64,
     },
-    /// The site refused the act. The first value is the refusal's number, such as 22 for `S22`. The second is the
-    /// state, slot or version that the refusal names, or `None` if it names none.
+    /// The refusal's number, such as 22 for `S22`, and the state, slot or version that it names, if any.
     Refused(u32, Option<u32>),
 }
 
-/// Who sends the lines, and so which lines are accepted. A well-formed line that isn't accepted is a `BadLine`.
+/// Who sends the lines, and so which well-formed lines are accepted; others are a `BadLine`.
 #[derive(Clone, Copy)]
 pub enum Role {
-    /// Any till: a till's line is accepted, whichever till it names.
+    /// Any till: lines of all tills.
     Till,
-    /// Any dispenser: a dispenser's line is accepted, whichever point it names.
+    /// Any dispenser: lines of all points.
     Dispenser,
-    /// The owner: a line that loads a program is accepted.
+    /// The owner: loads.
     Owner,
-    /// Everybody: a till's line, a dispenser's line and a line that loads a program are accepted.
+    /// Everybody: all lines.
     All,
-    /// One till, which has this number: a till's line is accepted if it names this till.
+    /// The till of this number: its lines.
     OneTill(u32),
-    /// The dispensers of some points: a dispenser's line is accepted if it names one of these points. Bit p - 1 is set
-    /// if point p, which is 1 to 32, is one of them.
+    /// The dispensers of some points: their lines. Bit p - 1 is set for point p, 1 to 32.
     SomePoints(u32),
 }
 
-/// Why a line can't be read as an act. The comment of each fault begins with the fault's text.
+/// Why a line can't be read as an act.
 #[derive(Clone, Copy, PartialEq)]
 pub enum LineFault {
     /// `L1`: the line has more than 8,400 bytes before its LF, or before the end of the input.
     TooLong,
-    /// `L2`: the words have none of the forms of a line, or the sender isn't allowed to send this line.
+    /// `L2`: the words have no line's form, or the sender isn't allowed to send it.
     BadLine,
-    /// `L3`: a number isn't one or more decimal digits, has a leading zero, or is too large for its type. Or
-    /// hexadecimal is malformed.
+    /// `L3`: a number has other bytes than decimal digits, or a leading zero, or is too large; or hexadecimal is
+    /// malformed.
     BadNumber,
     /// `L4`: the input ended before the line's LF.
     CutLine,
@@ -193,19 +184,17 @@ pub enum LineFault {
 /// The answer to a line.
 #[derive(Clone, Copy)]
 pub enum Answer {
-    /// The line's act was entered in the history: the entry's number, and the site's reply.
+    /// The act was entered: the entry's number, and the site's reply.
     Entered { number: u32, reply: Reply },
-    /// `S29`: the history has as many entries as it can have, and nothing was entered.
+    /// `S29`: the history is full, and nothing was entered.
     JournalFull,
     /// `S31`: an allocation failed, and nothing was entered.
     OutOfMemory,
     /// The line can't be read as an act.
     Line(LineFault),
-    /// `Program(number, unit, part)`: a program was refused. `number` is the refusal's, such as 11 for `V11`. `unit` is
-    /// the number of the unit (an instruction slot of eight bytes) that the refusal names, counted from 0. `part` is
-    /// the number of the register (0 to 10) or of the argument (1 or 2) that the refusal names. `unit` or `part` is
-    /// `None` if the refusal names none.
+    /// A program was refused: the refusal's number, such as 11 for `V11`, then what it names, if anything: the unit (an
+    /// instruction slot of eight bytes, counted from 0), and the register (0 to 10) or the argument (1 or 2).
     Program(u32, Option<u32>, Option<u32>),
-    /// The journal failed, and the site accepts no further act. Sessions end without writing this answer.
+    /// The journal failed, and the site accepts no further act. Sessions end without writing this.
     JournalFailed,
 }

@@ -12,8 +12,7 @@ impl fmt::Display for Reply {
     fn fmt<W: fmt::Write>(&self, f: &mut fmt::Formatter<W>) -> fmt::Result {
         let mut text = ShortText::new();
         put_reply(&mut text, self);
-        // `put_reply` writes a space before each word. A reply's text begins with a word, so the first space is left
-        // out.
+        // A reply's text begins with a word, and `put_reply` writes a space before each.
         match text.as_str().strip_prefix(' ') {
             Some(words) => f.write_str(words),
             None => Ok(()),

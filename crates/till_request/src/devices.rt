@@ -1,6 +1,5 @@
-//! Sources that lines are read from, and sinks that answers are written to. Some are lists in memory, which can be made
-//! to return or accept few bytes at a time, or to fail. The others use the readers and writers of `std`, or read ahead
-//! from another source.
+//! Sources and sinks: lists in memory, which can be made to move few bytes at a time or to fail, the readers and
+//! writers of `std`, and a source that reads ahead.
 ghost use Rattle.std.specs.Prelude.{◌≡◌, ◌↔◌, ◌<◌, ◌≤◌, ◌-◌, ◌^◌};
 ghost use Rattle.std.specs.Prelude.{min, [], Some, IfOk, IsTrue, is_err, drop, take, length, true, false, ℕ};
 ghost use Rattle.std.specs.Io.KnownBytes.{ReadConsumes, WriteAppends, prepend_known};
@@ -14,11 +13,9 @@ use crate::device::{DeviceFault, LineIn, LineOut};
 use std::alloc::{AllocError, Global};
 use std::io::{Read, Write};
 
-/// A source that returns the bytes of a list in memory, from index `at` on.
-///
-/// Read n, counted from 0, returns at most `sizes[n]` bytes, or `each` if `sizes` has no index n. A size of 0 counts as
-/// size 1. If `successes_left` is `Some(k)`, the next k reads succeed, and every later one fails. If it is `None`, no
-/// read fails.
+/// A source that returns the bytes of a list, from index `at` on. Read n, counted from 0, returns at most `sizes[n]`
+/// bytes (0 counts as 1), or `each` if `sizes` has no index n. With `successes_left` of `Some(k)` the next k reads
+/// succeed, and every later one fails.
 #[derive(Drop)]
 pub struct MemoryIn {
     pub bytes: Vec<u8>,
@@ -33,9 +30,7 @@ pub struct MemoryIn {
 }
 
 impl MemoryIn {
-    /// Makes a source that returns `bytes`: at most `sizes[n]` of them (0 counts as 1) at read n, counted from 0, or as
-    /// many as the read asks for if `sizes` has no index n. If `successes_left` is `Some(k)`, every read after the
-    /// first k fails. If it is `None`, no read fails.
+    /// A source from the list's beginning, with `each` without bound.
     pub fn new(bytes: Vec<u8>, sizes: Vec<usize>, successes_left: Option<u64>) -> Self
         ensures bytes { result.bytes ≡ bytes }
         ensures start { result.at ≡ 0 }
@@ -57,8 +52,7 @@ impl MemoryIn {
     }
 }
 
-/// Returns how many bytes a call can move at most: `sizes[call]`, or `each` if `sizes` has no such index; but at least
-/// 1. `call` is the number of the call, counted from 0.
+/// How many bytes a call can move at most. Calls count from 0.
 fn size_at(sizes: &[usize], each: usize, call: u64) -> usize
     ensures { result ≡ piece_size sizes.now each call }
 {
@@ -70,8 +64,6 @@ fn size_at(sizes: &[usize], each: usize, call: u64) -> usize
     }
 }
 
-/// Returns `successes_left` after one more call: one less, but 0 stays 0. `None`, which means that no call is made to
-/// fail, stays `None`.
 fn after_one(successes_left: Option<u64>) -> Option<u64>
     ensures { result ≡ one_less successes_left }
 {
@@ -81,8 +73,7 @@ fn after_one(successes_left: Option<u64>) -> Option<u64>
     }
 }
 
-/// Copies bytes from the beginning of `from` to the beginning of `buffer`, at most `most`, and returns how many. `most`
-/// must be at least 1.
+/// Copies bytes from the beginning of `from` to that of `buffer`, at most `most`, and returns how many.
 fn copy_into_buffer(from: &[u8], most: usize, buffer: &mut [u8]) -> usize
     requires { 0 < most }
     ensures count { result ≡ min (min (length from.now) (length buffer.new)) most }
@@ -133,8 +124,8 @@ impl LineIn for MemoryIn {
     }
 }
 
-/// A source that reads from a reader of `std`, such as standard input, a file or a socket. Lines are read byte by byte,
-/// so the reader should be buffered, or an `Ahead` should read from the `StreamIn`.
+/// A source that reads from a reader of `std`. Lines are read byte by byte, so put a buffer behind it, or an `Ahead` in
+/// front.
 #[derive(Drop)]
 pub struct StreamIn<R: Read> {
     pub reader: R,
@@ -166,12 +157,11 @@ impl<R: Read + Drop> LineIn for StreamIn<R> {
     }
 }
 
-/// The number of bytes that `Ahead` asks its source for at once.
+/// How many bytes `Ahead` asks its source for at once.
 const AHEAD_BYTES: usize = 4096;
 
-/// A source that reads ahead from another source, `input`, in blocks of 4,096 bytes. So a read of one byte, which is
-/// how lines are read, costs few instructions. The counters `calls`, `failures` and `asked` are about the reads from
-/// the `Ahead`, not about those from `input`.
+/// Reads ahead from `input` in blocks of 4,096 bytes, so that a read of one byte costs few instructions. Its counts are
+/// of the reads from it, not of those from `input`.
 #[derive(Drop)]
 pub struct Ahead<I: LineIn> {
     pub input: I,
@@ -182,7 +172,7 @@ pub struct Ahead<I: LineIn> {
 }
 
 impl<I: LineIn + Drop> Ahead<I> {
-    /// Makes a source in front of `input`; nothing was read ahead yet.
+    /// Nothing is read ahead yet.
     pub fn new(input: I) -> Self
         ensures input { result.input ≡ input }
         ensures empty { result.block ≡ [] }
@@ -197,8 +187,7 @@ impl<I: LineIn + Drop> Ahead<I> {
         }
     }
 
-    /// Returns whether an LF is among the bytes that were read ahead and not taken out yet. If so, the line that ends
-    /// there can be read without a read of `input`.
+    /// Whether a line can be read without a read of `input`.
     pub fn holds_line(&self) -> bool
         ensures there { result ≡ true → (count : ℕ) × HasFirstLfAt count self.now.block }
         ensures none { result ≡ false → HasNoLf self.now.block }
@@ -220,7 +209,7 @@ impl<I: LineIn + Drop> LineIn for Ahead<I> {
         self.calls = self.calls.wrapping_add(1);
         self.asked = self.asked.wrapping_add(buffer.len() as u64);
         let mut left = 1;
-        // `left` is 1 and `fill` allocates nothing, so the only possible error is that the device failed.
+        // `fill` takes no memory and one read is left, so only the device can have failed.
         if self.block.fill(&mut self.input, &mut left).is_err() {
             self.failures = self.failures.wrapping_add(1);
             return Err(DeviceFault);
@@ -237,11 +226,9 @@ impl<I: LineIn + Drop> LineIn for Ahead<I> {
     }
 }
 
-/// A sink that appends what is written to a list in memory.
-///
-/// Write n, counted from 0, accepts at most `sizes[n]` bytes, or `each` if `sizes` has no index n. A size of 0 counts
-/// as size 1. If `successes_left` is `Some(k)`, every write after the next k fails. If it is `None`, no write is made
-/// to fail. A write also fails if memory runs out.
+/// A sink that appends to a list. Write n, counted from 0, accepts at most `sizes[n]` bytes (0 counts as 1), or `each`
+/// if `sizes` has no index n. With `successes_left` of `Some(k)` every write after the next k fails. A write also fails
+/// if memory runs out.
 #[derive(Drop)]
 pub struct MemoryOut {
     pub bytes: Vec<u8>,
@@ -253,9 +240,7 @@ pub struct MemoryOut {
 }
 
 impl MemoryOut {
-    /// Makes a sink to which nothing was written yet: write n, counted from 0, accepts at most `sizes[n]` bytes (0
-    /// counts as 1), or all its bytes if `sizes` has no index n. If `successes_left` is `Some(k)`, every write after
-    /// the first k fails. If it is `None`, a write fails only if memory runs out.
+    /// An empty sink, with `each` without bound.
     pub fn new(alloc: Global, sizes: Vec<usize>, successes_left: Option<u64>) -> Self
         ensures bytes { result.bytes.items ≡ [] }
         ensures sizes { result.sizes ≡ sizes }
@@ -305,8 +290,7 @@ impl LineOut for MemoryOut {
     }
 }
 
-/// A sink that writes to a writer of `std`. A write fails if the writer fails, or if it accepts no byte of a piece that
-/// isn't empty.
+/// A sink that writes to a writer of `std`. A write of which the writer accepts nothing has failed.
 #[derive(Drop)]
 pub struct StreamOut<W: Write> {
     pub writer: W,

@@ -10,7 +10,7 @@ use crate::form::RequestByForm::{Amount, Point, Transaction};
 use bpf_model::context::Layout;
 use fuelling_point::DispenserEvent;
 
-/// The verb of a till's request with an amount or a price, as in `till T release P A`.
+/// The verb of a request with an amount or a price, as in `till T release P A`.
 #[derive(Clone, Copy)]
 pub enum AmountVerb {
     Release,
@@ -18,7 +18,7 @@ pub enum AmountVerb {
     Price,
 }
 
-/// The verb of a till's request with a point alone, as in `till T open P`.
+/// The verb of a request with a point alone, as in `till T open P`.
 #[derive(Clone, Copy)]
 pub enum PointVerb {
     Open,
@@ -29,7 +29,7 @@ pub enum PointVerb {
     Stop,
 }
 
-/// The verb of a till's request with a transaction, as in `till T lock P X`.
+/// The verb of a request with a transaction, as in `till T lock P X`.
 #[derive(Clone, Copy)]
 pub enum TransactionVerb {
     Lock,
@@ -37,7 +37,7 @@ pub enum TransactionVerb {
     Clear,
 }
 
-/// The verb of a dispenser's line, if no value comes after the verb, as in `disp P down`.
+/// The verb of a dispenser's line that ends with it, as in `disp P down`.
 #[derive(Clone, Copy)]
 pub enum ReportVerb {
     Down,
@@ -62,31 +62,27 @@ pub enum Form {
     Load(Layout),
 }
 
-/// A till's request by the form of its line: the verb, and the numbers that come after it, in the order of the line.
+/// A request by its line's form: the verb, and the numbers after it in their order.
 #[derive(Clone, Copy)]
 pub enum RequestByForm {
-    /// The number of a fuelling point, and an amount in cents. For `Price`, the number of a product, and a price in
-    /// thousandths of the currency per litre.
+    /// A point and an amount in cents; for `Price` a product and a price in thousandths of the currency per litre.
     Amount(AmountVerb, u32, u64),
-    /// The number of a fuelling point.
+    /// A point.
     Point(PointVerb, u32),
-    /// The number of a fuelling point, and the number of one of its transactions.
+    /// A point, and one of its transactions.
     Transaction(TransactionVerb, u32, u32),
 }
 
 /// A word of a form: a fixed one, or a place where a line has a value.
 #[derive(Clone, Copy)]
 pub enum Part {
-    /// The word `till`.
     Till,
-    /// The word `disp`.
     Disp,
-    /// The verb of this form.
     Verb(Form),
     Value,
 }
 
-/// The forms of three words, in the order in which a line is compared with them.
+/// The forms of three words, in the order of comparison.
 const THREE: [Form; 5] = [
     Form::Report(ReportVerb::Down),
     Form::Report(ReportVerb::Started),
@@ -95,7 +91,7 @@ const THREE: [Form; 5] = [
     Form::Report(ReportVerb::Order),
 ];
 
-/// The forms of four words, in the order in which a line is compared with them.
+/// The forms of four words, in the order of comparison.
 const FOUR: [Form; 9] = [
     Form::Point(PointVerb::Open),
     Form::Point(PointVerb::Close),
@@ -108,7 +104,7 @@ const FOUR: [Form; 9] = [
     Form::Load(Layout::Two),
 ];
 
-/// The forms of five words, in the order in which a line is compared with them.
+/// The forms of five words, in the order of comparison.
 const FIVE: [Form; 7] = [
     Form::Amount(AmountVerb::Release),
     Form::Amount(AmountVerb::Preset),
@@ -119,7 +115,7 @@ const FIVE: [Form; 7] = [
     Form::Flow,
 ];
 
-/// Returns the verb of a form: the fixed word by which the form is known, such as `release` or `load`.
+/// The fixed word by which a form is known, such as `release` or `load`.
 #[inline(always)]
 pub fn text_of(form: Form) -> &'static str
     ensures word { result.now ≡ text form }
@@ -150,9 +146,8 @@ pub fn text_of(form: Form) -> &'static str
     }
 }
 
-/// Returns whether a sender with the role `role` may send the lines that belong to `by`: those of a till (`Till`), of a
-/// dispenser (`Dispenser`) or of the owner (`Owner`). `OneTill` may send the lines of any till here, and `SomePoints`
-/// those of any dispenser. It is `is_within_role` that checks the till or the point that the parsed line names.
+/// Whether a role may send the lines of `by`: `Till`, `Dispenser` or `Owner`. Of which till or point the line is,
+/// `is_within_role` checks.
 #[inline(always)]
 pub fn may_send(role: Role, by: Role) -> bool
     ensures { result ≡ allows role by }
@@ -165,7 +160,7 @@ pub fn may_send(role: Role, by: Role) -> bool
     }
 }
 
-/// Returns whose lines have this form: `Till`, `Dispenser` or `Owner`.
+/// Whose lines have this form: `Till`, `Dispenser` or `Owner`.
 #[inline(always)]
 pub fn sender_of(form: Form) -> Role
     ensures { result ≡ sender form }
@@ -177,7 +172,7 @@ pub fn sender_of(form: Form) -> Role
     }
 }
 
-/// Returns whether `word` fits this part of a form: it is the fixed word, or it isn't empty if the part is a value.
+/// Whether `word` is the part's fixed word, or isn't empty where the part is a value.
 #[inline(always)]
 fn is_part(word: &[u8], part: Part) -> bool
     ensures { result ≡ part_fits part word.now }
@@ -190,8 +185,7 @@ fn is_part(word: &[u8], part: Part) -> bool
     }
 }
 
-/// Returns whether the words are `first`, a value and `third`. The verb, which is `third`, is compared first, since
-/// forms differ most in it.
+/// The verb, which is `third`, is compared first, since forms differ most in it.
 #[tactic(auto, using(crate::proofs::Fitting::third_last))]
 #[inline(always)]
 fn three_fit(first: Part, third: Part, words: &[&[u8]]) -> bool
@@ -203,7 +197,6 @@ fn three_fit(first: Part, third: Part, words: &[&[u8]]) -> bool
     }
 }
 
-/// Returns whether the words are `first`, a value, `third` and a value.
 #[tactic(auto, using(crate::proofs::Fitting::third_first))]
 #[inline(always)]
 fn four_fit(first: Part, third: Part, words: &[&[u8]]) -> bool
@@ -220,7 +213,6 @@ fn four_fit(first: Part, third: Part, words: &[&[u8]]) -> bool
     }
 }
 
-/// Returns whether the words are `first`, a value, `third` and two values.
 #[tactic(auto, using(crate::proofs::Fitting::third_first))]
 #[inline(always)]
 fn five_fit(first: Part, third: Part, words: &[&[u8]]) -> bool
@@ -238,7 +230,6 @@ fn five_fit(first: Part, third: Part, words: &[&[u8]]) -> bool
     }
 }
 
-/// Returns whether the words are `load` for `Layout::One` or `load2` for `Layout::Two`, and then three values.
 #[inline(always)]
 fn load_fits(layout: Layout, words: &[&[u8]]) -> bool
     ensures { result ≡ fits (template (forms.Load layout)) (map (λ w. w.now) words.now) }
@@ -254,8 +245,7 @@ fn load_fits(layout: Layout, words: &[&[u8]]) -> bool
     }
 }
 
-/// Returns whether the words have this form: they are as many as the form has, its fixed words are among them in their
-/// places, and the other words, which are the values, aren't empty.
+/// Whether the words have this form: as many words, the fixed ones in their places, and no value empty.
 #[inline(always)]
 fn has_form(form: Form, words: &[&[u8]]) -> bool
     ensures { result ≡ fits (template form) (map (λ w. w.now) words.now) }
@@ -270,8 +260,7 @@ fn has_form(form: Form, words: &[&[u8]]) -> bool
     }
 }
 
-/// Returns whether the words have this form, and a sender of this role is allowed to send lines of this form. Doesn't
-/// check which till or point the words name.
+/// Whether the words have this form, and the role may send it, of some till or point.
 #[inline(always)]
 fn is_suited(role: Role, words: &[&[u8]], form: Form) -> bool
     ensures { result ≡ suits role (map (λ w. w.now) words.now) form }
@@ -279,8 +268,6 @@ fn is_suited(role: Role, words: &[&[u8]], form: Form) -> bool
     may_send(role, sender_of(form)) && has_form(form, words)
 }
 
-/// Returns the first of `forms` that the words have and whose lines a sender of this role is allowed to send; `None` if
-/// there is none.
 #[inline(always)]
 fn first_suited(role: Role, words: &[&[u8]], forms: &[Form]) -> Option<Form>
     ensures found { result ≡ find (suits role (map (λ w. w.now) words.now)) forms.now }
@@ -294,9 +281,7 @@ fn first_suited(role: Role, words: &[&[u8]], forms: &[Form]) -> Option<Form>
     None
 }
 
-/// Returns the form that the words have, if a sender of this role is allowed to send lines of this form. Returns `None`
-/// if the words have no form, or one whose lines the sender isn't allowed to send. Doesn't check which till or point
-/// the words name.
+/// The form of the words, if the role may send it, of some till or point.
 pub fn form_of(role: Role, words: &[&[u8]]) -> Option<Form>
     ensures found { result ≡ find (suits role (map (λ w. w.now) words.now)) all_forms }
     ensures suited { IfSome result (λ form. suits role (map (λ w. w.now) words.now) form ≡ true) }
@@ -309,8 +294,7 @@ pub fn form_of(role: Role, words: &[&[u8]]) -> Option<Form>
     }
 }
 
-/// Returns the request with this verb. `subject` is its point, and `amount` an amount in cents. For `Price`, `subject`
-/// is a product, and `amount` a price in thousandths of the currency per litre.
+/// The request of this verb and these numbers.
 pub fn request_of_amount(verb: AmountVerb, subject: u32, amount: u64) -> Request
     ensures { result ≡ amount_request verb subject amount }
 {
@@ -321,7 +305,6 @@ pub fn request_of_amount(verb: AmountVerb, subject: u32, amount: u64) -> Request
     }
 }
 
-/// Returns the request that has this verb and this point, and no other number.
 pub fn request_of_point(verb: PointVerb, point: u32) -> Request
     ensures { result ≡ point_request verb point }
 {
@@ -335,7 +318,6 @@ pub fn request_of_point(verb: PointVerb, point: u32) -> Request
     }
 }
 
-/// Returns the request that has this verb, this point and this number of one of the point's transactions.
 pub fn request_of_transaction(verb: TransactionVerb, point: u32, number: u32) -> Request
     ensures { result ≡ transaction_request verb point number }
 {
@@ -347,7 +329,6 @@ pub fn request_of_transaction(verb: TransactionVerb, point: u32, number: u32) ->
 }
 
 impl Request {
-    /// Returns the request's verb and its numbers.
     pub fn by_form(self) -> RequestByForm
         ensures { result ≡ by_form self }
     {
@@ -368,7 +349,6 @@ impl Request {
     }
 }
 
-/// Returns the event that a dispenser reports by this verb. A line with such a verb has no value after the verb.
 pub fn event_of_report(verb: ReportVerb) -> DispenserEvent
     ensures { result ≡ report_event verb }
 {

@@ -7,8 +7,7 @@ ghost use Rattle.till_request.specs.Grammar.{number, has_no_leading_zero};
 
 use crate::act::LineFault;
 
-/// Returns the number `value` with one more decimal digit, `byte`, at its end; `None` if `byte` isn't a digit, or the
-/// result isn't below 2^64.
+/// `value` with one more digit at its end; `None` if `byte` is no digit, or the result isn't below 2^64.
 fn with_digit(value: u64, byte: u8) -> Option<u64>
     ensures some { IfSome result (λ more. (is_ascii_digit byte ≡ true) × (more ≡ value * 10 + digit_value byte)) }
     ensures none { IfNone result ((is_ascii_digit byte ≡ false) ⊎ (2 ^ 64 ≤ value * 10 + digit_value byte)) }
@@ -19,8 +18,7 @@ fn with_digit(value: u64, byte: u8) -> Option<u64>
     value.checked_mul(10)?.checked_add(u64::from(byte - b'0'))
 }
 
-/// Returns the number that decimal digits spell; `None` if a byte isn't a digit, or the number isn't below 2^64.
-/// Leading zeros are allowed, and an empty word is 0.
+/// The number of decimal digits below 2^64. Leading zeros are allowed, and an empty word is 0.
 fn value_of(word: &[u8]) -> Option<u64>
     ensures some { IfSome result (λ n. (list_all is_ascii_digit word.now ≡ true) × (n ≡ digits_value 10 word.now)) }
     ensures none { IfNone result
@@ -33,7 +31,7 @@ fn value_of(word: &[u8]) -> Option<u64>
     Some(value)
 }
 
-/// Returns whether a word isn't empty and has no leading zero. The zero of the word `0` isn't a leading one.
+/// Whether a word isn't empty and has no leading zero; `0` has none.
 fn is_canonical(word: &[u8]) -> bool
     ensures { result ≡ has_no_leading_zero word.now }
 {
@@ -44,8 +42,7 @@ fn is_canonical(word: &[u8]) -> bool
     }
 }
 
-/// Returns the number that a word spells in decimal digits without leading zeros. The error is `BadNumber` if the word
-/// isn't such digits, or the number isn't below 2^64.
+/// The number below 2^64 of decimal digits without leading zeros, else `BadNumber`.
 pub fn number_u64(word: &[u8]) -> Result<u64, LineFault>
     ensures value { result ≡ number 64 word.now }
     ensures memory { result ≢ Err LineFault.OutOfMemory }
@@ -59,8 +56,7 @@ pub fn number_u64(word: &[u8]) -> Result<u64, LineFault>
     }
 }
 
-/// Returns the number that a word spells in decimal digits without leading zeros. The error is `BadNumber` if the word
-/// isn't such digits, or the number isn't below 2^32.
+/// The number below 2^32 of decimal digits without leading zeros, else `BadNumber`.
 pub fn number_u32(word: &[u8]) -> Result<u32, LineFault>
     ensures value { result ≡ number 32 word.now }
     ensures memory { result ≢ Err LineFault.OutOfMemory }

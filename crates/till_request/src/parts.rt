@@ -1,18 +1,16 @@
-//! Splits texts into parts without allocating memory.
+//! Splits texts into parts and takes no memory.
 ghost use Rattle.std.specs.Prelude.{◌≡◌, ◌==◌, ◌<◌, ◌∷◌, [], length, map, MatchOption};
 ghost use Rattle.std.specs.List.{position, slice_split};
 
 use arrayvec::ArrayVec;
 
-/// Returns the index of the first separator; `None` if there is none.
 fn place_of(text: &[u8], separator: u8) -> Option<usize>
     ensures { result ≡ position (λ b. b == separator) text.now }
 {
     text.iter().position(|b| *b == separator)
 }
 
-/// Returns the bytes before the first separator, and the bytes after it; the whole text and `None` if there is no
-/// separator.
+/// The bytes before the first separator and those after it; the whole text if there is none.
 pub fn first_part(text: &[u8], separator: u8) -> (&[u8], Option<&[u8]>)
     ensures { MatchOption result.1 (slice_split (λ b. b == separator) text.now ≡ result.0.now ∷ [])
         (λ rest. (slice_split (λ b. b == separator) text.now
@@ -25,8 +23,7 @@ pub fn first_part(text: &[u8], separator: u8) -> (&[u8], Option<&[u8]>)
     }
 }
 
-/// Splits a text at each separator and returns the parts, some of which may be empty; `None` if there are more than
-/// `N`.
+/// The parts between separators, some perhaps empty; `None` if there are more than `N`.
 pub fn split_at_most<'a, const N: usize>(
     text: &'a [u8],
     separator: u8,

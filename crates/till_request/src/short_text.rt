@@ -1,4 +1,4 @@
-//! Writes answers and replies into texts of fixed size, without allocating memory.
+//! Writes answers and replies into texts of fixed size, which take no memory.
 ghost use Rattle.std.specs.Prelude.{◌≡◌, ◌+◌, ◌≤◌, ◌∷◌, ◌++◌, [], decimal, length, map};
 ghost use Rattle.std.specs.Option.{option_to_list};
 ghost use Rattle.till_request.specs.Answer.{answer_line, answer_text, fault_text, order_words, reply_words};
@@ -9,13 +9,12 @@ use arrayvec::ArrayString;
 use fuelling_point::Order;
 use itoa::Buffer;
 
-/// The greatest number of bytes that a `ShortText` can have.
 const SHORT: usize = 192;
 
 /// A text of at most 192 bytes. An answer's line has at most 174.
 pub type ShortText = ArrayString<SHORT>;
 
-/// Appends a number in decimal digits to `text`, which must have room for 20 more bytes.
+/// Needs room for 20 more bytes.
 fn put_number(text: &mut ShortText, number: u64)
     requires { length text.old.bytes + 20 ≤ SHORT }
     ensures text { text.new.bytes ≡ text.old.bytes ++ decimal number }
@@ -25,7 +24,7 @@ fn put_number(text: &mut ShortText, number: u64)
     text.push_str(digits.format(number));
 }
 
-/// Appends a space and a word to `text`, which must have room for both.
+/// Puts a space and a word.
 pub(crate) fn put_word(text: &mut ShortText, word: &str)
     requires { length text.old.bytes + length word.now + 1 ≤ SHORT }
     ensures text { text.new.bytes ≡ with_words text.old.bytes (word.now ∷ []) }
@@ -35,7 +34,7 @@ pub(crate) fn put_word(text: &mut ShortText, word: &str)
     text.push_str(word);
 }
 
-/// Appends a space and a number in decimal digits to `text`, which must have room for 21 more bytes.
+/// Puts a space and a number; needs room for 21 more bytes.
 pub(crate) fn put_word_number(text: &mut ShortText, number: u64)
     requires { length text.old.bytes + 21 ≤ SHORT }
     ensures text { text.new.bytes ≡ with_words text.old.bytes (decimal number ∷ []) }
@@ -45,8 +44,7 @@ pub(crate) fn put_word_number(text: &mut ShortText, number: u64)
     put_number(text, number);
 }
 
-/// Appends a space and a refusal's number with an S before it, such as `S22`, to `text`, which must have room for 22
-/// more bytes.
+/// Puts a space, an S and a refusal's number; needs room for 22 more bytes.
 fn put_refusal(text: &mut ShortText, number: u32)
     requires { length text.old.bytes + 22 ≤ SHORT }
     ensures text { text.new.bytes ≡ with_words text.old.bytes ((83 ∷ decimal number) ∷ []) }
@@ -56,8 +54,7 @@ fn put_refusal(text: &mut ShortText, number: u32)
     put_number(text, u64::from(number));
 }
 
-/// Appends an order's words to `text`, with a space before each word, the first too. The text must have room for 31
-/// more bytes.
+/// Puts an order's words, each behind a space; needs room for 31 more bytes.
 fn put_order(text: &mut ShortText, order: Order)
     requires { length text.old.bytes + 31 ≤ SHORT }
     ensures text { text.new.bytes ≡ with_words text.old.bytes (order_words order) }
@@ -74,8 +71,7 @@ fn put_order(text: &mut ShortText, order: Order)
     }
 }
 
-/// Appends a reply's words to `text`, with a space before each word, the first too. The text must have room for 153
-/// more bytes.
+/// Puts a reply's words, each behind a space; needs room for 153 more bytes.
 pub fn put_reply(text: &mut ShortText, reply: &Reply)
     requires { length text.old.bytes + 153 ≤ SHORT }
     ensures text { text.new.bytes ≡ with_words text.old.bytes (reply_words reply.now) }
@@ -123,7 +119,7 @@ pub fn put_reply(text: &mut ShortText, reply: &Reply)
     }
 }
 
-/// Returns the text of a line's fault: `L1` to `L4`, or `S31` if memory ran out.
+/// `L1` to `L4`, or `S31` if memory ran out.
 pub(crate) fn fault_word(fault: LineFault) -> &'static str
     ensures text { result.now ≡ fault_text fault }
     ensures short { length result.now ≤ 3 }
@@ -137,8 +133,7 @@ pub(crate) fn fault_word(fault: LineFault) -> &'static str
     }
 }
 
-/// Appends a space and `part` to `text`, or nothing if `part` is `None`. `part` is the number of the unit, register or
-/// argument that the answer to a refused program names. `text` must have room for 21 more bytes.
+/// Puts a space and the unit, register or argument that a refused program's answer names, if any.
 fn put_part(text: &mut ShortText, part: Option<u32>)
     requires { length text.old.bytes + 21 ≤ SHORT }
     ensures text { text.new.bytes ≡ with_words text.old.bytes (map decimal (option_to_list part)) }
@@ -149,9 +144,7 @@ fn put_part(text: &mut ShortText, part: Option<u32>)
     }
 }
 
-/// Writes the answer to a refused program, without an LF, into `text`, which must be empty. The answer is the refusal's
-/// number with a V before it; then `unit`, the unit that the refusal names; then `part`, the register or the argument
-/// that the refusal names. `unit` and `part` have a space before them, and each is left out if it is `None`.
+/// Puts the answer to a refused program into an empty text: V and the refusal's number, then what it names.
 fn put_program(text: &mut ShortText, number: u32, unit: Option<u32>, part: Option<u32>)
     requires { text.old.bytes ≡ [] }
     ensures text { text.new.bytes ≡ answer_text (Answer.Program number unit part) }
@@ -163,8 +156,7 @@ fn put_program(text: &mut ShortText, number: u32, unit: Option<u32>, part: Optio
     put_part(text, part);
 }
 
-/// Writes the answer to a line whose act was entered in the history, without an LF, into `text`, which must be empty.
-/// The answer is the entry's number, a space and the reply to the act.
+/// Puts the entry's number, a space and the reply into an empty text.
 #[tactic(auto, using(crate::proofs::Short::entered))]
 fn put_entered(text: &mut ShortText, number: u32, reply: &Reply)
     requires { text.old.bytes ≡ [] }
@@ -175,7 +167,7 @@ fn put_entered(text: &mut ShortText, number: u32, reply: &Reply)
     put_reply(text, reply);
 }
 
-/// Writes an answer, without an LF, into `text`, which must be empty.
+/// Puts an answer, without an LF, into an empty text.
 pub(crate) fn put_answer(text: &mut ShortText, answer: &Answer)
     requires { text.old.bytes ≡ [] }
     ensures text { text.new.bytes ≡ answer_text answer.now }
@@ -191,7 +183,7 @@ pub(crate) fn put_answer(text: &mut ShortText, answer: &Answer)
     }
 }
 
-/// Writes an answer with its LF into `text`, which must be empty.
+/// Puts an answer with its LF into an empty text.
 pub fn put_line(text: &mut ShortText, answer: &Answer)
     requires { text.old.bytes ≡ [] }
     ensures { text.new.bytes ≡ answer_line answer.now }

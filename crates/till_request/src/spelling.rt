@@ -12,20 +12,17 @@ use bpf_model::context::Layout;
 use fuelling_point::DispenserEvent;
 use std::fmt;
 
-/// Does nothing. Its contract is a law: for the role `All`, the line of each act is read as the same act, unless the
-/// act is a load of a program without bytes. The law is about parsing without a limit on the line's length.
-/// `parse_line` has such a limit, 8,400 bytes.
+/// A law: for the role `All` the line of each act, of any length, is read as that act; but a load of no bytes.
 pub fn spelling_is_read()
     ensures { ReadsBack }
 {}
 
-/// Does nothing. Its contract is a law: words that are read as an act, unless it is a load, are the words of its
-/// spelling.
+/// A law: words that are read as an act, but for a load, are the words of its spelling.
 pub fn act_has_one_spelling()
     ensures { IsOneSpelling }
 {}
 
-/// Appends a request's words, with a space between them, to `text`, which must have room for 50 more bytes.
+/// Puts a request's words; needs room for 50 more bytes.
 fn put_request(text: &mut ShortText, request: Request)
     requires { length text.old.bytes + 50 ≤ 192 }
     ensures { text.new.bytes ≡ text.old.bytes ++ request_text request }
@@ -61,7 +58,7 @@ impl fmt::Display for Request {
     }
 }
 
-/// Writes the line of a till's request, without its LF, into `text`, which must be empty.
+/// Puts the line of a till's request, without its LF, into an empty text.
 pub fn put_till_line(text: &mut ShortText, till: u32, request: Request)
     requires { text.old.bytes ≡ [] }
     ensures { text.new.bytes ≡ spelling (Act.Till till request) }
@@ -72,7 +69,6 @@ pub fn put_till_line(text: &mut ShortText, till: u32, request: Request)
     put_request(text, request);
 }
 
-/// Returns the form of the line that reports a dispenser's event.
 pub fn event_form(event: DispenserEvent) -> Form
     ensures { result ≡ event_form event }
 {
@@ -87,7 +83,7 @@ pub fn event_form(event: DispenserEvent) -> Form
     }
 }
 
-/// Writes the line of a dispenser's event, without its LF, into `text`, which must be empty.
+/// Puts the line of a dispenser's event, without its LF, into an empty text.
 pub fn put_dispenser_line(text: &mut ShortText, point: u32, event: DispenserEvent)
     requires { text.old.bytes ≡ [] }
     ensures { text.new.bytes ≡ spelling (Act.Dispenser point event) }
@@ -109,7 +105,7 @@ pub fn put_dispenser_line(text: &mut ShortText, point: u32, event: DispenserEven
     }
 }
 
-/// Returns the first word of a line that loads a program: `load` for `Layout::One`, `load2` for `Layout::Two`.
+/// The first word of a load: `load` for `Layout::One`, `load2` for `Layout::Two`.
 pub fn load_word(layout: Layout) -> &'static str
     ensures { result.now ≡ load_by layout }
 {

@@ -19,7 +19,7 @@ pub enum WriteFault {
     OutOfMemory,
 }
 
-/// Writes all of `bytes`. The error is that the device failed, perhaps after some of the first bytes were written.
+/// Writes all of `bytes`. After an error some of the first bytes may be written.
 pub fn write_all<O: LineOut>(output: &mut O, bytes: &[u8]) -> Result<(), DeviceFault>
     ensures ok { OnOk result (Appends (O.written output.old) (O.written output.new) bytes.now) }
     ensures err { IfErr result
@@ -33,8 +33,7 @@ pub fn write_all<O: LineOut>(output: &mut O, bytes: &[u8]) -> Result<(), DeviceF
     Ok(())
 }
 
-/// Writes an answer with its LF. The error is `Write`: the device failed, perhaps after some of the line's first bytes
-/// were written. Allocates no memory.
+/// Writes an answer with its LF and takes no memory. After an error some of the first bytes may be written.
 pub fn write_answer<O: LineOut>(
     alloc: Global,
     output: &mut O,
@@ -46,7 +45,7 @@ pub fn write_answer<O: LineOut>(
     ensures memory { result ≢ Err WriteFault.OutOfMemory }
     ensures failed { RoseBy (one_if (is_write_fault result)) (O.failures output.old) (O.failures output.new) }
 {
-    // The allocator isn't needed: the line is made in a text of fixed size.
+    // The line is made in a text of fixed size.
     let _ = alloc;
     let mut line = ShortText::new();
     put_line(&mut line, answer);
