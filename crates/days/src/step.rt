@@ -224,7 +224,7 @@ impl Reading {
             return false;
         }
         let at = number as usize - 1;
-        match owing(&self.points[at], unpaid) {
+        match with_unpaid(&self.points[at], unpaid) {
             Some(point) => {
                 self.points[at] = point;
                 true
@@ -296,7 +296,7 @@ fn verified(
 }
 
 /// The point with one more unpaid transaction, or `None` if no point can have these values.
-fn owing(point: &Point, unpaid: Transaction) -> Option<Point>
+fn with_unpaid(point: &Point, unpaid: Transaction) -> Option<Point>
     ensures state { IfSome result (λ new. new ≡ with_unpaid point.now unpaid) }
     ensures when { IsTrue (is_some result) ↔ IsPointState (with_unpaid point.now unpaid) }
 {

@@ -15,7 +15,7 @@ use Rattle.site_config.specs.declared.flaw.Place.{Place}
 use Rattle.site_config.specs.declared.raw.RawRole.TheVariants.{Tills, OneTill, Dispensers, SomePoints, Owner}
 use Rattle.site_config.specs.Document.{◌>>=◌, demand}
 use Rattle.site_config.specs.Demands.{ranged}
-use Rattle.site_config.specs.Doors.{beside, item_of, bits_of, role_of, with_point, with_points}
+use Rattle.site_config.specs.Doors.{sibling_key, item_of, bits_of, role_of, with_point, with_points}
 use Rattle.site_config.specs.Laws.{TakesOwnLines, DoorsTakeOwnLines}
 use Rattle.site_config.proofs.Bits.{bit_more}
 
@@ -99,17 +99,17 @@ own_lines tills points place Dispensers role e =
 own_lines tills points place Owner role e =
     let is : roles.Owner ≡ role = cc in subst (TakesOwnLines Owner) is (record { of_tills = λ n r. refl; of_points = λ p v s f. refl })
 own_lines tills points place (OneTill z) role e =
-    let s = went_on (ranged (beside place key.Number) 1 tills z) (λ n. Ok (roles.OneTill n)) role e in
-    let z_is : z ≡ pos s.0 = number_is (beside place key.Number) 1 tills z s.0 s.1 in
+    let s = went_on (ranged (sibling_key place key.Number) 1 tills z) (λ n. Ok (roles.OneTill n)) role e in
+    let z_is : z ≡ pos s.0 = number_is (sibling_key place key.Number) 1 tills z s.0 s.1 in
     let is : roles.OneTill s.0 ≡ role = cc in
     subst (TakesOwnLines (OneTill z)) is (record {
       of_tills = λ n r. ap (λ x. int_eq x (pos n)) z_is ∙ same_numbers s.0 n;
       of_points = λ p v some few. refl;
     })
 own_lines tills points place (SomePoints zs) role e =
-    let s = went_on (bits_of (beside place key.Points) points zs) (λ bits. Ok (roles.SomePoints bits)) role e in
+    let s = went_on (bits_of (sibling_key place key.Points) points zs) (λ bits. Ok (roles.SomePoints bits)) role e in
     let is : roles.SomePoints s.0 ≡ role = cc in
     subst (TakesOwnLines (SomePoints zs)) is (record {
       of_tills = λ n r. refl;
-      of_points = λ p v some few. named_point p _ _ some few (bits_in (beside place key.Points) points s.0 p zs some s.1);
+      of_points = λ p v some few. named_point p _ _ some few (bits_in (sibling_key place key.Points) points s.0 p zs some s.1);
     })

@@ -60,9 +60,9 @@ pub record ServeValue : Type 0 where
 
 -- The place of `key` in the same table as the key at `place`. If `place` isn't the place of a key, the result is
 -- `place` itself.
-abbrev pub beside : Place → Key → Place
-beside (At section other) key = At section key
-beside place key = place
+abbrev pub sibling_key : Place → Key → Place
+sibling_key (At section other) key = At section key
+sibling_key place key = place
 
 -- The place of item `n`, counted from 0, of the list at `place`. If `place` isn't the place of a key, the result is
 -- `place` itself.
@@ -106,11 +106,11 @@ bits_of list points zs = do
 unfoldable pub role_of : ℕ → ℕ → Place → RawRole → Result Role ConfigFlaw
 role_of tills points place Tills = Ok roles.Till
 role_of tills points place (OneTill z) = do
-  n ← ranged (beside place key.Number) 1 tills z
+  n ← ranged (sibling_key place key.Number) 1 tills z
   Ok (roles.OneTill n)
 role_of tills points place Dispensers = Ok roles.Dispenser
 role_of tills points place (SomePoints zs) = do
-  bits ← bits_of (beside place key.Points) points zs
+  bits ← bits_of (sibling_key place key.Points) points zs
   Ok (roles.SomePoints bits)
 role_of tills points place Owner = Ok roles.Owner
 
@@ -125,7 +125,7 @@ address_fits place address = do
 -- configuration has the door's address.
 abbrev pub lines_of : ℕ → Place → Option ℤ → Result ℕ ConfigFlaw
 lines_of shared place None = Ok shared
-lines_of shared place (Some z) = ranged (beside place key.LinesPerSecond) 0 1000000 z
+lines_of shared place (Some z) = ranged (sibling_key place key.LinesPerSecond) 0 1000000 z
 
 -- Ok if the door's address, its role and the bound on its lines have no flaw, or else the first flaw. They are checked
 -- in this order.

@@ -4,7 +4,7 @@ ghost use Rattle.site_config.specs.Document.{Finds};
 ghost use Rattle.site_config.specs.Demands.{ranged};
 ghost use Rattle.site_config.specs.Typed.{seen_serve};
 ghost use Rattle.site_config.specs.Document.{without};
-ghost use Rattle.site_config.specs.Doors.{beside, item_of, address_of, with_point, with_points, bits_of, role_of};
+ghost use Rattle.site_config.specs.Doors.{sibling_key, item_of, address_of, with_point, with_points, bits_of, role_of};
 ghost use Rattle.site_config.specs.Doors.{door_fits, doors_fit, address_clash, till_clash, pair_clash, clash_with};
 ghost use Rattle.site_config.specs.Doors.{clash_among, page_clash, page_of, shared_workers, workers_of, is_single};
 ghost use Rattle.site_config.specs.Doors.{count_single, takes, is_taken, first_without_door, side_fits, door_of};
@@ -31,8 +31,8 @@ const MOST_OF_DISPENSERS: u32 = 31;
 const MOST_LINES: u32 = 1_000_000;
 
 /// The place of `key` in the table of the key at `place`; else `place`.
-fn beside(place: Place, key: Key) -> Place
-    ensures { result ≡ beside place key }
+fn sibling_key(place: Place, key: Key) -> Place
+    ensures { result ≡ sibling_key place key }
 {
     match place {
         Place::At(section, _) => Place::At(section, key),
@@ -153,12 +153,12 @@ fn make_role(tills: u32, points: u32, place: Place, role: &RawRole) -> Result<Ro
     match role {
         RawRole::Tills => Ok(Role::Till),
         RawRole::OneTill(number) => {
-            let place = beside(place, Key::Number);
+            let place = sibling_key(place, Key::Number);
             Ok(Role::OneTill(value_of!(in_range(place, *number, 1, tills))))
         }
         RawRole::Dispensers => Ok(Role::Dispenser),
         RawRole::SomePoints(numbers) => {
-            let place = beside(place, Key::Points);
+            let place = sibling_key(place, Key::Points);
             Ok(Role::SomePoints(value_of!(make_bits(place, points, numbers.as_slice()))))
         }
         RawRole::Owner => Ok(Role::Owner),
@@ -171,7 +171,12 @@ fn lines_of(shared: u32, place: Place, own: Option<i64>) -> Result<u32, ConfigFl
     ensures memory { result ≢ Err ConfigFlaw.OutOfMemory }
 {
     match own {
-        Some(lines) => in_range(beside(place, Key::LinesPerSecond), lines, 0, MOST_LINES),
+        Some(lines) => in_range(
+            sibling_key(place, Key::LinesPerSecond),
+            lines,
+            0,
+            MOST_LINES,
+        ),
         None => Ok(shared),
     }
 }
