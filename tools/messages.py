@@ -16,7 +16,7 @@ DOCUMENT = "docs/use/messages.md"
 # Crates whose texts are pages, rows, tests, or answers, which the reference has.
 OTHERS = "acceptance day_export till_request".split()
 # Texts of the live page but for its health, of HTTP's head, and of --help.
-PAGES = re.compile(r"pages/src/(?!station)|page_port/src/page_answer|command_line/src/app")
+PAGES = re.compile(r"pages/src/(?!station)|page_port/src/page_answer|file_jobs/src/subcommands")
 # Texts that stand within a message alone, and those of openings that no text can be read as.
 PARTS = """a number|a constant counter|a place of the stack for 16 bytes|a till|a dispenser|the owner|till ..|, page
 a whole number|a whole number or "unlimited"|a string|an array|a table|standard input|past its end

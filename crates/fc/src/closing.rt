@@ -1,5 +1,5 @@
 //! Why a served site couldn't be closed.
-use site_files::{FAILED, JobError, Place};
+use file_jobs::{FAILED, JobError, Place};
 use site_server::{CloseRefusal, ServeFault};
 use std::alloc::Global;
 

@@ -1,7 +1,7 @@
 //! The doors of a served site: the ports and sockets where its tills, its dispensers and the owner connect.
 use crate::sockets::{Listening, SocketFile, StagingFolder, listen_at};
+use file_jobs::{FAILED, JobError, Place};
 use site_config::{Address, Door};
-use site_files::{FAILED, JobError, Place};
 use site_server::{Listener, OpenDoor};
 use std::alloc::{AllocError, Global};
 use std::fmt::{self, Display};

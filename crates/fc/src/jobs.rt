@@ -1,17 +1,15 @@
 //! Does the job that a command line asks for.
 use crate::kept::{AnswerAfter, serve_days, serve_kept};
 use crate::printed::serve_printed;
-use command_line::{Job, ServeJob};
-use file_jobs::PrintRequest;
 use file_jobs::audits::audit_files;
 use file_jobs::carry::carry_files;
 use file_jobs::chained::audit_folder;
 use file_jobs::export::export_files;
+use file_jobs::job_error::print_text;
 use file_jobs::plays::{play_files, play_input};
-use file_jobs::programs::print_file;
+use file_jobs::printing::print_file;
 use file_jobs::report::report_files;
-use site_files::job_error::print_text;
-use site_files::{Folder, JobError, SiteFiles};
+use file_jobs::{Folder, Job, JobError, PrintRequest, ServeJob, SiteFiles};
 use std::fs::Files;
 use std::net::{Net, TcpListener, TcpStream};
 use std::sync::Wait;

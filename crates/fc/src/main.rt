@@ -14,12 +14,11 @@ mod serve;
 mod sockets;
 mod streams;
 
-use command_line::words::command;
-use command_line::{CommandFault, Job};
-use escaped_text::Printable;
+use file_jobs::command_line::command;
+use file_jobs::job_error::at_file;
+use file_jobs::{CommandFault, DONE, Job, JobError, USAGE};
 use jobs::do_job;
-use site_files::job_error::at_file;
-use site_files::{DONE, JobError, USAGE};
+use pages::Printable;
 use std::alloc::AllocError;
 use std::io::{self, ErrorKind};
 use std::process::ExitCode;

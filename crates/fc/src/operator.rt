@@ -2,9 +2,9 @@
 ghost use Rattle.std.specs.Prelude.{◌≡◌, is_some};
 
 use crate::doors::DoorAddress;
+use file_jobs::messages::print_message;
 use page_port::ConnectionCounts;
 use site_config::Door;
-use site_files::messages::print_message;
 use site_server::{Limiter, Notices, SessionFailure, SessionFault};
 use std::fmt::{self, Display};
 use std::io;

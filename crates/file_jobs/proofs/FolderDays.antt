@@ -6,7 +6,7 @@ use Rattle.site_config.specs.declared.fault.ConfigFault.{ConfigFault}
 use Rattle.days.specs.Chain.{DayText}
 use Rattle.days.specs.Given.{IsGiven}
 use Rattle.days.specs.declared.day.DayIn.{DayIn}
-use Rattle.site_files.specs.Days.{FolderText, IsConfigOf, day_after}
+use Rattle.file_jobs.specs.Days.{FolderText, IsConfigOf, day_after}
 use Rattle.file_jobs.specs.Chained.{day_in, day_with, days_from, days_left}
 
 pub given_day : {J : Type 0} (remaining : J → Option (List ℕ)) (given : ConfigValue) (own : Option (Result ConfigValue ConfigFault)) (opening journal : Option (List ℕ))

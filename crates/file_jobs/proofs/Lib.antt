@@ -1,3 +1,7 @@
+pub mod Lengths
+pub mod Padded
+pub mod Named
+pub mod Opened
 pub mod ActAnswers
 pub mod Alike
 pub mod Fronts

@@ -5,10 +5,10 @@ use Rattle.site_core.specs.Limits.{ConfigValue}
 use Rattle.site_config.specs.declared.fault.ConfigFault.{ConfigFault}
 use Rattle.days.specs.Chain.{DayText, IsChain}
 use Rattle.days.specs.declared.day.Chained.{Chained}
-use Rattle.site_files.specs.declared.folder.Part.TheVariants as part
-use Rattle.site_files.specs.declared.folder.Span.{Span}
-use Rattle.site_files.specs.Days.{FolderText, file_of, own_config, span_of}
-use Rattle.site_files.specs.Lines.{parts_of, IsWhole}
+use Rattle.file_jobs.specs.declared.folder.Part.TheVariants as part
+use Rattle.file_jobs.specs.declared.folder.Span.{Span}
+use Rattle.file_jobs.specs.Days.{FolderText, file_of, own_config, span_of}
+use Rattle.file_jobs.specs.Lines.{parts_of, IsWhole}
 
 -- A day with this opening and this journal, and with its own configuration, or `given` if it has none. If its own is
 -- refused, its opening is taken to have no bytes, which no opening has: so the day is in no chain.

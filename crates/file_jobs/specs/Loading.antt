@@ -9,7 +9,7 @@ use Rattle.till_request.specs.declared.act.Act.{Act}
 use Rattle.till_request.specs.declared.act.Act.TheVariants as acts
 use Rattle.till_request.specs.declared.act.Answer.{Answer}
 use Rattle.till_request.specs.declared.act.Answer.TheVariants as answers
-use Rattle.site_files.specs.Printed.{IsAcceptedAndGood}
+use Rattle.file_jobs.specs.Printed.{IsAcceptedAndGood}
 
 -- The act loads a program that the verifier refuses with this refusal.
 abbrev pub IsRefusedLoad : Act → Refusal → Type 0

@@ -1,10 +1,10 @@
 //! The answers of a play, in a buffer. All of them are written before more of the script is read.
 ghost use Rattle.std.specs.Prelude.{◌≡◌, ◌⊎◌, ◌≤◌, [], Ok, Err, IfOk, MatchResult, length};
-ghost use Rattle.site_files.specs.JobErrors.{Ends};
+ghost use Rattle.file_jobs.specs.JobErrors.{Ends};
 
 use crate::progress::Progress;
+use crate::{JobError, Outlet, Source};
 use line_session::{Ended, SessionFault};
-use site_files::{JobError, Outlet, Source};
 use std::alloc::{AllocError, Global};
 use std::cell::RefCell;
 use std::io::{self, BufWriter, Error, ErrorKind, Printer, Read, Write};

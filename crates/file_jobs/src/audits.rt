@@ -1,13 +1,13 @@
 //! Audits of a journal.
 ghost use Rattle.std.specs.Prelude.{[], IsErrAnd, IsTrue, option_map};
-ghost use Rattle.site_files.specs.Asked.{reads_twice};
-ghost use Rattle.site_files.specs.JobErrors.{Ends};
+ghost use Rattle.file_jobs.specs.StandardInput.{reads_twice};
+ghost use Rattle.file_jobs.specs.JobErrors.{Ends};
 
+use crate::audit_lines::legal_line;
 use crate::audited::replayed;
+use crate::job_error::print_text;
+use crate::{JobError, SiteFiles};
 use site_core::Unwatched;
-use site_files::audit::legal_line;
-use site_files::job_error::print_text;
-use site_files::{JobError, SiteFiles};
 
 /// Audits the journal in the file that `journal` names, as a journal of the site that `site` names. Prints that it is
 /// legal. The error is that a file is refused or can't be read, or that two files are standard input.

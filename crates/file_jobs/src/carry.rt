@@ -1,17 +1,17 @@
 //! What `fc carry` does: closes a day, and prints the opening of the next one.
 ghost use Rattle.std.specs.Prelude.{[], IfErr, IsErrAnd, IsTrue, option_map};
-ghost use Rattle.site_files.specs.Asked.{reads_twice};
-ghost use Rattle.site_files.specs.JobErrors.{Ends, Refuses};
+ghost use Rattle.file_jobs.specs.StandardInput.{reads_twice};
+ghost use Rattle.file_jobs.specs.JobErrors.{Ends, Refuses};
 
+use crate::job_error::print_text;
+use crate::newest::refuse_uncarried;
 use crate::progress::watch;
+use crate::refused_journals::audited;
+use crate::settings::day_and;
+use crate::{FileIn, JobError, SiteFiles};
 use days::Closed;
 use days::closing::close;
 use days::writing::opening_text;
-use site_files::job_error::print_text;
-use site_files::newest::refuse_uncarried;
-use site_files::refused_journals::audited;
-use site_files::settings::day_and;
-use site_files::{FileIn, JobError, SiteFiles};
 
 /// Audits the journal in the file that `journal` names, as a journal of the site that `site` names. Prints the opening
 /// of the next day. The error is that a file is refused or can't be read, that two files are standard input, or that

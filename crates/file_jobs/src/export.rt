@@ -1,18 +1,17 @@
 //! What `fc export` does: audits a journal, and prints its rows (sales, decisions or entries), as CSV or as lines of
 //! JSON.
 ghost use Rattle.std.specs.Prelude.{◌≡◌, [], IfErr, IsErrAnd, IsTrue, option_map};
-ghost use Rattle.site_files.specs.Asked.{reads_twice};
-ghost use Rattle.file_jobs.specs.Asked.{rows_of, format_of};
-ghost use Rattle.site_files.specs.JobErrors.{Ends};
+ghost use Rattle.file_jobs.specs.StandardInput.{reads_twice};
+ghost use Rattle.file_jobs.specs.PrintRequests.{rows_of, format_of};
+ghost use Rattle.file_jobs.specs.JobErrors.{Ends};
 
 use crate::audited::audited_site;
-use command_line::{Format, Rows};
+use crate::job_error::printed;
+use crate::{Format, JobError, Rows, SiteFiles};
 use day_export::RowsFault;
 use day_export::writing::write_rows;
 use day_report::Sales;
 use site_core::Watched;
-use site_files::job_error::printed;
-use site_files::{JobError, SiteFiles};
 use std::io::{self, BufWriter, Write};
 
 /// Audits the journal in the file that `journal` names, as a journal of the site that `site` names. Prints the rows

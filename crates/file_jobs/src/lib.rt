@@ -1,26 +1,60 @@
-//! What the commands of `fc` do with files: print programs, play scripts, audit journals, print them as pages or rows,
-//! print the opening of the next day, and audit the days of a folder.
+//! What the commands of `fc` do with files: the words that ask for a command, the files of a site, each read, checked
+//! and refused in words and as a line, and what is printed of programs, plays, journals and days.
 #![tactic(auto)]
 
 mod answers;
+pub mod audit_lines;
 mod audited;
 pub mod audits;
 pub mod carry;
 pub mod chained;
+pub mod command_line;
+mod cut_line;
 pub mod entering;
 pub mod export;
+pub mod file_flaws;
+pub mod files;
+mod folder;
+mod job;
+pub mod job_error;
+pub mod journal_reasons;
+pub mod kept_file;
+pub mod messages;
+pub mod newest;
 mod notices;
+pub mod open_journals;
+pub mod opening;
 mod player;
 pub mod playing;
 pub mod plays;
-pub mod programs;
+pub mod printing;
+pub mod program_files;
 mod progress;
+pub mod reasons;
+pub mod refused_journals;
 mod refused_loads;
 pub mod report;
 pub mod script;
+pub mod settings;
+mod statuses;
+mod subcommands;
 
 pub use entering::Entered;
+pub use file_flaws::FileFlaw;
+pub use files::{FileIn, Outlet, Source};
+pub use folder::{DayFile, DayFiles, Folder, Part, Span, day_after};
+pub use job::{CommandFault, Format, Job, Rows, ServeJob};
+pub use job_error::JobError;
+pub use journal_reasons::JournalFlaw;
+pub use kept_file::{FileIdentity, FoundFile};
+pub use messages::Place;
+pub use newest::Newest;
 pub use notices::{NoNotices, PlayNotices};
+pub use open_journals::Kept;
+pub use opening::Day;
 pub use player::Player;
-pub use programs::PrintRequest;
+pub use printing::PrintRequest;
+pub use reasons::RefusedProgram;
 pub use script::ScriptLine;
+pub use settings::SiteFiles;
+pub use statuses::{DONE, FAILED, REFUSED, USAGE};

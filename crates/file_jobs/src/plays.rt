@@ -1,21 +1,21 @@
 //! Plays: runs of a script on a new site.
 ghost use Rattle.std.specs.Prelude.{◌≤◌, [], IfErr, IsErrAnd, IsTrue, option_map};
-ghost use Rattle.site_files.specs.Asked.{reads_twice};
-ghost use Rattle.site_files.specs.JobErrors.{Ends, Refuses};
-ghost use Rattle.file_jobs.specs.Refusals.{BreaksOff, IsPlayed};
+ghost use Rattle.file_jobs.specs.StandardInput.{reads_twice};
+ghost use Rattle.file_jobs.specs.JobErrors.{Ends, Refuses};
+ghost use Rattle.file_jobs.specs.PlaysAndDays.{BreaksOff, IsPlayed};
 
 use crate::answers::{Answers, Incoming, Outgoing};
+use crate::files::{lines_in, name_of, stream, too_long};
+use crate::messages::print_message;
 use crate::playing::play_within;
 use crate::progress::Progress;
 use crate::refused_loads::RefusedLoads;
+use crate::settings::{day_and, settings_in};
+use crate::{FAILED, FileIn, JobError, Place, REFUSED, SiteFiles, Source};
 use line_session::{Ended, READS, SessionFault};
 use site_config::Settings;
 use site_config::head::{config_part, read_head};
 use site_core::Config;
-use site_files::files::{lines_in, name_of, stream, too_long};
-use site_files::messages::print_message;
-use site_files::settings::{day_and, settings_in};
-use site_files::{FAILED, FileIn, JobError, Place, REFUSED, SiteFiles, Source};
 use std::alloc::Global;
 use std::io::{self, IsTerminal};
 use till_request::LineFault;

@@ -1,8 +1,8 @@
 //! The progress line of a long job: how many lines are read. It is shown on standard error, if that is a terminal.
 ghost use Rattle.std.specs.Prelude.{◌≡◌};
 
+use crate::files::stream;
 use memchr::memchr_iter;
-use site_files::files::stream;
 use std::cell::Cell;
 use std::io::{IsTerminal, Read};
 use std::time::Instant;

@@ -1,10 +1,10 @@
 //! Messages about a script's loads of programs that the verifier refuses. They are printed on standard error. The
 //! answer to such a load, on standard output, has only the refusal's number.
 use crate::PlayNotices;
+use crate::messages::print_message;
 use crate::progress::Progress;
+use crate::reasons::explain_refusal;
 use reg_types::Refusal;
-use site_files::messages::print_message;
-use site_files::reasons::explain_refusal;
 use std::alloc::AllocError;
 use std::cell::Cell;
 use till_request::Act;

@@ -1,15 +1,15 @@
 //! The page of HTML that shows an audited journal.
 ghost use Rattle.std.specs.Prelude.{[], IfErr, IsErrAnd, IsTrue, option_map};
-ghost use Rattle.site_files.specs.Asked.{reads_twice};
-ghost use Rattle.site_files.specs.JobErrors.{Ends};
+ghost use Rattle.file_jobs.specs.StandardInput.{reads_twice};
+ghost use Rattle.file_jobs.specs.JobErrors.{Ends};
 
 use crate::audited::replayed;
+use crate::job_error::printed;
+use crate::{JobError, SiteFiles};
 use day_report::DayWatch;
 use day_report::adding::watch_day;
 use pages::Page;
 use site_core::Replayed;
-use site_files::job_error::printed;
-use site_files::{JobError, SiteFiles};
 use std::io::{self, BufWriter, Write};
 
 /// Audits the journal in the file that `journal` names, as a journal of the site that `site` names. Prints a page of

@@ -4,7 +4,7 @@ use Rattle.std.specs.Prelude.{ℕ, ◌==◌, ◌||◌, ◌∷◌, if◌then◌el
 use Rattle.std.specs.List.{flat_map}
 use Rattle.std.specs.Str.{chars}
 use Rattle.std.specs.Char.{is_control}
-use Rattle.escaped_text.specs.Printing.{printable_char}
+use Rattle.pages.specs.Printing.{printable_char}
 
 -- A character as it is written in a label's value. The text that the value stands for has control characters escaped as
 -- messages have them, and each backslash (92) and each quote (34) of that text has a backslash before it.

@@ -1,2 +1,4 @@
 pub mod Health
 pub mod Labels
+pub mod Printing
+pub mod Escaping

@@ -1,7 +1,7 @@
 //! Builds a text piece by piece, such as a page in HTML or a text of metrics.
+use crate::escaped::Escaped;
 use crate::names::refusal_name;
 use crate::texts::{Date, Text, date_of};
-use escaped_text::Escaped;
 use std::alloc::{AllocError, Global};
 use std::fmt::Display;
 

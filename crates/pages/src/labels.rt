@@ -1,5 +1,5 @@
 //! The values of labels in a text of metrics.
-use escaped_text::PrintableChar;
+use crate::escaped::PrintableChar;
 use std::fmt;
 
 /// The value of a label, as it is written between its quotes: a backslash and a quote have a backslash before them.

@@ -6,6 +6,7 @@ mod bars;
 mod builder;
 pub mod checking;
 mod drawn;
+mod escaped;
 mod labels;
 mod names;
 pub mod page;
@@ -20,6 +21,7 @@ mod tables;
 mod texts;
 mod words;
 
+pub use escaped::{Escaped, Printable, PrintableChar};
 pub use page::Page;
 pub use station::{
     DoorCounts, DurationSummary, Health, JournalFileStats, RoleCounts, StationSnapshot,

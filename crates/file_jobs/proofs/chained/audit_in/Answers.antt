@@ -2,8 +2,8 @@ use Rattle.std.proofs.Common.{◌≡◌, Some, Result, Ok, Err, IfOk, length, sy
 use Rattle.site_core.specs.Limits.{ConfigValue}
 use Rattle.days.specs.Chain.{IsChain}
 use Rattle.days.specs.declared.day.Chained.{Chained}
-use Rattle.site_files.specs.declared.folder.Span.{Span}
-use Rattle.site_files.specs.Days.{FolderText, span_of}
+use Rattle.file_jobs.specs.declared.folder.Span.{Span}
+use Rattle.file_jobs.specs.Days.{FolderText, span_of}
 use Rattle.file_jobs.specs.Chained.{AreLegal, days_left}
 use Rattle.file_jobs.proofs.chained.audit_in.Goals as goal
 

@@ -1,6 +1,6 @@
 use Rattle.std.proofs.Common.{List, Some, ap, option_map}
 use Rattle.days.specs.Chain.{DayText}
-use Rattle.site_files.specs.Days.{FolderText}
+use Rattle.file_jobs.specs.Days.{FolderText}
 use Rattle.file_jobs.specs.Chained.{days_left}
 use Rattle.file_jobs.proofs.chained.audit_span.Goals as goal
 

@@ -1,5 +1,5 @@
-use Rattle.site_files.specs.Days.{file_of, own_config}
-use Rattle.site_files.specs.declared.folder.Part.TheVariants as part
+use Rattle.file_jobs.specs.Days.{file_of, own_config}
+use Rattle.file_jobs.specs.declared.folder.Part.TheVariants as part
 use Rattle.file_jobs.proofs.FolderDays.{given_day}
 use Rattle.file_jobs.proofs.chained.FolderIn.day.Goals as goal
 

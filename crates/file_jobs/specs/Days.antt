@@ -1,0 +1,129 @@
+-- Definitions: the names of a day's files, the days that a folder has, and how a day begins (source: this project). A
+-- file's name begins with the day's number: six digits, such as `000002`, or more if the number needs more.
+use Rattle.std.specs.Prelude.{◌≡◌, ◌≢◌, ◌⊎◌, ℕ, ◌+◌, ◌-◌, ◌==◌, ◌||◌, List, [], ◌∷◌, ◌++◌, length, codes, decimal, replicate, fold, min, max, nat_lt, Bool, false}
+use Rattle.std.specs.Prelude.{Option, Some, None, option_map, Result, Ok, bytes_eq, if◌then◌else◌}
+use Rattle.std.specs.List.{before_first, after_first}
+use Rattle.std.specs.Map.{lookup}
+use Rattle.std.specs.Result.{result_map_both, result_ok}
+use Rattle.till_request.specs.Grammar.{number}
+use Rattle.site_core.specs.Limits.{ConfigValue}
+use Rattle.days.specs.declared.file.OpeningFile.{OpeningFile}
+use Rattle.site_config.specs.Ranges.{config_of}
+use Rattle.site_config.specs.declared.fault.ConfigFault.{ConfigFault}
+use Rattle.days.specs.Chain.{BeginsBy}
+use Rattle.days.specs.File.{IsOpeningFile}
+use Rattle.days.specs.Fitting.{BeginsWith}
+use Rattle.file_jobs.specs.declared.folder.Part.{Part}
+use Rattle.file_jobs.specs.declared.folder.Part.TheVariants as part
+use Rattle.file_jobs.specs.declared.folder.Span.{Span}
+use Rattle.file_jobs.specs.declared.newest.DayToServe.{DayToServe}
+use Rattle.file_jobs.specs.declared.newest.DayToServe.TheVariants as going
+
+abbrev pub is_written : Option (List ℕ) → Bool
+is_written None = false
+is_written (Some text) = nat_lt 0 (length text)
+
+abbrev pub ending_of : Part → List ℕ
+ending_of part.Config = codes "toml"
+ending_of part.Opening = codes "opening"
+ending_of part.Journal = codes "journal"
+
+abbrev pub six_digits : ℕ → List ℕ
+six_digits day = replicate (6 - length (decimal day)) 48 ++ decimal day
+
+-- the name of a day's file: the day's number, `.`, and the ending
+abbrev pub file_name : ℕ → Part → List ℕ
+file_name day part = six_digits day ++ (46 ∷ ending_of part)
+
+abbrev pub path_of : List ℕ → ℕ → Part → List ℕ
+path_of folder day part = folder ++ (47 ∷ file_name day part)
+
+-- A folder of days as a value: the name and the bytes of each file.
+abbrev pub FolderText : Type 0
+FolderText = List (List ℕ × List ℕ)
+
+-- the bytes of a day's file, or None if the folder has no such file
+abbrev pub file_of : FolderText → ℕ → Part → Option (List ℕ)
+file_of folder day part = lookup (bytes_eq (file_name day part)) folder
+
+-- digits without the zeros in front
+abbrev pub without_zeros : List ℕ → List ℕ
+without_zeros [] = []
+without_zeros (digit ∷ digits) = if digit == 48 then without_zeros digits else digit ∷ digits
+
+-- The number of a day, given the part of a file's name that spells it: exactly six digits, or more than six that don't
+-- begin with 0. None for anything else, and if the number is 0 or isn't below 2^32.
+abbrev pub day_of : List ℕ → Option ℕ
+day_of digits =
+    if length digits == 6 then result_ok (number 32 (without_zeros digits))
+    else (if nat_lt 6 (length digits) then result_ok (number 32 digits) else None)
+
+-- whether this is what follows the `.` in the file name of a journal or of an opening
+abbrev pub shows_day : List ℕ → Bool
+shows_day ending = bytes_eq ending (ending_of part.Journal) || bytes_eq ending (ending_of part.Opening)
+
+abbrev pub is_dot : ℕ → Bool
+is_dot byte = byte == 46
+
+-- The day whose journal or opening has this name; None for any other name.
+unfoldable pub day_named : List ℕ → Option ℕ
+day_named name = if shows_day (after_first is_dot name) then day_of (before_first is_dot name) else None
+
+-- The day with which a station goes on. `This n` means day n. `After n` means the day after day n if day n has an
+-- entry, or else day n. The result is:
+-- - `This 1` if the station's folder has no day
+-- - or else `After n` for the newest day n, if a new day is asked for
+-- - or else `This n` for the newest day n
+abbrev pub day_to_serve : Option Span → Bool → DayToServe
+day_to_serve None is_new = going.This 1
+day_to_serve (Some span) is_new = if is_new then going.After span.newest else going.This span.newest
+
+-- the oldest and the newest day of a folder once this day is added; None stands for a folder without a day
+abbrev pub with_day : Option Span → ℕ → Span
+with_day None day = record { oldest = day; newest = day }
+with_day (Some span) day = record { oldest = min span.oldest day; newest = max span.newest day }
+
+abbrev pub with_found : Option Span → Option ℕ → Option Span
+with_found span None = span
+with_found span (Some day) = Some (with_day span day)
+
+-- the oldest and the newest of the days that have a journal or an opening, or None if there is no such day
+abbrev pub span_of : FolderText → Option Span
+span_of folder = fold (λ span file. with_found span (day_named file.0)) None folder
+
+-- the day after `day`, or None if `day` isn't before the day `newest`
+abbrev pub day_after : ℕ → ℕ → Option ℕ
+day_after day newest = if nat_lt day newest then Some (day + 1) else None
+
+-- `day` is the day to serve. The day after a day is served only once that day is closed, and it isn't if it has no entry.
+abbrev pub IsServed : DayToServe → ℕ → Type 0
+IsServed (going.This n) day = day ≡ n
+IsServed (going.After n) day = (day ≡ n) ⊎ (day ≡ n + 1)
+
+-- the configuration in the text of a day's file, or the fault of that text; None if the day has no such file
+abbrev pub own_config : Option (List ℕ) → Option (Result ConfigValue ConfigFault)
+own_config file = option_map (λ text. result_map_both (λ settings. settings.config) (λ fault. fault) (config_of text)) file
+
+-- The configuration that a day keeps. A day without an entry keeps none: its journal is missing or empty.
+abbrev pub kept_config : FolderText → ℕ → Option (Result ConfigValue ConfigFault)
+kept_config folder day = if is_written (file_of folder day part.Journal) then own_config (file_of folder day part.Config) else None
+
+-- `config` is this configuration of a day, or `given` for a day that has none. A day with one that is refused has none.
+abbrev pub IsConfigOf : ConfigValue → Option (Result ConfigValue ConfigFault) → ConfigValue → Type 0
+IsConfigOf given None config = config ≡ given
+IsConfigOf given (Some own) config = own ≡ Ok config
+
+-- A site goes on with day `day` of a folder, and then has the configuration `begun`: the one that the day keeps, or
+-- `given`, with the day's opening in it. Day 1 begins without an opening.
+abbrev pub GoesOn : FolderText → ConfigValue → ℕ → ConfigValue → Type 0
+GoesOn folder given day begun =
+    (config : ConfigValue) × IsConfigOf given (kept_config folder day) config
+    × (day ≡ 1 → begun ≡ config) × (day ≢ 1 → BeginsBy day config (file_of folder day part.Opening) begun)
+
+-- A site with the configuration `config` begins day `day` with an opening of that day, and then has the configuration
+-- `begun`.
+pub record BeginsDay (config : ConfigValue) (day : ℕ) (begun : ConfigValue) : Type 0 where
+  pub file : OpeningFile
+  pub good : IsOpeningFile file
+  pub day_is : day ≡ file.day
+  pub begins : BeginsWith config file.opening begun

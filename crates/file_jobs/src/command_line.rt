@@ -1,0 +1,536 @@
+//! The parsing of a command line.
+ghost use Rattle.std.specs.Prelude.{◌≡◌, IsTrue, IsSome, None, false, [], IfOk, IfErr, IsOk, IsOkAnd, OnOk};
+ghost use Rattle.std.specs.Prelude.{map, codes, is_some, option_map, string_bytes, ◌↔◌};
+ghost use Rattle.clap.specs.Words.{first_of, rows_of, found_of, subcommand_of, subcommand_rows_of, takes, fault_of};
+ghost use Rattle.file_jobs.specs.JobRequest.{fc_app, requested, parsed_request, is_set, layout_in, layout_named, IsHelpOrVersion, MayShow};
+ghost use Rattle.file_jobs.specs.JobRequest.{RefusesBy, audit_by, days_in, format_in, kind_in, named, opening_in};
+ghost use Rattle.file_jobs.specs.JobRequest.{rows_named, serve_by, serve_days_by, unasked_by, unasked_text, unasked_words};
+ghost use Rattle.file_jobs.specs.JobRequest.{audit_message, serve_message};
+ghost use Rattle.file_jobs.specs.Refusing.{Asks, Finds, FindsFiles, IsJobOfLine, ReadsMask, IsNoJobMessage, IsRefusalOf};
+
+use crate::job::{CommandFault, Format, Job, Rows, ServeJob};
+use crate::subcommands::fc;
+use bpf_model::context::Layout;
+use clap::ArgMatches;
+use clap::error::ErrorKind;
+use std::alloc::{AllocError, Global};
+
+/// Returns the name of the file or folder that the argument `id` gives, or `None` if the argument isn't given. The
+/// error is that memory ran out.
+fn file_of(alloc: Global, matches: &ArgMatches, id: &str) -> Result<Option<String>, AllocError>
+    ensures { IfOk result (λ s. first_of id.now (rows_of (found_of matches.now)) ≡ option_map string_bytes s) }
+{
+    match matches.get_str(id) {
+        Some(text) => {
+            let name = String::from_str(alloc, text)?;
+            Ok(Some(name))
+        }
+        None => Ok(None),
+    }
+}
+
+/// Returns the mask of counters that `--counters` gives to `verify`, or `None` if its value isn't a number below 2^32.
+/// The mask is 0 if the option isn't given.
+fn mask_of(matches: &ArgMatches) -> Option<u32>
+    ensures { ReadsMask (rows_of (found_of matches.now)) result }
+{
+    matches.get_one::<u32>("counters")
+}
+
+/// Returns the layout that the text `1` or `2` names. Returns `None` for any other text.
+fn layout_named(text: &str) -> Option<Layout>
+    ensures { result ≡ layout_named text.now }
+{
+    if text == "1" {
+        Some(Layout::One)
+    } else if text == "2" {
+        Some(Layout::Two)
+    } else {
+        None
+    }
+}
+
+/// Returns the layout that `--context` gives to `verify`, or `None` if the option's value isn't `1` or `2`. The layout
+/// is `One` if the option isn't given.
+fn layout_of(matches: &ArgMatches) -> Option<Layout>
+    ensures { result ≡ layout_in (rows_of (found_of matches.now)) }
+{
+    match matches.get_str("context") {
+        Some(text) => layout_named(text),
+        None => None,
+    }
+}
+
+fn asm_of(alloc: Global, matches: &ArgMatches) -> Result<Option<Job>, AllocError>
+    ensures { IfOk result (Finds (codes "asm") (rows_of (found_of matches.now))) }
+{
+    match file_of(alloc, matches, "file")? {
+        Some(file) => Ok(Some(Job::Asm(file))),
+        None => Ok(None),
+    }
+}
+
+/// Returns whether the option `id`, which takes no value, is given.
+fn is_set(matches: &ArgMatches, id: &str) -> bool
+    ensures { result ≡ is_set id.now (rows_of (found_of matches.now)) }
+{
+    match matches.get_str(id) {
+        Some(text) => text == "true",
+        None => false,
+    }
+}
+
+fn dis_of(alloc: Global, matches: &ArgMatches) -> Result<Option<Job>, AllocError>
+    ensures { IfOk result (Finds (codes "dis") (rows_of (found_of matches.now))) }
+{
+    let Some(file) = file_of(alloc, matches, "file")? else {
+        return Ok(None);
+    };
+    if is_set(matches, "units") {
+        Ok(Some(Job::DisUnits(file)))
+    } else {
+        Ok(Some(Job::Dis(file)))
+    }
+}
+
+fn verify_of(alloc: Global, matches: &ArgMatches) -> Result<Option<Job>, AllocError>
+    ensures job { IfOk result (Finds (codes "verify") (rows_of (found_of matches.now))) }
+    ensures layout { layout_in (rows_of (found_of matches.now)) ≡ None → IsOk result }
+{
+    let Some(counters) = mask_of(matches) else {
+        return Ok(None);
+    };
+    let Some(context) = layout_of(matches) else {
+        return Ok(None);
+    };
+    match file_of(alloc, matches, "file")? {
+        Some(file) => Ok(Some(Job::Verify {
+            counters,
+            context,
+            file,
+        })),
+        None => Ok(None),
+    }
+}
+
+/// Returns the names of the two files that the arguments `first` and `second` give, or `None` if one of them isn't
+/// given. The error is that memory ran out.
+fn files_of(
+    alloc: Global,
+    matches: &ArgMatches,
+    first: &str,
+    second: &str,
+) -> Result<Option<(String, String)>, AllocError>
+    ensures { IfOk result (FindsFiles first.now second.now (rows_of (found_of matches.now))) }
+{
+    let Some(one) = file_of(alloc, matches, first)? else {
+        return Ok(None);
+    };
+    match file_of(alloc, matches, second)? {
+        Some(other) => Ok(Some((one, other))),
+        None => Ok(None),
+    }
+}
+
+/// Returns the name of the file that `--opening` gives, or `None` if it isn't given. The error is that memory ran out.
+fn opening_of(alloc: Global, matches: &ArgMatches) -> Result<Option<String>, AllocError>
+    ensures { IfOk result (λ file. opening_in (rows_of (found_of matches.now)) ≡ named file) }
+{
+    file_of(alloc, matches, "opening")
+}
+
+/// Returns the name of the folder that `--days` gives, or `None` if it isn't given. The error is that memory ran out.
+fn days_of(alloc: Global, matches: &ArgMatches) -> Result<Option<String>, AllocError>
+    ensures { IfOk result (λ folder. days_in (rows_of (found_of matches.now)) ≡ named folder) }
+{
+    file_of(alloc, matches, "days")
+}
+
+/// Returns the name of the file that the argument JOURNAL or the option `--journal` gives, or `None` if neither is
+/// given. The error is that memory ran out.
+fn journal_of(alloc: Global, matches: &ArgMatches) -> Result<Option<String>, AllocError>
+    ensures { IfOk result (λ file. first_of (codes "journal") (rows_of (found_of matches.now)) ≡ named file) }
+{
+    file_of(alloc, matches, "journal")
+}
+
+fn play_of(alloc: Global, matches: &ArgMatches) -> Result<Option<Job>, AllocError>
+    ensures { IfOk result (Finds (codes "play") (rows_of (found_of matches.now))) }
+{
+    let opening = opening_of(alloc, matches)?;
+    match files_of(alloc, matches, "config", "script")? {
+        Some((config, script)) => Ok(Some(Job::Play {
+            opening,
+            config,
+            script,
+        })),
+        None => Ok(None),
+    }
+}
+
+fn audit_of(alloc: Global, matches: &ArgMatches) -> Result<Option<Job>, AllocError>
+    ensures { IfOk result (Finds (codes "audit") (rows_of (found_of matches.now))) }
+{
+    let Some(config) = file_of(alloc, matches, "config")? else {
+        return Ok(None);
+    };
+    let opening = opening_of(alloc, matches)?;
+    let journal = journal_of(alloc, matches)?;
+    let days = days_of(alloc, matches)?;
+    Ok(audit_by(days, opening, journal, config))
+}
+
+/// Returns the job of `fc audit`, or `None` if `--days` is given with an opening or a journal, or if neither `--days`
+/// nor a journal is given.
+fn audit_by(
+    days: Option<String>,
+    opening: Option<String>,
+    journal: Option<String>,
+    config: String,
+) -> Option<Job>
+    ensures { Asks (audit_by (named days) (named opening) (named journal) (string_bytes config)) result }
+{
+    match (days, journal) {
+        (None, None) => None,
+        (None, Some(journal)) => Some(Job::Audit {
+            opening,
+            config,
+            journal,
+        }),
+        (Some(_folder), Some(_journal)) => None,
+        (Some(folder), None) => match opening {
+            None => Some(Job::AuditDays { folder, config }),
+            Some(_opening) => None,
+        },
+    }
+}
+
+fn carry_of(alloc: Global, matches: &ArgMatches) -> Result<Option<Job>, AllocError>
+    ensures { IfOk result (Finds (codes "carry") (rows_of (found_of matches.now))) }
+{
+    let opening = opening_of(alloc, matches)?;
+    match files_of(alloc, matches, "config", "journal")? {
+        Some((config, journal)) => Ok(Some(Job::Carry {
+            opening,
+            config,
+            journal,
+        })),
+        None => Ok(None),
+    }
+}
+
+fn report_of(alloc: Global, matches: &ArgMatches) -> Result<Option<Job>, AllocError>
+    ensures { IfOk result (Finds (codes "report") (rows_of (found_of matches.now))) }
+{
+    let opening = opening_of(alloc, matches)?;
+    match files_of(alloc, matches, "config", "journal")? {
+        Some((config, journal)) => Ok(Some(Job::Report {
+            opening,
+            config,
+            journal,
+        })),
+        None => Ok(None),
+    }
+}
+
+/// Returns the kind of rows that `fc export` prints for the word `text`: `sales`, `decisions` or `events`. Returns
+/// `None` for any other text.
+fn rows_named(text: &str) -> Option<Rows>
+    ensures { result ≡ rows_named text.now }
+{
+    if text == "sales" {
+        Some(Rows::Sales)
+    } else if text == "decisions" {
+        Some(Rows::Decisions)
+    } else if text == "events" {
+        Some(Rows::Events)
+    } else {
+        None
+    }
+}
+
+/// Returns the kind of rows that the argument `kind` names, or `None` if the argument isn't given or its text names no
+/// kind.
+fn rows_of_kind(matches: &ArgMatches) -> Option<Rows>
+    ensures { result ≡ kind_in (rows_of (found_of matches.now)) }
+{
+    match matches.get_str("kind") {
+        Some(text) => rows_named(text),
+        None => None,
+    }
+}
+
+/// Returns the form of the rows: JSON if `--json` is given, else CSV.
+fn row_format(matches: &ArgMatches) -> Format
+    ensures { result ≡ format_in (rows_of (found_of matches.now)) }
+{
+    if is_set(matches, "json") {
+        Format::Json
+    } else {
+        Format::Csv
+    }
+}
+
+/// Returns the job of `fc export`, or `None` if KIND isn't the name of a kind of rows, or if KIND, CONFIG or JOURNAL
+/// isn't given. The error is that memory ran out, which is possible only if KIND is the name of a kind of rows.
+fn export_of(alloc: Global, matches: &ArgMatches) -> Result<Option<Job>, AllocError>
+    ensures job { IfOk result (Finds (codes "export") (rows_of (found_of matches.now))) }
+    ensures kind { kind_in (rows_of (found_of matches.now)) ≡ None → IsOk result }
+{
+    let Some(rows) = rows_of_kind(matches) else {
+        return Ok(None);
+    };
+    let format = row_format(matches);
+    let opening = opening_of(alloc, matches)?;
+    match files_of(alloc, matches, "config", "journal")? {
+        Some((config, journal)) => Ok(Some(Job::Export {
+            rows,
+            format,
+            opening,
+            config,
+            journal,
+        })),
+        None => Ok(None),
+    }
+}
+
+/// Returns the job of `fc serve` without `--days`, or `None` for `--sync` without `--journal`.
+fn serve_by(
+    opening: Option<String>,
+    is_synced: bool,
+    journal: Option<String>,
+    config: String,
+) -> Option<Job>
+    ensures { Asks (serve_by (named opening) is_synced (named journal) (string_bytes config)) result }
+{
+    match (is_synced, journal) {
+        (false, None) => Some(Job::Serve(ServeJob::Printed { opening, config })),
+        (false, Some(journal)) => Some(Job::Serve(ServeJob::Kept {
+            opening,
+            config,
+            journal,
+        })),
+        (true, None) => None,
+        (true, Some(journal)) => Some(Job::Serve(ServeJob::Synced {
+            opening,
+            config,
+            journal,
+        })),
+    }
+}
+
+/// Returns the job of `fc serve --days`, or `None` if an opening or a journal is given too.
+fn serve_days_by(
+    opening: Option<String>,
+    journal: Option<String>,
+    is_synced: bool,
+    is_new_day: bool,
+    folder: String,
+    config: String,
+) -> Option<Job>
+    ensures { Asks
+        (serve_days_by (named opening) (named journal) is_synced is_new_day (string_bytes folder) (string_bytes config))
+        result }
+{
+    match opening {
+        None => match journal {
+            None => Some(Job::Serve(ServeJob::Days {
+                folder,
+                config,
+                is_synced,
+                is_new_day,
+            })),
+            Some(_journal) => None,
+        },
+        Some(_opening) => None,
+    }
+}
+
+/// Returns the job of `fc serve`. The error is that memory ran out. Returns `None` in these cases:
+///
+/// - CONFIG isn't given
+/// - `--days` is given with an opening or a journal
+/// - `--new-day` is given without `--days`
+/// - `--sync` is given with neither `--days` nor a journal
+fn serve_of(alloc: Global, matches: &ArgMatches) -> Result<Option<Job>, AllocError>
+    ensures { IfOk result (Finds (codes "serve") (rows_of (found_of matches.now))) }
+{
+    let Some(config) = file_of(alloc, matches, "config")? else {
+        return Ok(None);
+    };
+    let opening = opening_of(alloc, matches)?;
+    let journal = journal_of(alloc, matches)?;
+    let is_synced = is_set(matches, "sync");
+    let is_new_day = is_set(matches, "new-day");
+    match days_of(alloc, matches)? {
+        Some(folder) => Ok(serve_days_by(opening, journal, is_synced, is_new_day, folder, config)),
+        None if is_new_day => Ok(None),
+        None => Ok(serve_by(opening, is_synced, journal, config)),
+    }
+}
+
+/// Returns the job of the subcommand `name`. Returns `None` if its arguments are wrong, contradictory or incomplete, or
+/// if there is no such subcommand. The error is that memory ran out.
+fn named_job(alloc: Global, name: &str, matches: &ArgMatches) -> Result<Option<Job>, AllocError>
+    ensures { IfOk result (Finds name.now (rows_of (found_of matches.now))) }
+{
+    match name {
+        "asm" => asm_of(alloc, matches),
+        "dis" => dis_of(alloc, matches),
+        "verify" => verify_of(alloc, matches),
+        "play" => play_of(alloc, matches),
+        "audit" => audit_of(alloc, matches),
+        "carry" => carry_of(alloc, matches),
+        "report" => report_of(alloc, matches),
+        "export" => export_of(alloc, matches),
+        "serve" => serve_of(alloc, matches),
+        _ => Ok(None),
+    }
+}
+
+/// Returns the job of a parsed command line, or `None` if its arguments are wrong, contradictory or incomplete. The
+/// error is that memory ran out. Without a subcommand the job is `NoWords`, and there is no error.
+fn job_of(alloc: Global, matches: &ArgMatches) -> Result<Option<Job>, AllocError>
+    ensures job { IfOk result (IsJobOfLine (subcommand_rows_of matches.now)) }
+    ensures nothing { subcommand_rows_of matches.now ≡ None → IsOk result }
+{
+    match matches.subcommand() {
+        None => Ok(Some(Job::NoWords)),
+        Some((name, rest)) => named_job(alloc, name, rest),
+    }
+}
+
+/// Returns whether the option `--days` is given.
+fn has_days(matches: &ArgMatches) -> bool
+    ensures { result ≡ is_some (days_in (rows_of (found_of matches.now))) }
+{
+    match matches.get_str("days") {
+        Some(_) => true,
+        None => false,
+    }
+}
+
+/// Returns the first line of the error message for an `audit` that `clap` accepts, but whose arguments are wrong,
+/// contradictory or incomplete.
+fn audit_message(matches: &ArgMatches) -> &'static str
+    ensures { result.now ≡ audit_message (rows_of (found_of matches.now)) }
+{
+    if has_days(matches) {
+        "error: --days takes neither --opening nor JOURNAL"
+    } else {
+        "error: audit wants JOURNAL, or --days FOLDER"
+    }
+}
+
+/// Returns the first line of the error message for a `serve` that `clap` accepts, but whose arguments are wrong,
+/// contradictory or incomplete.
+fn serve_message(matches: &ArgMatches) -> &'static str
+    ensures { result.now ≡ serve_message (rows_of (found_of matches.now)) }
+{
+    if has_days(matches) {
+        "error: --days takes neither --opening nor --journal"
+    } else if is_set(matches, "new-day") {
+        "error: --new-day wants --days FOLDER"
+    } else {
+        "error: --sync wants --journal FILE or --days FOLDER"
+    }
+}
+
+/// Returns the first line of the error message for the subcommand `name`, if `clap` accepts its arguments but they are
+/// wrong, contradictory or incomplete.
+fn unasked_by(name: &str, matches: &ArgMatches) -> &'static str
+    ensures { result.now ≡ unasked_by name.now (rows_of (found_of matches.now)) }
+{
+    match name {
+        "serve" => serve_message(matches),
+        "audit" => audit_message(matches),
+        "export" => "error: export takes sales, decisions or events",
+        _ => "error: --context takes 1 or 2",
+    }
+}
+
+/// Returns the first line of the error message for a command line that `clap` accepts, but whose arguments are wrong,
+/// contradictory or incomplete.
+fn no_job_message(matches: &ArgMatches) -> &'static str
+    ensures { result.now ≡ unasked_words (subcommand_rows_of matches.now) }
+{
+    match matches.subcommand() {
+        Some((name, rest)) => unasked_by(name, rest),
+        None => "error: --context takes 1 or 2",
+    }
+}
+
+/// Returns the error message for a command line that `clap` accepts, but whose arguments are wrong, contradictory or
+/// incomplete. The error is that memory ran out.
+fn unasked_text(alloc: Global, matches: &ArgMatches) -> Result<String, AllocError>
+    ensures { IfOk result (λ text. string_bytes text ≡ unasked_text (subcommand_rows_of matches.now)) }
+{
+    let words = no_job_message(matches);
+    format!(in alloc; "{words}\n\nFor more information, try '--help'.\n")
+}
+
+/// Returns the job of a parsed command line. The error is `Usage` with a message if the command line's arguments are
+/// wrong, contradictory or incomplete, or `OutOfMemory` if memory ran out. Without a subcommand there is no error.
+fn found_job(alloc: Global, matches: &ArgMatches) -> Result<Job, CommandFault>
+    ensures requested { IfOk result (λ job. parsed_request (subcommand_rows_of matches.now) ≡ requested job) }
+    ensures some { IfOk result (λ job. IsSome (requested job)) }
+    ensures none { IfErr result (IsNoJobMessage (subcommand_rows_of matches.now)) }
+    ensures nothing { subcommand_rows_of matches.now ≡ None → IsOk result }
+{
+    match job_of(alloc, matches)? {
+        Some(job) => Ok(job),
+        None => Err(CommandFault::Usage(unasked_text(alloc, matches)?)),
+    }
+}
+
+/// Returns whether a `clap` error of this kind is a text that the user asked for: the help or the version.
+fn is_asked_text(kind: ErrorKind) -> bool
+    ensures { IsTrue result ↔ IsHelpOrVersion kind }
+{
+    matches!(kind, ErrorKind::DisplayHelp | ErrorKind::DisplayVersion)
+}
+
+/// Returns the job or the error that follows from an error of `clap`. `kind` is the kind of that error. `made` is its
+/// text, or an error if memory ran out when the text was made. The result is:
+///
+/// - the error `OutOfMemory`, if `made` is an error, or if `kind` says that memory ran out
+/// - else the job `Show` with the text, if `kind` is the help or the version
+/// - else the error `Usage` with the text
+fn job_from_error(kind: ErrorKind, made: Result<String, AllocError>) -> Result<Job, CommandFault>
+    ensures none { IfOk result (λ job. requested job ≡ None) }
+    ensures shown { OnOk result (IsHelpOrVersion kind) }
+    ensures text { IfOk result (λ job. IsOkAnd made (λ text. job ≡ Job.Show text)) }
+    ensures refused { IfErr result (IsRefusalOf kind made) }
+{
+    let text = made?;
+    let is_asked = is_asked_text(kind);
+    if kind == ErrorKind::OutOfMemory {
+        Err(CommandFault::OutOfMemory)
+    } else if is_asked {
+        Ok(Job::Show(text))
+    } else {
+        Err(CommandFault::Usage(text))
+    }
+}
+
+/// Parses a command line, whose first argument is the program's name, and returns its job. The error is `Usage` with a
+/// message if the command line isn't valid, or `OutOfMemory` if memory ran out.
+pub fn command(alloc: Global, words: Vec<String>) -> Result<Job, CommandFault>
+    ensures requested { IfOk result
+        (λ job. IsSome (requested job) → parsed_request (subcommand_of fc_app (map string_bytes words.items)) ≡
+        requested job) }
+    ensures shown { IfOk result (λ job. requested job ≡ None → takes fc_app (map string_bytes words.items) ≡ false) }
+    ensures faultless { IfOk result (λ job. IsSome (requested job)
+        → fault_of fc_app (map string_bytes words.items) ≡ []) }
+    ensures helps { IfOk result (λ job. requested job ≡ None → MayShow (fault_of fc_app (map string_bytes
+        words.items))) }
+    ensures refused { IfErr result
+        (RefusesBy (fault_of fc_app (map string_bytes words.items))
+        (subcommand_of fc_app (map string_bytes words.items))) }
+{
+    let command = fc(alloc)?;
+    match command.try_get_matches_from(words.as_slice()) {
+        Ok(matches) => found_job(alloc, &matches),
+        Err(error) => job_from_error(error.kind(), error.to_string(alloc)),
+    }
+}

@@ -1,0 +1,359 @@
+//! The folder of a station's days. A day has up to three files there: its journal, the opening that it begins with, and
+//! the configuration of its site. Their names begin with the day's number, as in `000002.journal`.
+ghost use Rattle.std.specs.Prelude.{◌≡◌, ◌++◌, [], true, false, IfOk, IfErr, codes, string_bytes};
+ghost use Rattle.file_jobs.specs.StandardInput.{is_input};
+ghost use Rattle.file_jobs.specs.JobErrors.{Ends};
+ghost use Rattle.file_jobs.specs.Days.{ending_of, path_of, without_zeros, day_of, shows_day, day_named, with_day};
+ghost use Rattle.file_jobs.specs.Days.{with_found, day_after};
+
+use crate::files::{FileIn, Source, is_input, open_regular, read_all};
+use crate::job_error::{JobError, at_file};
+use crate::statuses::USAGE;
+use std::alloc::AllocError;
+use std::fs::{self, File, read_dir};
+use std::io::{self, ErrorKind, Write};
+use till_request::numbers::number_u32;
+
+/// One of the three files of a day.
+#[derive(Clone, Copy)]
+pub enum Part {
+    Config,
+    Opening,
+    Journal,
+}
+
+impl Part {
+    fn ending(self) -> &'static str
+        ensures { result.now ≡ ending_of self }
+    {
+        match self {
+            Part::Config => "toml",
+            Part::Opening => "opening",
+            Part::Journal => "journal",
+        }
+    }
+}
+
+/// The numbers of the oldest and of the newest day of a folder.
+#[derive(Clone, Copy)]
+pub struct Span {
+    pub oldest: u32,
+    pub newest: u32,
+}
+
+/// The folder of a station's days.
+#[derive(Clone, Copy)]
+pub struct Folder<'a> {
+    pub path: &'a str,
+}
+
+impl<'a> Folder<'a> {
+    /// Returns the folder that an argument names. The error is that the argument is `-`, which is standard input.
+    pub fn named(rt: &HostRuntime, word: &'a str) -> Result<Folder<'a>, JobError>
+        ensures folder { IfOk result (λ folder. folder.path.now ≡ word.now) }
+        ensures input { IfErr result (λ job_error. (is_input word.now ≡ true)
+            × Ends 2 [] job_error) }
+        ensures named { IfOk result (λ _. is_input word.now ≡ false) }
+    {
+        if is_input(word) {
+            let words = "--days wants a folder, and - is standard input";
+            return Err(JobError::message(rt.alloc(), &words, USAGE));
+        }
+        Ok(Folder { path: word })
+    }
+
+    /// Returns the path of the file `part` of this day, whether the folder has it or not. The error is that memory ran
+    /// out.
+    pub fn file(self, rt: &HostRuntime, day: u32, part: Part) -> Result<String, AllocError>
+        ensures { IfOk result (λ path. string_bytes path ≡ path_of self.entry.path.now day part) }
+    {
+        let (path, ending) = (self.path, part.ending());
+        format!(in rt.alloc(); "{path}/{day:06}.{ending}")
+    }
+
+    /// Returns whether the folder has the file `part` of this day. The error is that this can't be found out.
+    pub fn has(self, rt: &HostRuntime, day: u32, part: Part) -> Result<bool, JobError>
+        ensures { IfErr result (Ends 3 []) }
+    {
+        let path = self.file(rt, day, part)?;
+        at_file(rt.alloc(), &path, fs::exists(rt, path.as_str()))
+    }
+
+    /// Writes files of days: writes and syncs all of them under other names, and then renames one after another in this
+    /// order. So if there is no room for one of them, the folder stays as it was. Even if the program is stopped
+    /// meanwhile, the folder has of each file the whole new one or what was there before, and a new one only if those
+    /// before it are new too. What has one of the other names is removed first, so nothing is written through a link.
+    /// The error is that a step failed.
+    pub fn put(self, rt: &HostRuntime, files: &[DayFile<'_>]) -> Result<(), JobError>
+        ensures { IfErr result (Ends 3 []) }
+    {
+        match self.write_and_rename(rt, files) {
+            Ok(()) => Ok(()),
+            Err(job_error) => {
+                self.remove_asides(rt, files);
+                Err(job_error)
+            }
+        }
+    }
+
+    /// Writes `file` like `put`, unless the folder has it with these very bytes: then syncs it, for which no room is
+    /// needed. The errors are those of `put`.
+    pub fn put_if_other(self, rt: &HostRuntime, file: DayFile<'_>) -> Result<(), JobError>
+        ensures { IfErr result (Ends 3 []) }
+    {
+        let path = self.file(rt, file.day, file.part)?;
+        match is_synced_as(rt, &path, file.bytes) {
+            Ok(true) => self.sync(rt),
+            Ok(false) | Err(_) => self.put(rt, &[file]),
+        }
+    }
+
+    fn write_and_rename(self, rt: &HostRuntime, files: &[DayFile<'_>]) -> Result<(), JobError>
+        ensures { IfErr result (Ends 3 []) }
+    {
+        for file in files {
+            self.write_aside(rt, *file)?;
+        }
+        for file in files {
+            self.put_in_place(rt, *file)?;
+        }
+        Ok(())
+    }
+
+    /// Writes `file` under its other name, and syncs it.
+    fn write_aside(self, rt: &HostRuntime, file: DayFile<'_>) -> Result<(), JobError>
+        ensures { IfErr result (Ends 3 []) }
+    {
+        let path = self.file(rt, file.day, file.part)?;
+        let aside = other_name(rt, &path)?;
+        at_file(rt.alloc(), &aside, remove(rt, &aside))?;
+        at_file(rt.alloc(), &path, write_new(rt, &aside, file.bytes))
+    }
+
+    /// Gives a file that `write_aside` wrote its own name, and syncs the folder.
+    fn put_in_place(self, rt: &HostRuntime, file: DayFile<'_>) -> Result<(), JobError>
+        ensures { IfErr result (Ends 3 []) }
+    {
+        let path = self.file(rt, file.day, file.part)?;
+        let aside = other_name(rt, &path)?;
+        at_file(rt.alloc(), &path, fs::rename(rt, &aside, &path))?;
+        self.sync(rt)
+    }
+
+    /// Removes what `write_aside` wrote of these files. What can't be removed is removed by the next `put` of that
+    /// file.
+    fn remove_asides(self, rt: &HostRuntime, files: &[DayFile<'_>]) {
+        for file in files {
+            if let Ok(path) = self.file(rt, file.day, file.part) {
+                if let Ok(aside) = other_name(rt, &path) {
+                    let _ = fs::remove_file(rt, &aside);
+                }
+            }
+        }
+    }
+
+    fn sync(self, rt: &HostRuntime) -> Result<(), JobError>
+        ensures { IfErr result (Ends 3 []) }
+    {
+        at_file(rt.alloc(), self.path, synced(rt, self.path))
+    }
+}
+
+/// A folder of days, as it is read.
+pub trait DayFiles {
+    type File: FileIn + Drop;
+
+    ghost use Rattle.std.specs.Prelude.{◌≡◌, [], List, ℕ, Option, Some, IfOk, IfErr, option_map};
+    ghost use Rattle.file_jobs.specs.JobErrors.{Ends};
+    ghost use Rattle.file_jobs.specs.Days.{FolderText, file_of, span_of};
+
+    /// For proofs: the folder's files, or `None` if proofs don't know them.
+    ghost files: { Self → Option FolderText };
+
+    /// Returns the folder that messages name, and in which a day is closed.
+    fn as_folder(&self) -> Folder<'_>;
+
+    /// Returns the oldest and the newest of the days that have a journal or an opening, or `None` if there is no such
+    /// day. The error is that the folder can't be read.
+    fn span(&self, rt: &HostRuntime) -> Result<Option<Span>, JobError>
+        ensures span { (texts : FolderText) → files self.now ≡ Some texts → IfOk result (λ span. span ≡ span_of texts) }
+        ensures refused { IfErr result (Ends 3 []) };
+
+    /// Opens the file `part` of this day. Returns `None` if there is no such file. The error is that it can't be opened,
+    /// or isn't a regular file.
+    fn open(&self, rt: &HostRuntime, day: u32, part: Part) -> Result<Option<Self::File>, JobError>
+        ensures file { (texts : FolderText) → files self.now ≡ Some texts → IfOk result (λ file.
+            option_map Self.File.remaining file ≡ option_map (λ text. Some text) (file_of texts day part)) }
+        ensures refused { IfErr result (Ends 3 []) };
+}
+
+impl DayFiles for Folder<'_> {
+    type File = Source;
+
+    ghost use Rattle.std.specs.Prelude.{None};
+
+    /// For proofs: no contract knows what the system's files hold.
+    ghost files = { λ _. None };
+
+    fn as_folder(&self) -> Folder<'_> {
+        *self
+    }
+
+    fn span(&self, rt: &HostRuntime) -> Result<Option<Span>, JobError> {
+        at_file(rt.alloc(), self.path, span_of(rt, self.path))
+    }
+
+    fn open(&self, rt: &HostRuntime, day: u32, part: Part) -> Result<Option<Source>, JobError> {
+        let path = self.file(rt, day, part)?;
+        match Source::open_regular(rt, &path) {
+            Ok(source) => Ok(Some(source)),
+            Err(error) if error.kind() == ErrorKind::NotFound => Ok(None),
+            Err(error) => Err(JobError::of_file(rt.alloc(), &path, &error)),
+        }
+    }
+}
+
+/// A file of a day that is to be written: which of the day's files it is, and its bytes.
+#[derive(Clone, Copy)]
+pub struct DayFile<'a> {
+    pub day: u32,
+    pub part: Part,
+    pub bytes: &'a [u8],
+}
+
+/// Returns the name under which a file is written before it is renamed to `path`. The error is that memory ran out.
+fn other_name(rt: &HostRuntime, path: &str) -> Result<String, AllocError>
+    ensures { IfOk result (λ name. string_bytes name ≡ path.now ++ codes ".new") }
+{
+    format!(in rt.alloc(); "{path}.new")
+}
+
+/// Removes what is at `path`, but follows no link. Does nothing if nothing is there. The error is the system's; a
+/// folder isn't removed.
+fn remove(rt: &HostRuntime, path: &str) -> io::Result<()> {
+    match fs::remove_file(rt, path) {
+        Err(error) if error.kind() != ErrorKind::NotFound => Err(error),
+        Ok(()) | Err(_) => Ok(()),
+    }
+}
+
+/// Writes `bytes` to a new file at `path`, and syncs it. The error is the error of the first step that fails, also if
+/// anything is at `path` already.
+fn write_new(rt: &HostRuntime, path: &str, bytes: &[u8]) -> io::Result<()> {
+    let mut file = File::create_new(rt, path)?;
+    file.write_all(bytes)?;
+    file.sync_all()
+}
+
+fn synced(rt: &HostRuntime, folder: &str) -> io::Result<()> {
+    File::open(rt, folder)?.sync_all()
+}
+
+/// Returns whether a regular file with these very bytes is at `path`, and no link. If so, has synced it. The error is
+/// that it can't be read or synced, or that memory ran out.
+fn is_synced_as(rt: &HostRuntime, path: &str, bytes: &[u8]) -> io::Result<bool> {
+    if !fs::symlink_metadata(rt, path)?.is_file() {
+        return Ok(false);
+    }
+    let mut options = File::options();
+    let file = open_regular(rt, path, options.read(true))?;
+    let mut kept = Vec::new(rt.alloc());
+    read_all(&mut Source::of(file.try_clone()?), &mut kept, bytes.len())?;
+    if kept.as_slice() != bytes {
+        return Ok(false);
+    }
+    file.sync_all()?;
+    Ok(true)
+}
+
+/// Returns the oldest and the newest of the days that have a journal or an opening in a folder, or `None` if there is
+/// no such day. The error is that the folder can't be read.
+fn span_of(rt: &HostRuntime, folder: &str) -> io::Result<Option<Span>> {
+    let mut span = None;
+    for entry in read_dir(rt, folder)? {
+        match entry {
+            Ok(entry) => span = with_name(span, entry.file_name()),
+            // A name that isn't text names no file of a day.
+            Err(error) if error.kind() == ErrorKind::InvalidFilename => (),
+            Err(error) => return Err(error),
+        }
+    }
+    Ok(span)
+}
+
+/// Adds to `span` the day whose journal or opening is called `name`, and returns the result. For any other name,
+/// returns `span` as it is.
+fn with_name(span: Option<Span>, name: &str) -> Option<Span>
+    ensures { result ≡ with_found span (day_named name.now) }
+{
+    match day_named(name) {
+        Some(day) => Some(with_day(span, day)),
+        None => span,
+    }
+}
+
+fn with_day(span: Option<Span>, day: u32) -> Span
+    ensures { result ≡ with_day span day }
+{
+    match span {
+        None => Span {
+            oldest: day,
+            newest: day,
+        },
+        Some(span) => Span {
+            oldest: span.oldest.min(day),
+            newest: span.newest.max(day),
+        },
+    }
+}
+
+/// Returns the number of the day whose journal or opening has this name, or `None` for any other name.
+fn day_named(name: &str) -> Option<u32>
+    ensures { result ≡ day_named name.now }
+{
+    let (digits, ending) = name.split_once('.')?;
+    if !shows_day(ending) {
+        return None;
+    }
+    day_of(digits.as_bytes())
+}
+
+/// Returns whether `ending`, which follows the `.` in a file's name, is that of a journal or of an opening.
+fn shows_day(ending: &str) -> bool
+    ensures { result ≡ shows_day ending.now }
+{
+    ending == Part::Journal.ending() || ending == Part::Opening.ending()
+}
+
+/// Returns the number of a day, given the part of a file's name that spells it: exactly six digits, or more than six
+/// that don't begin with 0. Returns `None` for anything else, and if the number is 0 or isn't below 2^32.
+fn day_of(digits: &[u8]) -> Option<u32>
+    ensures { result ≡ day_of digits.now }
+{
+    if digits.len() == 6 {
+        return number_u32(without_zeros(digits)).ok();
+    }
+    if digits.len() > 6 {
+        return number_u32(digits).ok();
+    }
+    None
+}
+
+/// Returns digits without the zeros in front of them.
+fn without_zeros(digits: &[u8]) -> &[u8]
+    ensures { result.now ≡ without_zeros digits.now }
+{
+    for (at, digit) in digits.iter().enumerate() {
+        if *digit != b'0' {
+            return &digits[at..];
+        }
+    }
+    &[]
+}
+
+/// Returns the day after `day`, or `None` if that would be after `newest`.
+pub fn day_after(day: u32, newest: u32) -> Option<u32>
+    ensures { result ≡ day_after day newest }
+{
+    if day < newest { Some(day + 1) } else { None }
+}

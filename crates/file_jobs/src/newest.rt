@@ -1,0 +1,426 @@
+//! Closes the newest day of a station, or continues with it.
+ghost use Rattle.std.specs.Prelude.{◌≡◌, ◌≢◌, ◌⊎◌, ◌+◌, ◌++◌, Ok, Some, [], false, IfOk, IfErr, codes, is_some, option_map};
+ghost use Rattle.std.specs.Fmt.{decimal};
+ghost use Rattle.file_jobs.specs.JobErrors.{Ends, EndsOrRunsOut, Refuses};
+ghost use Rattle.days.specs.Chain.{BeginsBy};
+ghost use Rattle.file_jobs.specs.Days.{day_to_serve, BeginsDay, FolderText, GoesOn, IsServed};
+ghost use Rattle.file_jobs.specs.Days.{IsConfigOf, file_of, is_written, kept_config, own_config, span_of};
+
+use crate::files::text_in;
+use crate::folder::{DayFile, DayFiles, Folder, Part, Span, day_after};
+use crate::job_error::{JobError, at_file};
+use crate::messages::{Place, print_message};
+use crate::open_journals::{Kept, close_journal};
+use crate::opening::{begin_with, refuse_fault, refuse_words};
+use crate::settings::settings_in;
+use crate::statuses::FAILED;
+use days::writing::opening_text;
+use days::{Closed, Uncarried};
+use site_core::{Config, OpeningFault};
+use std::alloc::{AllocError, Global};
+use std::fmt::{self, Display};
+use std::io::Read;
+
+/// The newest day of a folder: the configuration with which its site begins, and whether the day keeps a configuration
+/// that the folder has.
+#[derive(Drop)]
+pub struct Newest {
+    pub number: u32,
+    pub config: Config,
+    pub is_kept: bool,
+}
+
+/// Returns the day that a station goes on with: the newest day of its folder, or day 1 if the folder has no day. If
+/// `is_new_day` and the newest day has an entry, closes that day and returns the next one.
+///
+/// `given` is the configuration that `word` names, and `text` its text. It is used for a day that has none in the
+/// folder, or whose journal is missing or empty. Any other day keeps the configuration that it has in the folder; if the
+/// two differ, this prints so. The error is that a file can't be used or is refused, or that the next day has begun
+/// already.
+pub fn newest_day<F: DayFiles>(
+    rt: &HostRuntime,
+    folder: &F,
+    word: &str,
+    text: &[u8],
+    given: Config,
+    is_new_day: bool,
+) -> Result<Newest, JobError>
+    ensures number { (texts : FolderText) → F.files folder.now ≡ Some texts
+        → IfOk result (λ newest. IsServed (day_to_serve (span_of texts) is_new_day) newest.number) }
+    ensures begun { (texts : FolderText) → F.files folder.now ≡ Some texts
+        → IfOk result (λ newest. GoesOn texts given newest.number newest.config) }
+    ensures kept { (texts : FolderText) → F.files folder.now ≡ Some texts
+        → IfOk result (λ newest. newest.is_kept ≡ is_some (kept_config texts newest.number)) }
+    ensures first { IfOk result (λ newest. newest.is_kept ≡ false → newest.number ≡ 1 → newest.config ≡ given) }
+    ensures later { IfOk result
+        (λ newest. newest.is_kept ≡ false → newest.number ≢ 1 → BeginsDay given newest.number newest.config) }
+    ensures refused { IfErr result (Refuses 1) }
+{
+    let number = number_of(rt, folder, &given, text, is_new_day)?;
+    let (config, is_kept) = config_for(rt, folder, number, word, given)?;
+    match begin_day(rt, folder, number, config) {
+        Ok(config) => Ok(Newest {
+            number,
+            config,
+            is_kept,
+        }),
+        Err(job_error) => Err(job_error),
+    }
+}
+
+/// Returns the configuration that the folder has for a day whose journal isn't empty, or else `given`, which `word`
+/// names, and whether it is the folder's. If the two differ, prints so. The error is that a file can't be used or is
+/// refused.
+fn config_for<F: DayFiles>(
+    rt: &HostRuntime,
+    folder: &F,
+    day: u32,
+    word: &str,
+    given: Config,
+) -> Result<(Config, bool), JobError>
+    ensures config { (texts : FolderText) → F.files folder.now ≡ Some texts
+        → IfOk result (λ c. IsConfigOf given (kept_config texts day) c.0) }
+    ensures kept { (texts : FolderText) → F.files folder.now ≡ Some texts
+        → IfOk result (λ c. c.1 ≡ is_some (kept_config texts day)) }
+    ensures given { IfOk result (λ c. c.1 ≡ false → c.0 ≡ given) }
+    ensures refused { IfErr result (Refuses 1) }
+{
+    match kept_config(rt, folder, day)? {
+        Some(kept) => {
+            print_other_config(rt, folder.as_folder(), day, word, kept.is_same(&given))?;
+            Ok((kept, true))
+        }
+        None => Ok((given, false)),
+    }
+}
+
+/// Prints on standard error that day `day` goes on with the folder's configuration for this day, unless it `is_same` as
+/// the one that `word` names. The error is that memory ran out.
+fn print_other_config(
+    rt: &HostRuntime,
+    folder: Folder<'_>,
+    day: u32,
+    word: &str,
+    is_same: bool,
+) -> Result<(), AllocError> {
+    if is_same {
+        return Ok(());
+    }
+    let path = folder.file(rt, day, Part::Config)?;
+    print_message(
+        rt,
+        &format_args!(
+            "day {day} goes on with {path}: tills, slots and bounds of {word} count from the next day on"
+        ),
+    );
+    Ok(())
+}
+
+/// The day with which a station goes on:
+///
+/// - `This(n)`: day n
+/// - `After(n)`: the day after day n, once day n is closed. If day n has no entry, it isn't closed, and the station
+///   goes on with day n.
+#[derive(Clone, Copy)]
+enum DayToServe {
+    This(u32),
+    After(u32),
+}
+
+/// Returns the day with which a station goes on. `span` is `None` if the station's folder has no day.
+///
+/// - `This(1)` if `span` is `None`
+/// - or else `After` with the number of the newest day, if `is_new_day`
+/// - or else `This` with the number of the newest day
+fn day_to_serve(span: Option<Span>, is_new_day: bool) -> DayToServe
+    ensures { result ≡ day_to_serve span is_new_day }
+{
+    match span {
+        None => DayToServe::This(1),
+        Some(span) if is_new_day => DayToServe::After(span.newest),
+        Some(span) => DayToServe::This(span.newest),
+    }
+}
+
+/// Returns the number of the day that a station goes on with: the newest day of its folder, or 1 if the folder has no
+/// day. If `is_new_day` and the newest day has an entry, closes that day and returns the next number.
+///
+/// The configuration `given`, whose text is `text`, is used if the folder has none for the day to close, or if that
+/// day's journal is missing or empty. The error is that a file can't be used or is refused, or that the next day has
+/// begun already.
+fn number_of<F: DayFiles>(
+    rt: &HostRuntime,
+    folder: &F,
+    given: &Config,
+    text: &[u8],
+    is_new_day: bool,
+) -> Result<u32, JobError>
+    ensures served { (texts : FolderText) → F.files folder.now ≡ Some texts
+        → IfOk result (IsServed (day_to_serve (span_of texts) is_new_day)) }
+    ensures refused { IfErr result (Refuses 1) }
+{
+    let newest = match day_to_serve(folder.span(rt)?, is_new_day) {
+        DayToServe::This(day) => return Ok(day),
+        DayToServe::After(newest) => newest,
+    };
+    let (config, day) = match kept_config(rt, folder, newest)? {
+        Some(kept) => (kept, None),
+        None => (given.copied(rt.alloc())?, Some(text)),
+    };
+    close_day(rt, folder, newest, config, ConfigTexts { day, next: text })
+}
+
+/// The texts of the configurations that are written into the folder as a day is closed: that of the day itself, unless
+/// the folder has it already, and that of the next day.
+#[derive(Clone, Copy)]
+struct ConfigTexts<'a> {
+    day: Option<&'a [u8]>,
+    next: &'a [u8],
+}
+
+/// Returns the configuration that a folder has for a day, or `None` if it has none. The error is that the file can't be
+/// read or is refused.
+pub fn own_config<F: DayFiles>(
+    rt: &HostRuntime,
+    folder: &F,
+    day: u32,
+) -> Result<Option<Config>, JobError>
+    ensures own { (texts : FolderText) → F.files folder.now ≡ Some texts → IfOk result (λ own.
+        option_map (λ config. Ok config) own ≡ own_config (file_of texts day Part.Config)) }
+    ensures refused { IfErr result (Refuses 1) }
+{
+    let Some(source) = folder.open(rt, day, Part::Config)? else {
+        return Ok(None);
+    };
+    let path = folder.as_folder().file(rt, day, Part::Config)?;
+    let text = text_in(rt, &path, source)?;
+    match settings_in(rt, &path, &text) {
+        Ok(settings) => Ok(Some(settings.config)),
+        Err(job_error) => Err(job_error),
+    }
+}
+
+/// Returns the configuration that the folder has for a day whose journal isn't empty. Returns `None` if the folder has
+/// none, or if the journal is missing or empty: then the day can still get another configuration. The error is that a
+/// file can't be used or is refused.
+fn kept_config<F: DayFiles>(
+    rt: &HostRuntime,
+    folder: &F,
+    day: u32,
+) -> Result<Option<Config>, JobError>
+    ensures kept { (texts : FolderText) → F.files folder.now ≡ Some texts → IfOk result (λ kept.
+        option_map (λ config. Ok config) kept ≡ kept_config texts day) }
+    ensures refused { IfErr result (Refuses 1) }
+{
+    if is_written(rt, folder, day)? {
+        own_config(rt, folder, day)
+    } else {
+        Ok(None)
+    }
+}
+
+/// Returns whether a day has a journal that isn't empty. The error is that the file can't be used.
+fn is_written<F: DayFiles>(rt: &HostRuntime, folder: &F, day: u32) -> Result<bool, JobError>
+    ensures written { (texts : FolderText) → F.files folder.now ≡ Some texts
+        → IfOk result (λ written. written ≡ is_written (file_of texts day Part.Journal)) }
+    ensures refused { IfErr result (Ends 3 []) }
+{
+    let Some(mut source) = folder.open(rt, day, Part::Journal)? else {
+        return Ok(false);
+    };
+    let path = folder.as_folder().file(rt, day, Part::Journal)?;
+    match at_file(rt.alloc(), &path, source.read(&mut [0])) {
+        Ok(count) => Ok(count > 0),
+        Err(job_error) => Err(job_error),
+    }
+}
+
+/// Reads the opening that the folder has for day `number`, and returns `config` with this opening in it. For day 1,
+/// returns `config` as it is. The error is that the opening is missing, can't be read, is refused, doesn't fit `config`
+/// or belongs to another day.
+fn begin_day<F: DayFiles>(
+    rt: &HostRuntime,
+    folder: &F,
+    number: u32,
+    config: Config,
+) -> Result<Config, JobError>
+    ensures opening { (texts : FolderText) → F.files folder.now ≡ Some texts → number ≢ 1
+        → IfOk result (BeginsBy number config (file_of texts number Part.Opening)) }
+    ensures first { number ≡ 1 → result ≡ Ok config }
+    ensures later { number ≢ 1 → IfOk result (BeginsDay config number) }
+    ensures refused { IfErr result (Refuses 1) }
+{
+    if number == 1 {
+        return Ok(config);
+    }
+    let path = folder.as_folder().file(rt, number, Part::Opening)?;
+    let Some(source) = folder.open(rt, number, Part::Opening)? else {
+        return Err(refuse_link(rt.alloc(), Place::of(&path), number, &UNOPENED));
+    };
+    let (config, of) = begin_with(rt, &path, source, config)?;
+    if of != number {
+        return Err(refuse_link(rt.alloc(), Place::of(&path), number, &OfDay(of)));
+    }
+    Ok(config)
+}
+
+/// The message for a day that has no opening.
+pub const UNOPENED: &str = "the day has no opening";
+
+/// Makes the error for a day that doesn't follow the day before it: `words` are the reason, the fault's number is O1,
+/// and the line on standard output is O1 and `day`.
+pub fn refuse_link<D: Display>(alloc: Global, place: Place<'_>, day: u32, words: &D) -> JobError
+    ensures { EndsOrRunsOut 1 (codes "O1 " ++ (decimal day ++ codes "\n")) result }
+{
+    JobError::refused_as(alloc, place, words, "O1", &format_args!("O1 {day}"))
+}
+
+/// The message that an opening belongs to another day than the one it was read for. The field is the number of the day
+/// that it belongs to.
+#[derive(Drop)]
+pub struct OfDay(pub u32);
+
+impl Display for OfDay {
+    ghost use Rattle.std.specs.Prelude.{Some, ◌++◌, codes};
+    ghost use Rattle.std.specs.Fmt.{decimal};
+
+    ghost output = { λ day. Some (codes "this is the opening of day " ++ decimal day.0) };
+
+    fn fmt<W: fmt::Write>(&self, f: &mut fmt::Formatter<W>) -> fmt::Result {
+        write!(f, "this is the opening of day {}", self.0)
+    }
+}
+
+/// Closes day `number`, unless it has no entry. Returns the number of the day that is then the newest. `config` is the
+/// configuration of the day's site, without an opening. `texts` are the configurations that closing the day also writes
+/// into the folder. The error is that a file can't be used or is refused, or that the next day has begun already.
+fn close_day<F: DayFiles>(
+    rt: &HostRuntime,
+    folder: &F,
+    number: u32,
+    config: Config,
+    texts: ConfigTexts<'_>,
+) -> Result<u32, JobError>
+    ensures newest { IfOk result (λ newest. (newest ≡ number) ⊎ (newest ≡ number + 1)) }
+    ensures refused { IfErr result (Refuses 1) }
+{
+    let path = folder.as_folder().file(rt, number, Part::Journal)?;
+    let config = begin_day(rt, folder, number, config)?;
+    // The day's journal stays locked until the opening of the next day is written.
+    let closing = close_journal(rt, &config, &path)?;
+    put_close(rt, folder.as_folder(), number, &closing, texts)
+}
+
+/// Finishes the close of day `number`, unless it has no entry. Returns the number of the day that is then the newest.
+/// The steps:
+///
+/// - checks that the next day hasn't begun
+/// - syncs the day's journal
+/// - writes the configurations in `texts`, and the opening of the next day
+///
+/// The error is that a step failed.
+fn put_close(
+    rt: &HostRuntime,
+    folder: Folder<'_>,
+    number: u32,
+    closing: &Kept<'_, Closed>,
+    texts: ConfigTexts<'_>,
+) -> Result<u32, JobError>
+    ensures empty { closing.now.audited.site.history ≡ [] → result ≡ Ok number }
+    ensures closed { closing.now.audited.site.history ≢ [] → IfOk result (λ newest. newest ≡ number + 1) }
+    ensures newest { IfOk result (λ newest. (newest ≡ number) ⊎ (newest ≡ number + 1)) }
+    ensures refused { IfErr result (Refuses 1) }
+{
+    if closing.audited.site.history().is_empty() {
+        return Ok(number);
+    }
+    check_newest(rt, folder, number)?;
+    at_file(rt.alloc(), closing.path, closing.file.sync_all())?;
+    begin_next_day(rt, folder, number, &closing.audited, texts)
+}
+
+/// Writes the opening of the day after day `number`, and the configurations in `texts`. Returns that next day's number.
+/// After an error the next day hasn't begun, unless only a sync of the folder failed.
+fn begin_next_day(
+    rt: &HostRuntime,
+    folder: Folder<'_>,
+    number: u32,
+    closed: &Closed,
+    texts: ConfigTexts<'_>,
+) -> Result<u32, JobError>
+    ensures next { IfOk result (λ next. next ≡ number + 1) }
+    ensures refused { IfErr result (Refuses 1) }
+{
+    let opening = match closed.opening(number) {
+        Ok(opening) => opening,
+        Err(why) => {
+            let path = folder.file(rt, number, Part::Journal)?;
+            return Err(refuse_uncarried(rt.alloc(), &path, why));
+        }
+    };
+    let text = opening_text(rt.alloc(), &opening)?;
+    let file = DayFile {
+        day: opening.day,
+        part: Part::Opening,
+        bytes: text.as_bytes(),
+    };
+    put_next_day(rt, folder, number, file, texts)?;
+    Ok(opening.day)
+}
+
+/// Writes the configurations in `texts` into the folder, that of day `number` and that of the next day, and last
+/// `opening`, the next day's opening, by which that day begins. The errors are those of `Folder::put`.
+fn put_next_day(
+    rt: &HostRuntime,
+    folder: Folder<'_>,
+    number: u32,
+    opening: DayFile<'_>,
+    texts: ConfigTexts<'_>,
+) -> Result<(), JobError>
+    ensures { IfErr result (Ends 3 []) }
+{
+    let next = DayFile {
+        day: opening.day,
+        part: Part::Config,
+        bytes: texts.next,
+    };
+    match texts.day {
+        Some(bytes) => {
+            let closed = DayFile {
+                day: number,
+                part: Part::Config,
+                bytes,
+            };
+            folder.put(rt, &[closed, next, opening])
+        }
+        None => folder.put(rt, &[next, opening]),
+    }
+}
+
+/// Checks that the day after day `number` hasn't begun: that it has no opening. If the caller has locked the journal of
+/// day `number` and gets no error, no other process begins the next day until the lock is released. The error is that
+/// the next day has begun, or that this can't be found out.
+pub fn check_newest(rt: &HostRuntime, folder: Folder<'_>, number: u32) -> Result<(), JobError>
+    ensures { IfErr result (Ends 3 []) }
+{
+    let Some(next) = day_after(number, u32::MAX) else {
+        return Ok(());
+    };
+    if !folder.has(rt, next, Part::Opening)? {
+        return Ok(());
+    }
+    let path = folder.file(rt, number, Part::Journal)?;
+    let words = format_args!("day {next} has begun");
+    Err(JobError::at(rt.alloc(), Place::of(&path), &words, FAILED))
+}
+
+/// Makes the error for a day that can't be closed. `journal` names the file of its journal.
+pub fn refuse_uncarried(alloc: Global, journal: &str, why: Uncarried) -> JobError
+    ensures ends { why ≢ Uncarried.Fault OpeningFault.OutOfMemory → Ends 1 [] result }
+    ensures memory { why ≡ Uncarried.Fault OpeningFault.OutOfMemory → result ≡ JobError.OutOfMemory }
+{
+    match why {
+        Uncarried::Fault(fault) => refuse_fault(alloc, journal, fault, &why),
+        Uncarried::LastDay => refuse_words(alloc, journal, &why),
+    }
+}

@@ -1,0 +1,201 @@
+//! Reads the opening that a site begins with, and checks that it fits the site's configuration. Says why an opening is
+//! refused.
+ghost use Rattle.std.specs.Prelude.{◌≡◌, ◌≢◌, ◌≤◌, ◌++◌, ◌∷◌, ℕ, List, [], Some, decimal, IfOk, IfErr, vec_len};
+ghost use Rattle.reg_types.specs.Refusals.{refusal_numbers};
+ghost use Rattle.file_jobs.specs.AuditOutput.{program_text};
+ghost use Rattle.days.specs.Chain.{BeginsBy};
+ghost use Rattle.days.specs.File.{IsOpeningFile};
+ghost use Rattle.days.specs.Fitting.{BeginsWith};
+ghost use Rattle.days.specs.Ranges.{FileFits};
+ghost use Rattle.days.specs.Text.{opening_text};
+ghost use Rattle.file_jobs.specs.JobErrors.{Ends, EndsOrRunsOut, Refuses};
+ghost use Rattle.file_jobs.specs.FileRefusals.{RefusesOpening};
+ghost use Rattle.file_jobs.specs.Days.{BeginsDay};
+
+use crate::JournalFlaw;
+use crate::audit_lines::refused_program_line;
+use crate::files::bytes_in;
+use crate::job_error::JobError;
+use crate::messages::Place;
+use crate::reasons::explain_refusal;
+use crate::statuses::REFUSED;
+use days::beginning::begun;
+use days::reading::read_opening;
+use days::{OpeningFile, OpeningFlaw, Unfit};
+use reg_types::Refusal;
+use site_config::Serve;
+use site_core::{Config, OpeningFault};
+use std::alloc::Global;
+use std::fmt::Display;
+use std::io::Read;
+
+/// The greatest number of bytes that an opening's file is allowed to have. An opening with the longest programs has
+/// some 150,000.
+const MOST_OPENING: usize = 262_144;
+
+/// What was read of a day before its site begins: the configuration (with the opening in it, if there is one), how the
+/// site is served, and the day's number, which is 1 without an opening.
+#[derive(Drop)]
+pub struct Day {
+    pub config: Config,
+    pub serve: Option<Serve>,
+    pub number: u32,
+}
+
+/// Reads the opening that `source` gives, which reads the file that `word` names. Returns `config` with this opening in
+/// it, and the number of the opening's day. The error is that the opening can't be read, is refused or doesn't fit
+/// `config`.
+pub(crate) fn begin_with<R: Read + Drop>(
+    rt: &HostRuntime,
+    word: &str,
+    source: R,
+    config: Config,
+) -> Result<(Config, u32), JobError>
+    ensures begun { IfOk result (λ begun. BeginsDay config begun.1 begun.0) }
+    ensures text { (text : List ℕ) → R.remaining source ≡ Some text
+        → IfOk result (λ begun. BeginsBy begun.1 config (Some text) begun.0) }
+    ensures refused { IfErr result (Refuses 1) }
+{
+    let file = opening_in(rt, word, source)?;
+    let number = file.day;
+    match begun(rt.alloc(), config, file.opening) {
+        Ok(config) => Ok((config, number)),
+        Err(unfit) => Err(refuse_unfit(rt.alloc(), word, unfit)),
+    }
+}
+
+/// Returns the bytes of the opening that `source` gives, which reads the file that `word` names. The error is that they
+/// can't be read, or are more than `MOST_OPENING` (L1).
+pub fn opening_bytes<R: Read + Drop>(
+    rt: &HostRuntime,
+    word: &str,
+    source: R,
+) -> Result<Vec<u8>, JobError>
+    ensures limit { MOST_OPENING ≡ 262144 }
+    ensures few { IfOk result (λ bytes. vec_len bytes ≤ MOST_OPENING) }
+    ensures all { (text : List ℕ) → R.remaining source ≡ Some text → IfOk result (λ bytes. bytes.items ≡ text) }
+    ensures refused { IfErr result (Refuses 1) }
+{
+    bytes_in(rt, word, source, MOST_OPENING, &"over 262,144 bytes")
+}
+
+/// Reads the opening that `source` gives, which reads the file that `word` names. The error is that it can't be read or
+/// is refused.
+fn opening_in<R: Read + Drop>(
+    rt: &HostRuntime,
+    word: &str,
+    source: R,
+) -> Result<OpeningFile, JobError>
+    ensures good { IfOk result IsOpeningFile }
+    ensures fits { IfOk result FileFits }
+    ensures text { (text : List ℕ) → R.remaining source ≡ Some text → IfOk result (λ file. opening_text file ≡ text) }
+    ensures refused { IfErr result (Refuses 1) }
+{
+    let bytes = opening_bytes(rt, word, source)?;
+    match read_opening(rt.alloc(), &bytes) {
+        Ok(file) => Ok(file),
+        Err(flaw) => Err(refuse_opening(rt.alloc(), word, flaw)),
+    }
+}
+
+/// Makes the error for an opening, in the file that `word` names, that is refused: a line is wrong or missing (J1), the
+/// last line has no LF (J2), or a program is refused (F2). The line on standard output has the fault's number and the
+/// line's number, and after them, for a refused program, the fault that the verifier found (V1 to V20).
+pub fn refuse_opening(alloc: Global, word: &str, flaw: OpeningFlaw) -> JobError
+    ensures refused { RefusesOpening flaw result }
+    ensures status { Refuses 1 result }
+{
+    match flaw {
+        OpeningFlaw::BadLine(line) => refuse_line(alloc, word, line, "no line of an opening", "J1"),
+        OpeningFlaw::Ends(line) => {
+            let words = "the opening ends before its line 'journal'";
+            refuse_line(alloc, word, line, words, "J1")
+        }
+        OpeningFlaw::CutLine(line) => {
+            refuse_line(alloc, word, line, "the last line has no LF", "J2")
+        }
+        OpeningFlaw::BadProgram {
+            line,
+            slot,
+            program,
+            refusal,
+        } => refuse_rule(alloc, word, line, slot, &program, refusal),
+        OpeningFlaw::OutOfMemory => JobError::OutOfMemory,
+    }
+}
+
+fn refuse_line(alloc: Global, word: &str, line: u32, words: &str, code: &str) -> JobError
+    ensures { EndsOrRunsOut 1 (code.now ++ 32 ∷ decimal line ++ 10 ∷ []) result }
+{
+    let place = Place::of(word).line(u64::from(line));
+    JobError::refused_as(alloc, place, &words, code, &format_args!("{code} {line}"))
+}
+
+/// Makes the error for an opening with a program that the verifier refuses, in this line.
+fn refuse_rule(
+    alloc: Global,
+    word: &str,
+    line: u32,
+    slot: u32,
+    program: &[u8],
+    refusal: Refusal,
+) -> JobError
+    ensures { EndsOrRunsOut 1 (program_text line (refusal_numbers refusal)) result }
+{
+    let place = Place::of(word).line(u64::from(line));
+    let Ok(output) = refused_program_line(alloc, line, refusal) else {
+        return JobError::OutOfMemory;
+    };
+    match explain_refusal(alloc, program, refusal) {
+        Ok(refused) => {
+            let words = JournalFlaw::Program(slot, refused);
+            JobError::refused_with(alloc, place, &words, "F2", output)
+        }
+        Err(refused) => JobError::from(refused),
+    }
+}
+
+/// Makes the error for a site with a given configuration that can't begin with the opening in the file that `word`
+/// names.
+pub fn refuse_unfit(alloc: Global, word: &str, unfit: Unfit) -> JobError
+    ensures ends { unfit ≢ Unfit.Fault OpeningFault.OutOfMemory → Ends 1 [] result }
+    ensures memory { unfit ≡ Unfit.Fault OpeningFault.OutOfMemory → result ≡ JobError.OutOfMemory }
+{
+    match unfit {
+        Unfit::Misfit(misfit) => refuse_words(alloc, word, &misfit),
+        Unfit::Fault(fault) => refuse_fault(alloc, word, fault, &fault),
+    }
+}
+
+/// Makes the error for a file, which `word` names, in which `words` say what is wrong, unless `fault` is that memory
+/// ran out.
+pub(crate) fn refuse_fault<D: Display>(
+    alloc: Global,
+    word: &str,
+    fault: OpeningFault,
+    words: &D,
+) -> JobError
+    ensures ends { fault ≢ OpeningFault.OutOfMemory → Ends 1 [] result }
+    ensures memory { fault ≡ OpeningFault.OutOfMemory → result ≡ JobError.OutOfMemory }
+{
+    match fault {
+        OpeningFault::OutOfMemory => JobError::OutOfMemory,
+        OpeningFault::Points
+        | OpeningFault::Prices
+        | OpeningFault::Transactions
+        | OpeningFault::Cleared
+        | OpeningFault::Clears
+        | OpeningFault::Versions
+        | OpeningFault::Slots
+        | OpeningFault::Rules
+        | OpeningFault::DuplicateVersion => refuse_words(alloc, word, words),
+    }
+}
+
+/// Makes the error for a file, which `word` names, in which `words` say what is wrong. It has no number, and nothing is
+/// printed of it on standard output.
+pub fn refuse_words<D: Display>(alloc: Global, word: &str, words: &D) -> JobError
+    ensures { Ends 1 [] result }
+{
+    JobError::at(alloc, Place::of(word), words, REFUSED)
+}

@@ -1,0 +1,101 @@
+//! What `fc asm`, `fc dis` and `fc verify` print of a file.
+ghost use Rattle.std.specs.Prelude.{◌≡◌, ◌<◌, length, Err, IfOk, IfErr, string_bytes};
+ghost use Rattle.bpf_asm.specs.Text.{canonical_text};
+ghost use Rattle.bpf_asm.specs.Numbered.{numbered_from};
+ghost use Rattle.bpf_asm.specs.ProgramFile.{program_in};
+ghost use Rattle.file_jobs.specs.Printed.{Assembles, DecodesTo, Disassembles, Verifies};
+ghost use Rattle.file_jobs.specs.FileFlaws.{IsAsmFlaw, IsDisFlaw, IsVerifyFlaw};
+
+use crate::file_flaws::FileFlaw;
+use crate::reasons::explain_refusal;
+use bpf_asm::flaw::explain;
+use bpf_asm::program_file::{read_program, unit_lines};
+use bpf_asm::{MOST_BYTES, ProgramFileFault, assemble, disassemble, disassemble_numbered};
+use bpf_decode::{Code, DecodeFault, decode, encode};
+use reg_types::verifier::verify;
+use reg_types::{Layout, Refusal};
+use std::alloc::Global;
+
+/// Returns what `fc asm` prints of an assembler text: the units of its program, each as a line of 16 hexadecimal
+/// digits. The error is that the text has over 65,536 bytes, the fault that `assemble` finds, or that memory ran out.
+pub fn asm_file<'a>(alloc: Global, text: &'a [u8]) -> Result<String, FileFlaw<'a>>
+    ensures printed { IfOk result (λ printed. Assembles text.now (string_bytes printed)) }
+    ensures flaw { IfErr result (IsAsmFlaw text.now) }
+    ensures length { 65536 < length text.now → result ≡ Err (FileFlaw.File ProgramFileFault.TooLong) }
+{
+    if text.len() > MOST_BYTES {
+        return Err(FileFlaw::File(ProgramFileFault::TooLong));
+    }
+    match assemble(alloc, text) {
+        Ok(code) => Ok(unit_lines(alloc, &encode(alloc, &code)?)?),
+        Err(fault) => Err(FileFlaw::Text(fault, explain(alloc, text, fault)?)),
+    }
+}
+
+/// Returns what `fc dis` prints of a program file: the program as assembler text. Jumps and types aren't checked. The
+/// error is that the file isn't a program file or has over 65,536 bytes, that its bytes don't decode (V1 to V5), or
+/// that memory ran out.
+pub fn dis_file(alloc: Global, file: &[u8]) -> Result<String, FileFlaw<'static>>
+    ensures printed { IfOk result
+        (λ printed. Disassembles canonical_text (program_in file.now) (string_bytes printed)) }
+    ensures flaw { IfErr result (IsDisFlaw (program_in file.now)) }
+    ensures length { 65536 < length file.now → result ≡ Err (FileFlaw.File ProgramFileFault.TooLong) }
+{
+    let code = code_in(alloc, file)?;
+    Ok(disassemble(alloc, &code)?)
+}
+
+/// Returns what `fc dis --units` prints of a program file. It is what `dis_file` returns, but the line of each
+/// instruction begins with the number of its first unit, counted from 0, a colon and a space. The error is the same.
+pub fn dis_units_file(alloc: Global, file: &[u8]) -> Result<String, FileFlaw<'static>>
+    ensures printed { IfOk result
+        (λ printed. Disassembles (numbered_from 0) (program_in file.now) (string_bytes printed)) }
+    ensures flaw { IfErr result (IsDisFlaw (program_in file.now)) }
+    ensures length { 65536 < length file.now → result ≡ Err (FileFlaw.File ProgramFileFault.TooLong) }
+{
+    let code = code_in(alloc, file)?;
+    Ok(disassemble_numbered(alloc, &code)?)
+}
+
+/// Decodes the program in a file. The error is that of `dis_file`.
+fn code_in(alloc: Global, file: &[u8]) -> Result<Code, FileFlaw<'static>>
+    ensures code { IfOk result (DecodesTo (program_in file.now)) }
+    ensures flaw { IfErr result (IsDisFlaw (program_in file.now)) }
+    ensures length { 65536 < length file.now → result ≡ Err (FileFlaw.File ProgramFileFault.TooLong) }
+{
+    let bytes = read_program(alloc, file)?;
+    match decode(alloc, &bytes) {
+        Ok(code) => Ok(code),
+        Err(DecodeFault::OutOfMemory) => Err(FileFlaw::OutOfMemory),
+        Err(fault) => {
+            let refused = explain_refusal(alloc, &bytes, Refusal::Decode(fault))?;
+            Err(FileFlaw::Program(refused))
+        }
+    }
+}
+
+/// Returns what `fc verify` prints of a program file that the verifier accepts for contexts of this layout: the line
+/// `accepted N` for N units. Bit c of `counters` declares counter c. The error is that the file isn't a program file or
+/// has over 65,536 bytes, the verifier's first fault (V1 to V20), or that memory ran out.
+pub fn verify_file(
+    alloc: Global,
+    file: &[u8],
+    counters: u32,
+    context: Layout,
+) -> Result<String, FileFlaw<'static>>
+    ensures printed { IfOk result
+        (λ printed. Verifies (program_in file.now) counters context (string_bytes printed)) }
+    ensures flaw { IfErr result (IsVerifyFlaw (program_in file.now) counters context) }
+    ensures length { 65536 < length file.now → result ≡ Err (FileFlaw.File ProgramFileFault.TooLong) }
+{
+    let bytes = read_program(alloc, file)?;
+    match verify(alloc, &bytes, counters, context) {
+        Ok(program) => Ok(format!(in alloc; "accepted {}\n", program.units())?),
+        Err(refusal) => {
+            if refusal.fault_numbers().is_none() {
+                return Err(FileFlaw::OutOfMemory);
+            }
+            Err(FileFlaw::Program(explain_refusal(alloc, &bytes, refusal)?))
+        }
+    }
+}

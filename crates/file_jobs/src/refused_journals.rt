@@ -1,0 +1,87 @@
+//! Why a journal is refused or can't be read.
+ghost use Rattle.std.specs.Prelude.{◌≡◌, Ok, IfErr, IsErrAnd, MatchResult};
+ghost use Rattle.file_jobs.specs.AuditOutput.{line_of_flaw};
+ghost use Rattle.file_jobs.specs.JobErrors.{EndsOrRunsOut, Refuses};
+ghost use Rattle.file_jobs.specs.FileRefusals.{RefusesText};
+
+use crate::audit_lines::line_of_flaw;
+use crate::job_error::JobError;
+use crate::journal_reasons::explained;
+use crate::messages::Place;
+use crate::statuses::FAILED;
+use decision_journal::JournalFault;
+use site_core::EntryFlaw;
+use std::alloc::Global;
+use std::io;
+
+/// Returns what the audit of a journal gave, which is in the file that `word` names, or why the journal is refused or
+/// can't be read. `failure` is the system's error of the last failed read, if one failed.
+pub fn audited<T>(
+    alloc: Global,
+    word: &str,
+    audit: Result<Result<T, EntryFlaw>, JournalFault>,
+    failure: Option<&io::Error>,
+) -> Result<T, JobError>
+    ensures audited { MatchResult audit
+        (λ found. MatchResult found (λ value. result ≡ Ok value) (λ flaw. IsErrAnd result (EndsOrRunsOut 1 (line_of_flaw flaw))))
+        (λ fault. IsErrAnd result (RefusesText fault)) }
+    ensures status { IfErr result (Refuses 1) }
+{
+    match audit {
+        Ok(Ok(value)) => Ok(value),
+        Ok(Err(flaw)) => Err(refuse_entry(alloc, word, flaw)),
+        Err(fault) => Err(refuse_text(alloc, word, fault, failure)),
+    }
+}
+
+/// Makes the error for a journal, in the file that `word` names, whose text is refused or can't be read. `failure` is
+/// the system's error of the last failed read, if one failed.
+pub fn refuse_text(
+    alloc: Global,
+    word: &str,
+    fault: JournalFault,
+    failure: Option<&io::Error>,
+) -> JobError
+    ensures refused { RefusesText fault result }
+    ensures status { Refuses 1 result }
+{
+    let place = Place::of(word);
+    match fault {
+        JournalFault::BadEntry(line) => {
+            let place = place.line(u64::from(line));
+            JobError::refused_as(alloc, place, &fault, "J1", &format_args!("J1 {line}"))
+        }
+        JournalFault::Cut => JobError::refused(alloc, place, &fault, "J2"),
+        JournalFault::Device => match failure {
+            Some(error) => JobError::fault(alloc, place, error, "J3", FAILED),
+            None => JobError::fault(alloc, place, &fault, "J3", FAILED),
+        },
+        JournalFault::OutOfMemory => JobError::OutOfMemory,
+    }
+}
+
+fn code_of(flaw: &EntryFlaw) -> &'static str {
+    match flaw {
+        EntryFlaw::Number { .. } => "F1",
+        EntryFlaw::Program { .. } => "F2",
+        EntryFlaw::Entry { .. } | EntryFlaw::Full { .. } => "F3",
+    }
+}
+
+/// Makes the error for a journal, in the file that `word` names, with an entry in which an audit found this flaw. The
+/// line on standard output begins with the fault's number and the entry's place, counted from 1, as in `F3 5`.
+pub fn refuse_entry(alloc: Global, word: &str, flaw: EntryFlaw) -> JobError
+    ensures refused { EndsOrRunsOut 1 (line_of_flaw flaw) result }
+{
+    let code = code_of(&flaw);
+    let Ok(output) = line_of_flaw(alloc, &flaw) else {
+        return JobError::OutOfMemory;
+    };
+    match explained(alloc, flaw) {
+        Ok((line, words)) => {
+            let place = Place::of(word).line(u64::from(line));
+            JobError::refused_with(alloc, place, &words, code, output)
+        }
+        Err(refused) => JobError::from(refused),
+    }
+}

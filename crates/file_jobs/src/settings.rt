@@ -1,0 +1,141 @@
+//! Reading of the files that say what a site begins with: its configuration, and its opening.
+ghost use Rattle.std.specs.Prelude.{◌≡◌, ◌&&◌, [], false, None, Some, Ok, IfOk, IfErr, IsErrAnd, IsSome, IsTrue, option_map};
+ghost use Rattle.site_core.specs.Limits.{ConfigValue};
+ghost use Rattle.site_config.specs.Flaws.{fault_of};
+ghost use Rattle.site_config.specs.Ranges.{config_of, settings_view};
+ghost use Rattle.file_jobs.specs.StandardInput.{is_input, may_be_input, reads_twice};
+ghost use Rattle.file_jobs.specs.JobErrors.{Ends, Refuses};
+ghost use Rattle.file_jobs.specs.FileRefusals.{RefusesConfig};
+ghost use Rattle.file_jobs.specs.Days.{BeginsDay};
+
+use crate::files::{Source, is_input, text_of};
+use crate::job_error::JobError;
+use crate::messages::Place;
+use crate::opening::{Day, begin_with};
+use crate::statuses::USAGE;
+use site_config::ranges::read_settings;
+use site_config::{ConfigFault, ConfigFlaw, Settings};
+use std::alloc::Global;
+
+/// The arguments that name the files of a site: its configuration, and the opening that it begins with, if there is
+/// one.
+#[derive(Clone, Copy)]
+pub struct SiteFiles<'a> {
+    config: &'a str,
+    opening: Option<&'a str>,
+}
+
+impl<'a> SiteFiles<'a> {
+    pub fn new(config: &'a str, opening: Option<&'a str>) -> SiteFiles<'a>
+        ensures config { result.config.now ≡ config.now }
+        ensures opening { option_map (λ w. w.now) result.opening ≡ option_map (λ w. w.now) opening.entry }
+    {
+        SiteFiles { config, opening }
+    }
+
+    /// Returns the argument that names the configuration.
+    pub fn config(self) -> &'a str
+        ensures { result.now ≡ self.entry.config.now }
+    {
+        self.config
+    }
+
+    fn is_opening_input(self) -> bool
+        ensures { result ≡ may_be_input (option_map (λ w. w.now) self.entry.opening) }
+    {
+        match self.opening {
+            Some(opening) => is_input(opening),
+            None => false,
+        }
+    }
+}
+
+/// Reads the configuration of a site, and then the site's opening, if `site` names one. The error is that a file can't
+/// be read or is refused, or that both files are standard input.
+pub fn day_of(rt: &HostRuntime, site: SiteFiles<'_>) -> Result<Day, JobError>
+    ensures twice { IsTrue (is_input site.entry.config.now && may_be_input (option_map (λ w. w.now) site.entry.opening))
+        → IsErrAnd result (Ends 2 []) }
+    ensures first { site.entry.opening ≡ None → IfOk result (λ day. day.number ≡ 1) }
+    ensures opened { IsSome site.entry.opening
+        → IfOk result (λ day. (config : ConfigValue) × BeginsDay config day.number day.config) }
+    ensures once { is_input site.entry.config.now && may_be_input (option_map (λ w. w.now) site.entry.opening) ≡ false
+        → IfErr result (Refuses 1) }
+{
+    if is_input(site.config) && site.is_opening_input() {
+        return Err(refuse_twice(rt.alloc()));
+    }
+    let text = text_of(rt, site.config)?;
+    let Settings { config, serve } = settings_in(rt, site.config, &text)?;
+    let begun = match site.opening {
+        Some(opening) => begin_with(rt, opening, Source::open(rt, opening)?, config),
+        None => Ok((config, 1)),
+    };
+    match begun {
+        Ok((config, number)) => Ok(Day {
+            config,
+            serve,
+            number,
+        }),
+        Err(job_error) => Err(job_error),
+    }
+}
+
+/// Makes the error for a command line that names standard input for two files.
+fn refuse_twice(alloc: Global) -> JobError
+    ensures { Ends 2 [] result }
+{
+    let words = "- is standard input, which is read once: name one of the two files";
+    JobError::message(alloc, &words, USAGE)
+}
+
+/// Reads the settings in `text`, the text of a configuration in the file that `word` names. The error is that the text
+/// is refused.
+pub fn settings_in(rt: &HostRuntime, word: &str, text: &[u8]) -> Result<Settings, JobError>
+    ensures read { IfOk result (λ settings. config_of text.now ≡ Ok (settings_view settings)) }
+    ensures refused { IfErr result (Refuses 1) }
+{
+    match read_settings(rt.alloc(), text) {
+        Ok(settings) => Ok(settings),
+        Err(flaw) => Err(refuse_config(rt.alloc(), word, &flaw)),
+    }
+}
+
+/// Makes the error for a configuration, in the file that `word` names, that is refused (K1 to K3).
+fn refuse_config(alloc: Global, word: &str, flaw: &ConfigFlaw) -> JobError
+    ensures refused { RefusesConfig (fault_of flaw.now) result }
+    ensures status { Refuses 1 result }
+{
+    let code = match flaw.fault() {
+        ConfigFault::K1 => "K1",
+        ConfigFault::K2 => "K2",
+        ConfigFault::K3 => "K3",
+        ConfigFault::OutOfMemory => return JobError::OutOfMemory,
+    };
+    let place = match flaw.position() {
+        Some((line, column)) => Place::of(word).line(line as u64).column(column as u64),
+        None => Place::of(word),
+    };
+    JobError::refused(alloc, place, flaw, code)
+}
+
+/// Reads the site's configuration, and its opening, if `site` names one. Then opens the file that `other` names. The
+/// error is that a file can't be used or is refused, or that two of them are standard input.
+pub fn day_and(
+    rt: &HostRuntime,
+    site: SiteFiles<'_>,
+    other: &str,
+) -> Result<(Day, Source), JobError>
+    ensures twice { IsTrue (reads_twice site.entry.config.now (option_map (λ w. w.now) site.entry.opening) other.now)
+        → IsErrAnd result (Ends 2 []) }
+    ensures once { reads_twice site.entry.config.now (option_map (λ w. w.now) site.entry.opening) other.now ≡ false
+        → IfErr result (Refuses 1) }
+{
+    if is_input(other) && (is_input(site.config) || site.is_opening_input()) {
+        return Err(refuse_twice(rt.alloc()));
+    }
+    let day = day_of(rt, site)?;
+    match Source::open(rt, other) {
+        Ok(source) => Ok((day, source)),
+        Err(job_error) => Err(job_error),
+    }
+}

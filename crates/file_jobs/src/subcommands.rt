@@ -1,0 +1,315 @@
+//! The subcommands and arguments of `fc`, as they are described to the crate `clap`.
+ghost use Rattle.std.specs.Prelude.{◌≡◌, false, IfOk, codes};
+ghost use Rattle.clap.specs.Words.{app_of, new_app, rule_of, with_subcommand};
+ghost use Rattle.clap.specs.declared.builder.command.Command.TheViews.{out-Command};
+ghost use Rattle.file_jobs.specs.JobRequest.{context_rule, file_rule, flag_rule, kind_rule, mask_rule};
+ghost use Rattle.file_jobs.specs.JobRequest.{option_rule, spare_rule};
+ghost use Rattle.file_jobs.specs.JobRequest.{fc_app, top_app};
+ghost use Rattle.file_jobs.specs.Described.{app_for, rule_for, with_words};
+
+use clap::{Arg, ArgAction, Command, value_parser};
+use std::alloc::{AllocError, Global};
+
+/// An argument of a subcommand.
+#[derive(Clone, Copy)]
+enum Argument {
+    /// A file that must be given: the argument's name, and its help text.
+    File(&'static str, &'static str),
+    /// A file that can be left out: the argument's name, and its help text.
+    SpareFile(&'static str, &'static str),
+    /// The argument that says which rows `export` prints.
+    Kind,
+    /// The option `--counters MASK`.
+    Mask,
+    /// The option `--context LAYOUT`.
+    Context,
+    /// An option `--NAME FILE`: its name, and its help text.
+    FileOption(&'static str, &'static str),
+    /// The option `--days FOLDER`: its help text.
+    Days(&'static str),
+    /// An option without a value: its name, and its help text.
+    Flag(&'static str, &'static str),
+}
+
+/// A subcommand: its name, its help text, an example, and its arguments.
+#[derive(Clone, Copy)]
+struct SubcommandDescription {
+    name: &'static str,
+    about: &'static str,
+    example: &'static str,
+    arguments: &'static [Argument],
+}
+
+/// Makes the argument for a file that must be given.
+fn file_arg<'a>(alloc: Global, name: &'a str, help: &'a str) -> Arg<'a>
+    ensures rule { rule_of result ≡ file_rule name.entry.now }
+    ensures local { result.global ≡ false }
+{
+    Arg::new(alloc, name).help(help).required(true)
+}
+
+/// Makes the argument for a file that can be left out.
+fn spare_arg<'a>(alloc: Global, name: &'a str, help: &'a str) -> Arg<'a>
+    ensures rule { rule_of result ≡ spare_rule name.entry.now }
+    ensures local { result.global ≡ false }
+{
+    Arg::new(alloc, name).help(help)
+}
+
+/// Makes the argument that says which rows `export` prints.
+fn kind_arg<'a>(alloc: Global) -> Arg<'a>
+    ensures rule { rule_of result ≡ kind_rule }
+    ensures local { result.global ≡ false }
+{
+    file_arg(alloc, "kind", "which rows: sales, decisions or events")
+}
+
+/// Makes an option `--NAME VALUE`. In the help text, its value is shown as `value`, for example `FILE`.
+fn option_arg<'a>(alloc: Global, name: &'a str, value: &'a str, help: &'a str) -> Arg<'a>
+    ensures rule { rule_of result ≡ option_rule name.entry.now }
+    ensures local { result.global ≡ false }
+{
+    Arg::new(alloc, name)
+        .long(name)
+        .value_name(value)
+        .help(help)
+}
+
+/// Makes the option `--counters`: the mask of the counters that a program declares, a number below 2^32 in which bit c
+/// is counter c. It is 0 if the option isn't given.
+fn mask_arg<'a>(alloc: Global) -> Arg<'a>
+    ensures rule { rule_of result ≡ mask_rule }
+    ensures local { result.global ≡ false }
+{
+    let help = "the declared counters: bit c of this number for counter c";
+    option_arg(alloc, "counters", "MASK", help)
+        .default_value("0")
+        .value_parser(value_parser!(u32))
+}
+
+/// Makes the option `--context`: the layout of the contexts that a program is run on. It is `1` if the option isn't
+/// given.
+fn context_arg<'a>(alloc: Global) -> Arg<'a>
+    ensures rule { rule_of result ≡ context_rule }
+    ensures local { result.global ≡ false }
+{
+    let help = "the layout of the context: 1 as load gives it, 2 as load2 does";
+    option_arg(alloc, "context", "LAYOUT", help).default_value("1")
+}
+
+/// Makes an option `--NAME` without a value.
+fn flag_arg<'a>(alloc: Global, name: &'a str, help: &'a str) -> Arg<'a>
+    ensures rule { rule_of result ≡ flag_rule name.entry.now }
+    ensures local { result.global ≡ false }
+{
+    Arg::new(alloc, name)
+        .long(name)
+        .help(help)
+        .action(ArgAction::SetTrue)
+}
+
+const CONFIG: &str = "the site's configuration, as TOML";
+
+const SCRIPT: &str = "requests, events and loads, one a line";
+
+const JOURNAL: &str = "the journal of a play, or of a served site";
+
+const PROGRAM: &str = "the program's bytes, as hexadecimal digits";
+
+const OPENING: Argument = Argument::FileOption(
+    "opening",
+    "begin with the opening in this file, as carry prints it",
+);
+
+const SUBCOMMANDS: [SubcommandDescription; 9] = [
+    SubcommandDescription {
+        name: "asm",
+        about: "Prints the units of a rule",
+        example: "Example: fc asm rule.bpf",
+        arguments: &[Argument::File("file", "the rule, as assembler text")],
+    },
+    SubcommandDescription {
+        name: "dis",
+        about: "Prints a program as text",
+        example: "Examples: fc dis rule.hex, fc dis --units rule.hex",
+        arguments: &[
+            Argument::File("file", PROGRAM),
+            Argument::Flag("units", "print each unit's number before its line"),
+        ],
+    },
+    SubcommandDescription {
+        name: "verify",
+        about: "Tells whether a program file is accepted",
+        example: "Example: fc verify --counters 3 rule.hex",
+        arguments: &[
+            Argument::File("file", PROGRAM),
+            Argument::Mask,
+            Argument::Context,
+        ],
+    },
+    SubcommandDescription {
+        name: "play",
+        about: "Answers each line of a script",
+        example: "Example: fc play site.toml day.script",
+        arguments: &[
+            Argument::File("config", CONFIG),
+            Argument::File("script", SCRIPT),
+            OPENING,
+        ],
+    },
+    SubcommandDescription {
+        name: "audit",
+        about: "Tells whether a journal is a legal history",
+        example: "Examples: fc audit site.toml day.journal, fc audit --days days site.toml",
+        arguments: &[
+            Argument::File("config", CONFIG),
+            Argument::SpareFile("journal", JOURNAL),
+            OPENING,
+            Argument::Days("audit all days of this folder, in place of JOURNAL"),
+        ],
+    },
+    SubcommandDescription {
+        name: "carry",
+        about: "Prints the opening of the day that comes after a journal",
+        example: "Example: fc carry site.toml day.journal > day.opening",
+        arguments: &[
+            Argument::File("config", CONFIG),
+            Argument::File("journal", JOURNAL),
+            OPENING,
+        ],
+    },
+    SubcommandDescription {
+        name: "report",
+        about: "Makes a page of pictures and figures of a journal",
+        example: "Example: fc report site.toml day.journal > day.html",
+        arguments: &[
+            Argument::File("config", CONFIG),
+            Argument::File("journal", JOURNAL),
+            OPENING,
+        ],
+    },
+    SubcommandDescription {
+        name: "export",
+        about: "Prints rows of a journal for other programs, as CSV or as JSON",
+        example: "Examples: fc export sales site.toml day.journal, fc export --json events site.toml day.journal",
+        arguments: &[
+            Argument::Kind,
+            Argument::File("config", CONFIG),
+            Argument::File("journal", JOURNAL),
+            Argument::Flag("json", "print a line of JSON for each row, in place of CSV"),
+            OPENING,
+        ],
+    },
+    SubcommandDescription {
+        name: "serve",
+        about: "Serves a site at ports and local sockets, then prints its journal",
+        example: "Examples: fc serve --journal day.journal site.toml, fc serve --days days --new-day site.toml",
+        arguments: &[
+            Argument::File("config", CONFIG),
+            Argument::FileOption(
+                "journal",
+                "keep the journal in this file as it happens, and go on from what it holds",
+            ),
+            Argument::Flag(
+                "sync",
+                "with --journal or --days: answer only what the system says is on the disk",
+            ),
+            OPENING,
+            Argument::Days("serve the newest day of this folder, and keep its journal there"),
+            Argument::Flag(
+                "new-day",
+                "with --days: close the newest day first, and serve the next one",
+            ),
+        ],
+    },
+];
+
+const ABOUT: &str =
+    "Keeps a petrol station's site, where small programs decide each release, preset and price.
+Without words it reads a configuration, a line ---, and a script from standard input.";
+
+const AFTER: &str = "Example: fc play site.toml day.script
+
+Faults: A assembler text, C closing a site, F an entry that is not legal, H hexadecimal, J journal text,
+K configuration, L line, N device, O days that don't follow one another, S refusal of the site, V program refused.
+docs/use/reference.md names each.
+Status: 0 done, 1 the input is refused, 2 the words are wrong, 3 a device failed or memory ran out.";
+
+/// Returns an argument in the form that `clap` takes.
+fn argument_of<'a>(alloc: Global, argument: Argument) -> Arg<'a>
+    ensures rule { rule_of result ≡ rule_for argument }
+    ensures local { result.global ≡ false }
+{
+    match argument {
+        Argument::File(name, help) => file_arg(alloc, name, help),
+        Argument::SpareFile(name, help) => spare_arg(alloc, name, help),
+        Argument::Kind => kind_arg(alloc),
+        Argument::Mask => mask_arg(alloc),
+        Argument::Context => context_arg(alloc),
+        Argument::FileOption(name, help) => option_arg(alloc, name, "FILE", help),
+        Argument::Days(help) => option_arg(alloc, "days", "FOLDER", help),
+        Argument::Flag(name, help) => flag_arg(alloc, name, help),
+    }
+}
+
+/// Makes the `clap` command for a subcommand, without its arguments.
+fn described<'a>(alloc: Global, word: SubcommandDescription) -> Command<'a>
+    ensures app { app_of result ≡ new_app word.name.now }
+    ensures local { (out-Command result).has_globals ≡ false }
+{
+    Command::new(alloc, word.name)
+        .about(word.about)
+        .after_help(word.example)
+}
+
+/// Makes the `clap` command for a subcommand, with its arguments. The error is that memory ran out.
+fn subcommand_of<'a>(alloc: Global, word: SubcommandDescription) -> Result<Command<'a>, AllocError>
+    ensures app { IfOk result (λ c. app_of c ≡ app_for word) }
+    ensures local { IfOk result (λ c. (out-Command c).has_globals ≡ false) }
+{
+    let mut command = described(alloc, word);
+    for argument in word.arguments {
+        command = command.arg(argument_of(alloc, *argument))?;
+    }
+    Ok(command)
+}
+
+/// Adds a subcommand to the command `some`, and returns the result. The error is that memory ran out.
+fn with_word<'a>(
+    alloc: Global,
+    some: Command<'a>,
+    word: SubcommandDescription,
+) -> Result<Command<'a>, AllocError>
+    ensures { IfOk result (λ c. app_of c ≡ with_subcommand (app_of some.entry) (app_for word).top) }
+{
+    let subcommand = subcommand_of(alloc, word)?;
+    some.subcommand(subcommand)
+}
+
+/// Makes the `clap` command for the whole program, without its subcommands.
+fn top_command<'a>(alloc: Global) -> Command<'a>
+    ensures { app_of result ≡ top_app }
+{
+    Command::new(alloc, "fc")
+        .version("0.1.0")
+        .about(ABOUT)
+        .after_help(AFTER)
+}
+
+/// Makes the `clap` command for the whole program, with these subcommands. The error is that memory ran out.
+fn with_words<'a>(alloc: Global, words: &[SubcommandDescription]) -> Result<Command<'a>, AllocError>
+    ensures { IfOk result (λ c. app_of c ≡ with_words top_app words.now) }
+{
+    let mut command = top_command(alloc);
+    for word in words {
+        command = with_word(alloc, command, *word)?;
+    }
+    Ok(command)
+}
+
+/// Makes the `clap` command for the whole program, with all its subcommands. The error is that memory ran out.
+pub fn fc<'a>(alloc: Global) -> Result<Command<'a>, AllocError>
+    ensures { IfOk result (λ c. app_of c ≡ fc_app) }
+{
+    with_words(alloc, &SUBCOMMANDS)
+}

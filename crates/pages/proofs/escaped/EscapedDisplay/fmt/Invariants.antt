@@ -1,0 +1,7 @@
+use Rattle.std.specs.List.{flat_map}
+use Rattle.std.specs.Fmt.{HasWritten, IsPlainFormatter}
+use Rattle.pages.specs.Escaping.{escaped_char}
+use Rattle.pages.proofs.escaped.EscapedDisplay.fmt.Given as goal
+
+abbrev pub invariant-loop-c : goal.invariant-loop-c
+invariant-loop-c g l = IsPlainFormatter l.initial.f → HasWritten g.W.Write.write_str_gives l.initial.f (flat_map escaped_char l.yielded) l.f

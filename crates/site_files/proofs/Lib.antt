@@ -1,4 +1,0 @@
-pub mod Lengths
-pub mod Padded
-pub mod Named
-pub mod Opened
