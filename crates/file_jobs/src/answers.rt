@@ -9,19 +9,16 @@ use std::alloc::{AllocError, Global};
 use std::cell::RefCell;
 use std::io::{self, BufWriter, Error, ErrorKind, Printer, Read, Write};
 
-/// Standard output behind a buffer. The `Outlet` between the buffer and standard output keeps the error of the first
-/// failed write.
 type Waiting<'a> = BufWriter<Outlet<Printer<'a, HostRuntime>>>;
 
 /// The answers of a play that are buffered for standard output. They are written before more of the script is read, so
-/// that each answer appears before the next line is awaited.
+/// that each answer appears before the next line is awaited. Nothing is written after a failed write.
 #[derive(Drop)]
 pub struct Answers<'a> {
     waiting: RefCell<Waiting<'a>>,
 }
 
 impl<'a> Answers<'a> {
-    /// Makes an empty buffer on standard output. The error is that memory ran out.
     pub fn new(rt: &'a HostRuntime) -> Result<Answers<'a>, AllocError> {
         match BufWriter::new(rt.alloc(), Outlet::new(io::writer(rt))) {
             Ok(waiting) => Ok(Answers {
@@ -31,8 +28,6 @@ impl<'a> Answers<'a> {
         }
     }
 
-    /// Writes all buffered answers. Writes nothing if an earlier write failed. The error is that the answers can't be
-    /// written.
     fn flush(&self) -> io::Result<()> {
         match self.waiting.try_borrow_mut() {
             Ok(mut waiting) => match waiting.flush() {
@@ -44,8 +39,7 @@ impl<'a> Answers<'a> {
         }
     }
 
-    /// Appends a piece of an answer to the buffer, and returns how many of its bytes were taken. If the buffer has no
-    /// room, its answers are written first. The error is that this write or an earlier one failed.
+    /// Appends a piece of an answer, and returns how many of its bytes were taken.
     fn add(&self, piece: &[u8]) -> io::Result<usize>
         ensures { IfOk result (λ count. count ≤ length piece.now) }
     {
@@ -58,8 +52,8 @@ impl<'a> Answers<'a> {
         }
     }
 
-    /// Writes the answers that are still buffered. Returns `ended`, or the error `Write` if the play ended well but
-    /// this write failed.
+    /// Writes the answers that are still buffered. A play that ended well then ends with `Write` if they can't be
+    /// written.
     pub fn end(&self, ended: Result<Ended, SessionFault>) -> Result<Ended, SessionFault>
         ensures { MatchResult ended (λ e. (result ≡ Ok e) ⊎ (result ≡ Err SessionFault.Write)) (λ fault. result
             ≡ Err fault) }
@@ -74,7 +68,6 @@ impl<'a> Answers<'a> {
         }
     }
 
-    /// Makes the error of a play whose answers couldn't be written.
     pub fn failure(&self, alloc: Global) -> JobError
         ensures { Ends 3 [] result }
     {
@@ -106,7 +99,6 @@ impl Write for Outgoing<'_, '_> {
 pub struct Incoming<'a, 'b, 'c> {
     pub source: Source,
     pub answers: &'b Answers<'a>,
-    /// The progress line of the play, if it has one.
     pub progress: Option<&'c Progress<'a>>,
 }
 

@@ -9,8 +9,7 @@ use crate::job_error::print_text;
 use crate::{JobError, SiteFiles};
 use site_core::Unwatched;
 
-/// Audits the journal in the file that `journal` names, as a journal of the site that `site` names. Prints that it is
-/// legal. The error is that a file is refused or can't be read, or that two files are standard input.
+/// Audits the journal in the file that `journal` names, and prints that it is legal.
 pub fn audit_files(rt: &HostRuntime, site: SiteFiles<'_>, journal: &str) -> Result<(), JobError>
     ensures { IsTrue (reads_twice site.entry.config.now (option_map (λ w. w.now) site.entry.opening) journal.now)
         → IsErrAnd result (Ends 2 []) }

@@ -13,9 +13,7 @@ use days::Closed;
 use days::closing::close;
 use days::writing::opening_text;
 
-/// Audits the journal in the file that `journal` names, as a journal of the site that `site` names. Prints the opening
-/// of the next day. The error is that a file is refused or can't be read, that two files are standard input, or that
-/// the day leaves no opening.
+/// Audits the journal in the file that `journal` names, and prints the opening of the next day.
 pub fn carry_files(rt: &HostRuntime, site: SiteFiles<'_>, journal: &str) -> Result<(), JobError>
     ensures { IsTrue (reads_twice site.entry.config.now (option_map (λ w. w.now) site.entry.opening) journal.now)
         → IsErrAnd result (Ends 2 []) }
@@ -32,8 +30,6 @@ pub fn carry_files(rt: &HostRuntime, site: SiteFiles<'_>, journal: &str) -> Resu
     }
 }
 
-/// Prints the opening that day `number` leaves for the next day. `journal` names the file of the day's journal. The
-/// error is that the day leaves no opening.
 fn print_opening(
     rt: &HostRuntime,
     journal: &str,

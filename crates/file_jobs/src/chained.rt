@@ -32,7 +32,7 @@ use std::str;
 use till_request::devices::StreamIn;
 use till_request::parts::first_part;
 
-/// The device from which a day's journal is read. It shows a progress line.
+/// A day's journal, which shows a progress line as it is read.
 type Journal<'a, R> = Watched<'a, StreamIn<R>>;
 
 /// The days of a folder, read one after another.
@@ -42,10 +42,10 @@ struct FolderIn<'a, F> {
     folder: F,
     /// The configuration for the days that have none in the folder.
     config: Config,
-    /// The next day, or `None` after the newest.
+    /// `None` after the newest day.
     next: Option<u32>,
     newest: u32,
-    /// Why a day couldn't be read, or `None` if each day so far could be read.
+    /// Why a day couldn't be read.
     job_error: Option<JobError>,
 }
 
@@ -136,8 +136,7 @@ impl<'a, F: DayFiles + Drop> DaysIn for FolderIn<'a, F> {
 }
 
 /// Audits all days of the folder that `path` names, and prints that they are legal. `word` names the configuration for
-/// the days that have none in the folder. The error is that a file can't be read, that the configuration or the days
-/// are refused, or that `path` is standard input.
+/// the days that have none in the folder.
 pub fn audit_folder(rt: &HostRuntime, path: &str, word: &str) -> Result<(), JobError>
     ensures { is_input path.now ≡ true → IsErrAnd result (Ends 2 []) }
 {
@@ -150,8 +149,7 @@ pub fn audit_folder(rt: &HostRuntime, path: &str, word: &str) -> Result<(), JobE
     }
 }
 
-/// Audits all days of a folder, from its oldest to its newest. `config` is the configuration for the days that have
-/// none in the folder. The error is that a day can't be read or is refused, or that the folder has no day.
+/// Audits all days of a folder, from its oldest to its newest, with `config` for the days that have none in the folder.
 pub fn audit_in<F: DayFiles + Drop>(
     rt: &HostRuntime,
     folder: F,
@@ -165,7 +163,6 @@ pub fn audit_in<F: DayFiles + Drop>(
     }
 }
 
-/// Audits the days of a folder from its oldest to its newest. The error is that a day can't be read or is refused.
 fn audit_span<F: DayFiles + Drop>(
     rt: &HostRuntime,
     folder: F,
@@ -200,8 +197,6 @@ fn audit_span<F: DayFiles + Drop>(
     }
 }
 
-/// Returns the error of a job for which the days of a folder are refused. If a day couldn't be read, that is
-/// `days.job_error`. The `AllocError` means that memory ran out.
 fn refuse_days<F: DayFiles + Drop>(
     rt: &HostRuntime,
     days: FolderIn<'_, F>,
@@ -215,8 +210,7 @@ fn refuse_days<F: DayFiles + Drop>(
     Ok(refuse_cause(rt, days, day, (&opening, &journal), cause))
 }
 
-/// Returns the error of a job for which the days of a folder are refused at this day. `paths` names the day's opening
-/// and its journal. If the day couldn't be read, the error is `days.job_error`.
+/// `paths` names the day's opening and its journal.
 fn refuse_cause<F: DayFiles + Drop>(
     rt: &HostRuntime,
     days: FolderIn<'_, F>,
@@ -229,7 +223,7 @@ fn refuse_cause<F: DayFiles + Drop>(
     let (opening, journal) = paths;
     let alloc = rt.alloc();
     match cause {
-        // This case never happens: the folder had a day when it was read.
+        // Never here: the folder had a day when it was read.
         Cause::NoDays => refuse_folder(alloc, days.folder.as_folder()),
         Cause::Unread => days.job_error.unwrap_or(JobError::OutOfMemory),
         Cause::NoNextOpening(NoNextOpening::NoJournal) => {
@@ -244,14 +238,12 @@ fn refuse_cause<F: DayFiles + Drop>(
     }
 }
 
-/// Makes the error for a folder that has no day.
 fn refuse_folder(alloc: Global, folder: Folder<'_>) -> JobError
     ensures { Ends 1 [] result }
 {
     refuse_words(alloc, folder.path, &"no day is here")
 }
 
-/// Makes the error for a day that doesn't begin with the opening that the day before left.
 fn refuse_unfollowed(alloc: Global, opening: &str, day: u32, why: Unfollowed) -> JobError
     ensures { EndsOrRunsOut 1 (codes "O1 " ++ (decimal day ++ codes "\n")) result }
 {
@@ -268,8 +260,7 @@ fn refuse_unfollowed(alloc: Global, opening: &str, day: u32, why: Unfollowed) ->
     }
 }
 
-/// Returns the message `day N left 'LINE' here`, in which N is the number of the day before `day`, and LINE is `line`.
-/// Returns `None` if `line` is empty or isn't UTF-8.
+/// Returns the message for a line that day `day` should begin with, or `None` if it is empty or isn't UTF-8.
 fn left_line(day: u32, line: &[u8]) -> Option<Left<'_>>
     ensures left { IfSome result (λ left. (left.0 ≡ day - 1) × (left.1.now ≡ line.now)) }
     ensures none { IfNone result (IsUtf8 line.now → line.now ≡ []) }
@@ -285,8 +276,7 @@ fn left_line(day: u32, line: &[u8]) -> Option<Left<'_>>
     }
 }
 
-/// The message `day 3 left 'LINE' here`, for a line of an opening that differs from what the day before left. The
-/// fields are the number of the day before, and `LINE`.
+/// The message `day 3 left 'LINE' here`.
 #[derive(Drop)]
 struct Left<'a>(u32, &'a str);
 
@@ -302,10 +292,8 @@ impl Display for Left<'_> {
     }
 }
 
-/// Compares two texts by lines, where the LF at a line's end belongs to the line. Returns the number of the first line,
-/// counted from 1, in which `text` differs from `left`. Also returns this line of `left` without its LF, or an empty
-/// line if `left` has no such line. If the texts are equal, the line is what follows their last LF, or all of the text
-/// if it has no LF.
+/// Returns the number, counted from 1, of the first line in which `text` differs from `left`, and this line of `left`
+/// without its LF; it is empty if `left` has no such line.
 fn other_line<'a>(text: &[u8], left: &'a [u8]) -> (u64, &'a [u8])
     ensures { IsOtherLine text.now left.now result.0 result.1.now }
 {
@@ -315,7 +303,6 @@ fn other_line<'a>(text: &[u8], left: &'a [u8]) -> (u64, &'a [u8])
     (number, first_part(&left[start..], b'\n').0)
 }
 
-/// Returns how many bytes at the beginning of two texts are the same.
 fn same_len(text: &[u8], left: &[u8]) -> usize
     ensures { AgreeFor text.now left.now result }
 {
@@ -330,7 +317,6 @@ fn same_len(text: &[u8], left: &[u8]) -> usize
     left.len()
 }
 
-/// Makes the error for a day that can't begin with its opening.
 fn refuse_unbegun(alloc: Global, opening: &str, day: u32, why: Unbegun) -> JobError
     ensures { RefusesBeginning day why result }
 {
@@ -344,7 +330,6 @@ fn refuse_unbegun(alloc: Global, opening: &str, day: u32, why: Unbegun) -> JobEr
     }
 }
 
-/// Makes the error for a day whose journal is refused or can't be read.
 fn refuse_unclosed<R: FileIn + Drop>(
     alloc: Global,
     path: &str,

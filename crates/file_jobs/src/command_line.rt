@@ -1,4 +1,5 @@
-//! The parsing of a command line.
+//! The parsing of a command line. A function that gives no job for arguments that `clap` takes gives `None`: they are
+//! wrong, contradictory or incomplete.
 ghost use Rattle.std.specs.Prelude.{◌≡◌, IsTrue, IsSome, None, false, [], IfOk, IfErr, IsOk, IsOkAnd, OnOk};
 ghost use Rattle.std.specs.Prelude.{map, codes, is_some, option_map, string_bytes, ◌↔◌};
 ghost use Rattle.clap.specs.Words.{first_of, rows_of, found_of, subcommand_of, subcommand_rows_of, takes, fault_of};
@@ -15,8 +16,6 @@ use clap::ArgMatches;
 use clap::error::ErrorKind;
 use std::alloc::{AllocError, Global};
 
-/// Returns the name of the file or folder that the argument `id` gives, or `None` if the argument isn't given. The
-/// error is that memory ran out.
 fn file_of(alloc: Global, matches: &ArgMatches, id: &str) -> Result<Option<String>, AllocError>
     ensures { IfOk result (λ s. first_of id.now (rows_of (found_of matches.now)) ≡ option_map string_bytes s) }
 {
@@ -29,7 +28,6 @@ fn file_of(alloc: Global, matches: &ArgMatches, id: &str) -> Result<Option<Strin
     }
 }
 
-/// Returns the mask of counters that `--counters` gives to `verify`, or `None` if its value isn't a number below 2^32.
 /// The mask is 0 if the option isn't given.
 fn mask_of(matches: &ArgMatches) -> Option<u32>
     ensures { ReadsMask (rows_of (found_of matches.now)) result }
@@ -37,7 +35,6 @@ fn mask_of(matches: &ArgMatches) -> Option<u32>
     matches.get_one::<u32>("counters")
 }
 
-/// Returns the layout that the text `1` or `2` names. Returns `None` for any other text.
 fn layout_named(text: &str) -> Option<Layout>
     ensures { result ≡ layout_named text.now }
 {
@@ -50,8 +47,7 @@ fn layout_named(text: &str) -> Option<Layout>
     }
 }
 
-/// Returns the layout that `--context` gives to `verify`, or `None` if the option's value isn't `1` or `2`. The layout
-/// is `One` if the option isn't given.
+/// The layout is `One` if the option isn't given.
 fn layout_of(matches: &ArgMatches) -> Option<Layout>
     ensures { result ≡ layout_in (rows_of (found_of matches.now)) }
 {
@@ -113,8 +109,6 @@ fn verify_of(alloc: Global, matches: &ArgMatches) -> Result<Option<Job>, AllocEr
     }
 }
 
-/// Returns the names of the two files that the arguments `first` and `second` give, or `None` if one of them isn't
-/// given. The error is that memory ran out.
 fn files_of(
     alloc: Global,
     matches: &ArgMatches,
@@ -132,22 +126,19 @@ fn files_of(
     }
 }
 
-/// Returns the name of the file that `--opening` gives, or `None` if it isn't given. The error is that memory ran out.
 fn opening_of(alloc: Global, matches: &ArgMatches) -> Result<Option<String>, AllocError>
     ensures { IfOk result (λ file. opening_in (rows_of (found_of matches.now)) ≡ named file) }
 {
     file_of(alloc, matches, "opening")
 }
 
-/// Returns the name of the folder that `--days` gives, or `None` if it isn't given. The error is that memory ran out.
 fn days_of(alloc: Global, matches: &ArgMatches) -> Result<Option<String>, AllocError>
     ensures { IfOk result (λ folder. days_in (rows_of (found_of matches.now)) ≡ named folder) }
 {
     file_of(alloc, matches, "days")
 }
 
-/// Returns the name of the file that the argument JOURNAL or the option `--journal` gives, or `None` if neither is
-/// given. The error is that memory ran out.
+/// Returns what the argument JOURNAL gives, or the option `--journal`, which has its name.
 fn journal_of(alloc: Global, matches: &ArgMatches) -> Result<Option<String>, AllocError>
     ensures { IfOk result (λ file. first_of (codes "journal") (rows_of (found_of matches.now)) ≡ named file) }
 {
@@ -180,8 +171,6 @@ fn audit_of(alloc: Global, matches: &ArgMatches) -> Result<Option<Job>, AllocErr
     Ok(audit_by(days, opening, journal, config))
 }
 
-/// Returns the job of `fc audit`, or `None` if `--days` is given with an opening or a journal, or if neither `--days`
-/// nor a journal is given.
 fn audit_by(
     days: Option<String>,
     opening: Option<String>,
@@ -233,8 +222,6 @@ fn report_of(alloc: Global, matches: &ArgMatches) -> Result<Option<Job>, AllocEr
     }
 }
 
-/// Returns the kind of rows that `fc export` prints for the word `text`: `sales`, `decisions` or `events`. Returns
-/// `None` for any other text.
 fn rows_named(text: &str) -> Option<Rows>
     ensures { result ≡ rows_named text.now }
 {
@@ -249,8 +236,6 @@ fn rows_named(text: &str) -> Option<Rows>
     }
 }
 
-/// Returns the kind of rows that the argument `kind` names, or `None` if the argument isn't given or its text names no
-/// kind.
 fn rows_of_kind(matches: &ArgMatches) -> Option<Rows>
     ensures { result ≡ kind_in (rows_of (found_of matches.now)) }
 {
@@ -260,7 +245,6 @@ fn rows_of_kind(matches: &ArgMatches) -> Option<Rows>
     }
 }
 
-/// Returns the form of the rows: JSON if `--json` is given, else CSV.
 fn row_format(matches: &ArgMatches) -> Format
     ensures { result ≡ format_in (rows_of (found_of matches.now)) }
 {
@@ -271,8 +255,6 @@ fn row_format(matches: &ArgMatches) -> Format
     }
 }
 
-/// Returns the job of `fc export`, or `None` if KIND isn't the name of a kind of rows, or if KIND, CONFIG or JOURNAL
-/// isn't given. The error is that memory ran out, which is possible only if KIND is the name of a kind of rows.
 fn export_of(alloc: Global, matches: &ArgMatches) -> Result<Option<Job>, AllocError>
     ensures job { IfOk result (Finds (codes "export") (rows_of (found_of matches.now))) }
     ensures kind { kind_in (rows_of (found_of matches.now)) ≡ None → IsOk result }
@@ -294,7 +276,6 @@ fn export_of(alloc: Global, matches: &ArgMatches) -> Result<Option<Job>, AllocEr
     }
 }
 
-/// Returns the job of `fc serve` without `--days`, or `None` for `--sync` without `--journal`.
 fn serve_by(
     opening: Option<String>,
     is_synced: bool,
@@ -319,7 +300,6 @@ fn serve_by(
     }
 }
 
-/// Returns the job of `fc serve --days`, or `None` if an opening or a journal is given too.
 fn serve_days_by(
     opening: Option<String>,
     journal: Option<String>,
@@ -346,12 +326,6 @@ fn serve_days_by(
     }
 }
 
-/// Returns the job of `fc serve`. The error is that memory ran out. Returns `None` in these cases:
-///
-/// - CONFIG isn't given
-/// - `--days` is given with an opening or a journal
-/// - `--new-day` is given without `--days`
-/// - `--sync` is given with neither `--days` nor a journal
 fn serve_of(alloc: Global, matches: &ArgMatches) -> Result<Option<Job>, AllocError>
     ensures { IfOk result (Finds (codes "serve") (rows_of (found_of matches.now))) }
 {
@@ -369,8 +343,6 @@ fn serve_of(alloc: Global, matches: &ArgMatches) -> Result<Option<Job>, AllocErr
     }
 }
 
-/// Returns the job of the subcommand `name`. Returns `None` if its arguments are wrong, contradictory or incomplete, or
-/// if there is no such subcommand. The error is that memory ran out.
 fn named_job(alloc: Global, name: &str, matches: &ArgMatches) -> Result<Option<Job>, AllocError>
     ensures { IfOk result (Finds name.now (rows_of (found_of matches.now))) }
 {
@@ -388,8 +360,6 @@ fn named_job(alloc: Global, name: &str, matches: &ArgMatches) -> Result<Option<J
     }
 }
 
-/// Returns the job of a parsed command line, or `None` if its arguments are wrong, contradictory or incomplete. The
-/// error is that memory ran out. Without a subcommand the job is `NoWords`, and there is no error.
 fn job_of(alloc: Global, matches: &ArgMatches) -> Result<Option<Job>, AllocError>
     ensures job { IfOk result (IsJobOfLine (subcommand_rows_of matches.now)) }
     ensures nothing { subcommand_rows_of matches.now ≡ None → IsOk result }
@@ -400,7 +370,6 @@ fn job_of(alloc: Global, matches: &ArgMatches) -> Result<Option<Job>, AllocError
     }
 }
 
-/// Returns whether the option `--days` is given.
 fn has_days(matches: &ArgMatches) -> bool
     ensures { result ≡ is_some (days_in (rows_of (found_of matches.now))) }
 {
@@ -410,8 +379,6 @@ fn has_days(matches: &ArgMatches) -> bool
     }
 }
 
-/// Returns the first line of the error message for an `audit` that `clap` accepts, but whose arguments are wrong,
-/// contradictory or incomplete.
 fn audit_message(matches: &ArgMatches) -> &'static str
     ensures { result.now ≡ audit_message (rows_of (found_of matches.now)) }
 {
@@ -422,8 +389,6 @@ fn audit_message(matches: &ArgMatches) -> &'static str
     }
 }
 
-/// Returns the first line of the error message for a `serve` that `clap` accepts, but whose arguments are wrong,
-/// contradictory or incomplete.
 fn serve_message(matches: &ArgMatches) -> &'static str
     ensures { result.now ≡ serve_message (rows_of (found_of matches.now)) }
 {
@@ -436,8 +401,7 @@ fn serve_message(matches: &ArgMatches) -> &'static str
     }
 }
 
-/// Returns the first line of the error message for the subcommand `name`, if `clap` accepts its arguments but they are
-/// wrong, contradictory or incomplete.
+/// Returns the first line of the message for arguments of the subcommand `name` that give no job.
 fn unasked_by(name: &str, matches: &ArgMatches) -> &'static str
     ensures { result.now ≡ unasked_by name.now (rows_of (found_of matches.now)) }
 {
@@ -449,8 +413,6 @@ fn unasked_by(name: &str, matches: &ArgMatches) -> &'static str
     }
 }
 
-/// Returns the first line of the error message for a command line that `clap` accepts, but whose arguments are wrong,
-/// contradictory or incomplete.
 fn no_job_message(matches: &ArgMatches) -> &'static str
     ensures { result.now ≡ unasked_words (subcommand_rows_of matches.now) }
 {
@@ -460,8 +422,6 @@ fn no_job_message(matches: &ArgMatches) -> &'static str
     }
 }
 
-/// Returns the error message for a command line that `clap` accepts, but whose arguments are wrong, contradictory or
-/// incomplete. The error is that memory ran out.
 fn unasked_text(alloc: Global, matches: &ArgMatches) -> Result<String, AllocError>
     ensures { IfOk result (λ text. string_bytes text ≡ unasked_text (subcommand_rows_of matches.now)) }
 {
@@ -469,8 +429,6 @@ fn unasked_text(alloc: Global, matches: &ArgMatches) -> Result<String, AllocErro
     format!(in alloc; "{words}\n\nFor more information, try '--help'.\n")
 }
 
-/// Returns the job of a parsed command line. The error is `Usage` with a message if the command line's arguments are
-/// wrong, contradictory or incomplete, or `OutOfMemory` if memory ran out. Without a subcommand there is no error.
 fn found_job(alloc: Global, matches: &ArgMatches) -> Result<Job, CommandFault>
     ensures requested { IfOk result (λ job. parsed_request (subcommand_rows_of matches.now) ≡ requested job) }
     ensures some { IfOk result (λ job. IsSome (requested job)) }
@@ -483,19 +441,13 @@ fn found_job(alloc: Global, matches: &ArgMatches) -> Result<Job, CommandFault>
     }
 }
 
-/// Returns whether a `clap` error of this kind is a text that the user asked for: the help or the version.
 fn is_asked_text(kind: ErrorKind) -> bool
     ensures { IsTrue result ↔ IsHelpOrVersion kind }
 {
     matches!(kind, ErrorKind::DisplayHelp | ErrorKind::DisplayVersion)
 }
 
-/// Returns the job or the error that follows from an error of `clap`. `kind` is the kind of that error. `made` is its
-/// text, or an error if memory ran out when the text was made. The result is:
-///
-/// - the error `OutOfMemory`, if `made` is an error, or if `kind` says that memory ran out
-/// - else the job `Show` with the text, if `kind` is the help or the version
-/// - else the error `Usage` with the text
+/// Returns what follows from an error of `clap` of this kind. `made` is its text, for which memory may have run out.
 fn job_from_error(kind: ErrorKind, made: Result<String, AllocError>) -> Result<Job, CommandFault>
     ensures none { IfOk result (λ job. requested job ≡ None) }
     ensures shown { OnOk result (IsHelpOrVersion kind) }
@@ -513,8 +465,7 @@ fn job_from_error(kind: ErrorKind, made: Result<String, AllocError>) -> Result<J
     }
 }
 
-/// Parses a command line, whose first argument is the program's name, and returns its job. The error is `Usage` with a
-/// message if the command line isn't valid, or `OutOfMemory` if memory ran out.
+/// Returns the job that a command line asks for, whose first word is the program's name.
 pub fn command(alloc: Global, words: Vec<String>) -> Result<Job, CommandFault>
     ensures requested { IfOk result
         (λ job. IsSome (requested job) → parsed_request (subcommand_of fc_app (map string_bytes words.items)) ≡

@@ -16,8 +16,7 @@ use till_request::{Act, Answer};
 /// The number of the pass with which all acts of a script are entered.
 const PASS: u32 = 1;
 
-/// Applies an event to a site at a moment, and returns the answer. If the journal is full or memory runs out, the
-/// answer is `JournalFull` or `OutOfMemory`, and the site is unchanged.
+/// Applies an event to a site, which stays as it was if the journal is full or memory runs out.
 fn enter_event(site: &mut Site, moment: u64, what: What) -> Answer
     ensures { EventAnswered site.old moment (act_of what) result site.new }
 {
@@ -36,17 +35,14 @@ fn enter_event(site: &mut Site, moment: u64, what: What) -> Answer
     }
 }
 
-/// The answer to an act. If the act is a load whose program the verifier refused, also the refusal.
+/// The answer to an act, and why the verifier refuses the program of a load, if it does.
 #[derive(Clone, Copy)]
 pub struct Entered {
     pub answer: Answer,
-    /// Why the verifier refuses the program of a load. It is `None` if the act is no load, if the program is accepted,
-    /// or if memory ran out.
     pub refusal: Option<Refusal>,
 }
 
-/// Returns the answer to a load that the verifier refuses, with the refusal. If the verifier ran out of memory, the
-/// answer is `OutOfMemory`, and the refusal is `None`.
+/// Returns the answer to a load that the verifier refuses, also for want of memory: then there is no refusal.
 fn refuse_load(refusal: Refusal) -> Entered
     ensures program_fault { (number : ℕ) (unit part : Option ℕ) → refusal_numbers refusal ≡ Some (number, unit, part)
         → result.answer ≡ Answer.Program number unit part }
@@ -69,7 +65,6 @@ fn refuse_load(refusal: Refusal) -> Entered
     }
 }
 
-/// Returns this answer, with no refusal.
 fn unrefused(answer: Answer) -> Entered
     ensures { result ≡ record { answer = answer; refusal = None } }
 {
@@ -79,8 +74,8 @@ fn unrefused(answer: Answer) -> Entered
     }
 }
 
-/// Carries out an act on a site at a moment. Returns the answer, and the refusal if the verifier refuses the program of
-/// a load. The site is unchanged if the program is refused, if the journal is full, or if memory ran out.
+/// Carries out an act on a site. The site is unchanged if the program is refused, the journal is full, or memory ran
+/// out.
 pub fn enter(alloc: Global, site: &mut Site, moment: u64, act: &Act) -> Entered
     ensures answered { ActAnswered site.old moment act.now result.answer site.new }
     ensures refused { IsLoadRefusal act.now result.answer result.refusal }

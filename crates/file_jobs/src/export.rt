@@ -1,5 +1,4 @@
-//! What `fc export` does: audits a journal, and prints its rows (sales, decisions or entries), as CSV or as lines of
-//! JSON.
+//! What `fc export` does.
 ghost use Rattle.std.specs.Prelude.{◌≡◌, [], IfErr, IsErrAnd, IsTrue, option_map};
 ghost use Rattle.file_jobs.specs.StandardInput.{reads_twice};
 ghost use Rattle.file_jobs.specs.PrintRequests.{rows_of, format_of};
@@ -14,8 +13,7 @@ use day_report::Sales;
 use site_core::Watched;
 use std::io::{self, BufWriter, Write};
 
-/// Audits the journal in the file that `journal` names, as a journal of the site that `site` names. Prints the rows
-/// that are asked for. The error is that a file is refused or can't be read, or that two files are standard input.
+/// Audits the journal in the file that `journal` names, and prints the rows that are asked for.
 pub fn export_files(
     rt: &HostRuntime,
     rows: Rows,

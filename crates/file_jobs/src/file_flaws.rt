@@ -15,9 +15,9 @@ use till_request::Answer;
 pub enum FileFlaw<'a> {
     /// L1, H1: the file isn't a program file, or has too many bytes.
     File(ProgramFileFault),
-    /// A1 to A4: the assembler text has this fault.
+    /// A1 to A4.
     Text(AsmFault, AsmFlaw<'a>),
-    /// V1 to V20: the program is refused.
+    /// V1 to V20.
     Program(RefusedProgram),
     OutOfMemory,
 }
@@ -64,8 +64,7 @@ impl fmt::Display for FileFlaw<'_> {
 }
 
 impl FileFlaw<'_> {
-    /// Returns the line that is printed on standard output of a file with this flaw, without its LF. The error is that
-    /// memory ran out, now or before.
+    /// Returns the line that is printed on standard output of a file with this flaw, without its LF.
     pub fn line(&self, alloc: Global) -> Result<String, AllocError>
         ensures line { IfOk result (λ line. string_bytes line ++ codes "\n" ≡ line_of self.now) }
         ensures memory { self.now ≡ FileFlaw.OutOfMemory → IsErr result }
@@ -85,9 +84,7 @@ impl FileFlaw<'_> {
     }
 }
 
-/// Returns the line for a refused program, without its LF: the verifier's fault (V1 to V20), then the number of the
-/// unit, if the fault names a unit, and the number of the register or argument, if the fault names one. The error is
-/// that memory ran out. A refusal because memory ran out has no line and gives this error too.
+/// A refusal for want of memory has no line and is an error too.
 fn refusal_line(alloc: Global, refusal: Refusal) -> Result<String, AllocError>
     ensures { IfOk result (λ line. string_bytes line ++ codes "\n" ≡ refusal_line (refusal_numbers refusal)) }
 {

@@ -34,7 +34,7 @@ impl Part {
     }
 }
 
-/// The numbers of the oldest and of the newest day of a folder.
+/// The numbers of the oldest and of the newest day.
 #[derive(Clone, Copy)]
 pub struct Span {
     pub oldest: u32,
@@ -48,7 +48,7 @@ pub struct Folder<'a> {
 }
 
 impl<'a> Folder<'a> {
-    /// Returns the folder that an argument names. The error is that the argument is `-`, which is standard input.
+    /// Returns the folder that an argument names, which must not be standard input.
     pub fn named(rt: &HostRuntime, word: &'a str) -> Result<Folder<'a>, JobError>
         ensures folder { IfOk result (λ folder. folder.path.now ≡ word.now) }
         ensures input { IfErr result (λ job_error. (is_input word.now ≡ true)
@@ -62,8 +62,7 @@ impl<'a> Folder<'a> {
         Ok(Folder { path: word })
     }
 
-    /// Returns the path of the file `part` of this day, whether the folder has it or not. The error is that memory ran
-    /// out.
+    /// Returns the path of a day's file, whether the folder has it or not.
     pub fn file(self, rt: &HostRuntime, day: u32, part: Part) -> Result<String, AllocError>
         ensures { IfOk result (λ path. string_bytes path ≡ path_of self.entry.path.now day part) }
     {
@@ -71,7 +70,6 @@ impl<'a> Folder<'a> {
         format!(in rt.alloc(); "{path}/{day:06}.{ending}")
     }
 
-    /// Returns whether the folder has the file `part` of this day. The error is that this can't be found out.
     pub fn has(self, rt: &HostRuntime, day: u32, part: Part) -> Result<bool, JobError>
         ensures { IfErr result (Ends 3 []) }
     {
@@ -80,10 +78,9 @@ impl<'a> Folder<'a> {
     }
 
     /// Writes files of days: writes and syncs all of them under other names, and then renames one after another in this
-    /// order. So if there is no room for one of them, the folder stays as it was. Even if the program is stopped
-    /// meanwhile, the folder has of each file the whole new one or what was there before, and a new one only if those
-    /// before it are new too. What has one of the other names is removed first, so nothing is written through a link.
-    /// The error is that a step failed.
+    /// order. So if there is no room for one of them, the folder stays as it was, and even if the program is stopped
+    /// meanwhile, each file is the whole new one or what was there before, and new only if those before it are. What
+    /// has one of the other names is removed first, so nothing is written through a link.
     pub fn put(self, rt: &HostRuntime, files: &[DayFile<'_>]) -> Result<(), JobError>
         ensures { IfErr result (Ends 3 []) }
     {
@@ -96,8 +93,8 @@ impl<'a> Folder<'a> {
         }
     }
 
-    /// Writes `file` like `put`, unless the folder has it with these very bytes: then syncs it, for which no room is
-    /// needed. The errors are those of `put`.
+    /// Writes `file` like `put`, unless the folder has it with these very bytes: then only syncs it, for which no room
+    /// is needed.
     pub fn put_if_other(self, rt: &HostRuntime, file: DayFile<'_>) -> Result<(), JobError>
         ensures { IfErr result (Ends 3 []) }
     {
@@ -140,8 +137,7 @@ impl<'a> Folder<'a> {
         self.sync(rt)
     }
 
-    /// Removes what `write_aside` wrote of these files. What can't be removed is removed by the next `put` of that
-    /// file.
+    /// Removes what `write_aside` wrote. What can't be removed is removed by the next `put` of that file.
     fn remove_asides(self, rt: &HostRuntime, files: &[DayFile<'_>]) {
         for file in files {
             if let Ok(path) = self.file(rt, file.day, file.part) {
@@ -170,17 +166,15 @@ pub trait DayFiles {
     /// For proofs: the folder's files, or `None` if proofs don't know them.
     ghost files: { Self → Option FolderText };
 
-    /// Returns the folder that messages name, and in which a day is closed.
+    /// Returns the folder that messages name, and in which a day is ended.
     fn as_folder(&self) -> Folder<'_>;
 
-    /// Returns the oldest and the newest of the days that have a journal or an opening, or `None` if there is no such
-    /// day. The error is that the folder can't be read.
+    /// Returns the oldest and the newest of the days that have a journal or an opening.
     fn span(&self, rt: &HostRuntime) -> Result<Option<Span>, JobError>
         ensures span { (texts : FolderText) → files self.now ≡ Some texts → IfOk result (λ span. span ≡ span_of texts) }
         ensures refused { IfErr result (Ends 3 []) };
 
-    /// Opens the file `part` of this day. Returns `None` if there is no such file. The error is that it can't be opened,
-    /// or isn't a regular file.
+    /// Opens a day's file, if there is one; it must be a regular file.
     fn open(&self, rt: &HostRuntime, day: u32, part: Part) -> Result<Option<Self::File>, JobError>
         ensures file { (texts : FolderText) → files self.now ≡ Some texts → IfOk result (λ file.
             option_map Self.File.remaining file ≡ option_map (λ text. Some text) (file_of texts day part)) }
@@ -213,7 +207,7 @@ impl DayFiles for Folder<'_> {
     }
 }
 
-/// A file of a day that is to be written: which of the day's files it is, and its bytes.
+/// A file of a day that is to be written.
 #[derive(Clone, Copy)]
 pub struct DayFile<'a> {
     pub day: u32,
@@ -221,15 +215,14 @@ pub struct DayFile<'a> {
     pub bytes: &'a [u8],
 }
 
-/// Returns the name under which a file is written before it is renamed to `path`. The error is that memory ran out.
+/// Returns the name under which a file is written before it is renamed to `path`.
 fn other_name(rt: &HostRuntime, path: &str) -> Result<String, AllocError>
     ensures { IfOk result (λ name. string_bytes name ≡ path.now ++ codes ".new") }
 {
     format!(in rt.alloc(); "{path}.new")
 }
 
-/// Removes what is at `path`, but follows no link. Does nothing if nothing is there. The error is the system's; a
-/// folder isn't removed.
+/// Removes the file or the link at `path`, if there is one.
 fn remove(rt: &HostRuntime, path: &str) -> io::Result<()> {
     match fs::remove_file(rt, path) {
         Err(error) if error.kind() != ErrorKind::NotFound => Err(error),
@@ -237,8 +230,7 @@ fn remove(rt: &HostRuntime, path: &str) -> io::Result<()> {
     }
 }
 
-/// Writes `bytes` to a new file at `path`, and syncs it. The error is the error of the first step that fails, also if
-/// anything is at `path` already.
+/// Writes and syncs a file at `path`, where nothing may be yet.
 fn write_new(rt: &HostRuntime, path: &str, bytes: &[u8]) -> io::Result<()> {
     let mut file = File::create_new(rt, path)?;
     file.write_all(bytes)?;
@@ -249,8 +241,7 @@ fn synced(rt: &HostRuntime, folder: &str) -> io::Result<()> {
     File::open(rt, folder)?.sync_all()
 }
 
-/// Returns whether a regular file with these very bytes is at `path`, and no link. If so, has synced it. The error is
-/// that it can't be read or synced, or that memory ran out.
+/// Returns whether a regular file with these very bytes is at `path`, and no link. If so, has synced it.
 fn is_synced_as(rt: &HostRuntime, path: &str, bytes: &[u8]) -> io::Result<bool> {
     if !fs::symlink_metadata(rt, path)?.is_file() {
         return Ok(false);
@@ -266,8 +257,6 @@ fn is_synced_as(rt: &HostRuntime, path: &str, bytes: &[u8]) -> io::Result<bool> 
     Ok(true)
 }
 
-/// Returns the oldest and the newest of the days that have a journal or an opening in a folder, or `None` if there is
-/// no such day. The error is that the folder can't be read.
 fn span_of(rt: &HostRuntime, folder: &str) -> io::Result<Option<Span>> {
     let mut span = None;
     for entry in read_dir(rt, folder)? {
@@ -281,8 +270,7 @@ fn span_of(rt: &HostRuntime, folder: &str) -> io::Result<Option<Span>> {
     Ok(span)
 }
 
-/// Adds to `span` the day whose journal or opening is called `name`, and returns the result. For any other name,
-/// returns `span` as it is.
+/// Adds to `span` the day whose journal or opening is called `name`, if it is a day's.
 fn with_name(span: Option<Span>, name: &str) -> Option<Span>
     ensures { result ≡ with_found span (day_named name.now) }
 {
@@ -307,7 +295,6 @@ fn with_day(span: Option<Span>, day: u32) -> Span
     }
 }
 
-/// Returns the number of the day whose journal or opening has this name, or `None` for any other name.
 fn day_named(name: &str) -> Option<u32>
     ensures { result ≡ day_named name.now }
 {
@@ -318,15 +305,14 @@ fn day_named(name: &str) -> Option<u32>
     day_of(digits.as_bytes())
 }
 
-/// Returns whether `ending`, which follows the `.` in a file's name, is that of a journal or of an opening.
+/// Returns whether `ending`, behind the `.` in a file's name, is that of a journal or of an opening.
 fn shows_day(ending: &str) -> bool
     ensures { result ≡ shows_day ending.now }
 {
     ending == Part::Journal.ending() || ending == Part::Opening.ending()
 }
 
-/// Returns the number of a day, given the part of a file's name that spells it: exactly six digits, or more than six
-/// that don't begin with 0. Returns `None` for anything else, and if the number is 0 or isn't below 2^32.
+/// Returns the day that exactly six digits spell, or more than six that don't begin with 0; not 0, and below 2^32.
 fn day_of(digits: &[u8]) -> Option<u32>
     ensures { result ≡ day_of digits.now }
 {
@@ -339,7 +325,6 @@ fn day_of(digits: &[u8]) -> Option<u32>
     None
 }
 
-/// Returns digits without the zeros in front of them.
 fn without_zeros(digits: &[u8]) -> &[u8]
     ensures { result.now ≡ without_zeros digits.now }
 {
@@ -351,7 +336,6 @@ fn without_zeros(digits: &[u8]) -> &[u8]
     &[]
 }
 
-/// Returns the day after `day`, or `None` if that would be after `newest`.
 pub fn day_after(day: u32, newest: u32) -> Option<u32>
     ensures { result ≡ day_after day newest }
 {

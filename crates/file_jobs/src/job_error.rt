@@ -10,19 +10,18 @@ use std::alloc::{AllocError, Global};
 use std::fmt::Display;
 use std::io::{self, ErrorKind, Write};
 
-/// Why a job ends before it is done.
+/// Why a job ends before it is done: a file can't be used, or what is in it is refused, or memory ran out.
 #[derive(Drop)]
 pub enum JobError {
     OutOfMemory,
     Refused(Refusal),
 }
 
-/// What is printed of a job that ends before it is done, and its exit status.
 #[derive(Drop)]
 pub struct Refusal {
-    /// The line for standard error, or empty if none is printed. `None` if memory ran out for it.
+    /// The line for standard error, or empty for none. `None` if memory ran out for it.
     message: Option<String>,
-    /// The line for standard output, or empty if none is printed.
+    /// The line for standard output, or empty for none.
     output: String,
     status: u8,
 }
@@ -45,8 +44,8 @@ impl From<AllocError> for JobError {
 }
 
 impl JobError {
-    /// Makes the error of a job that ends with this status. The message is `words`, after the name of the program, with
-    /// control characters escaped. `output` is what is printed on standard output.
+    /// The message is `words` behind the program's name, with control characters escaped; `output` goes to standard
+    /// output.
     pub fn new<D: Display>(alloc: Global, words: &D, output: String, status: u8) -> JobError
         ensures ends { Ends status (string_bytes output) result }
         ensures says { IfSome (D.output words.now) (λ text. Says text result) }
@@ -59,7 +58,6 @@ impl JobError {
         })
     }
 
-    /// Makes the error of a job that ends with this status, and prints only the message `words`.
     pub fn message<D: Display>(alloc: Global, words: &D, status: u8) -> JobError
         ensures ends { Ends status [] result }
         ensures says { IfSome (D.output words.now) (λ text. Says text result) }
@@ -67,7 +65,6 @@ impl JobError {
         JobError::new(alloc, words, String::new(alloc), status)
     }
 
-    /// Makes the error of a job that ends with this status, and prints only the message `words`, after the place.
     pub fn at<D: Display>(alloc: Global, place: Place<'_>, words: &D, status: u8) -> JobError
         ensures ends { Ends status [] result }
         ensures says { IfSome (D.output words.now) (λ text. Says (words_at place.entry text) result) }
@@ -75,8 +72,7 @@ impl JobError {
         JobError::message(alloc, &format_args!("{place}: {words}"), status)
     }
 
-    /// Makes the error of a job that ends with this status, and prints only the message of a fault: the place, `words`
-    /// and the fault's number `code`, as in `N1`.
+    /// `code` is a fault's number, as `N1`, which the message ends with.
     pub fn fault<D: Display>(
         alloc: Global,
         place: Place<'_>,
@@ -91,8 +87,7 @@ impl JobError {
         JobError::at(alloc, place, &format_args!("{words} ({code})"), status)
     }
 
-    /// Makes the error of a job whose input is refused for a fault: the message has the place, `words` and the fault's
-    /// number `code`, as in `K1`. The number is printed on standard output too.
+    /// For input that is refused for a fault: its number `code`, as `K1`, is printed on standard output too.
     pub fn refused<D: Display>(alloc: Global, place: Place<'_>, words: &D, code: &str) -> JobError
         ensures ends { EndsOrRunsOut 1 (code.now ++ 10 ∷ []) result }
         ensures says { IfSome (D.output words.now)
@@ -101,8 +96,7 @@ impl JobError {
         JobError::refused_as(alloc, place, words, code, &code)
     }
 
-    /// Makes the error of a job whose input is refused for a fault, like `refused`, but `line` is printed on standard
-    /// output.
+    /// Like `refused`, but with another line on standard output.
     pub fn refused_as<D: Display, L: Display>(
         alloc: Global,
         place: Place<'_>,
@@ -120,8 +114,7 @@ impl JobError {
         }
     }
 
-    /// Makes the error of a job whose input is refused for a fault, like `refused`, but `output` is printed on standard
-    /// output.
+    /// Like `refused_as`, with a line that ends in its LF.
     pub(crate) fn refused_with<D: Display>(
         alloc: Global,
         place: Place<'_>,
@@ -137,7 +130,7 @@ impl JobError {
         JobError::new(alloc, &words, output, REFUSED)
     }
 
-    /// Makes the error of a job for which the file that the argument `word` names can't be used.
+    /// For a file that can't be used.
     pub fn of_file(alloc: Global, word: &str, error: &io::Error) -> JobError
         ensures { Ends 3 [] result }
     {
@@ -147,7 +140,6 @@ impl JobError {
         JobError::at(alloc, Place::of(word), error, FAILED)
     }
 
-    /// Makes the error of a job that ends with this status, and prints nothing.
     pub fn silent(alloc: Global, status: u8) -> JobError
         ensures { Ends status [] result }
     {
@@ -158,8 +150,7 @@ impl JobError {
         })
     }
 
-    /// Makes the error of a job whose standard output can't be written. Nothing is printed of it if the reader of
-    /// standard output closed the pipe. `failure` is the error of the write, or `None` if the error isn't known.
+    /// For standard output that can't be written. Nothing is printed if its reader closed the pipe.
     pub fn unwritten(alloc: Global, failure: Option<&io::Error>) -> JobError
         ensures { Ends 3 [] result }
     {
@@ -169,8 +160,7 @@ impl JobError {
         }
     }
 
-    /// Makes the error of a job whose standard output can't be written, with a message also if the reader of standard
-    /// output closed the pipe. `failure` is the error of the write, or `None` if the error isn't known.
+    /// Like `unwritten`, but with a message also if the reader closed the pipe.
     pub fn any_unwritten(alloc: Global, failure: Option<&io::Error>) -> JobError
         ensures { Ends 3 [] result }
     {
@@ -181,7 +171,6 @@ impl JobError {
         }
     }
 
-    /// Writes the message.
     fn write_message<E: Write>(&self, errors: &mut E) -> io::Result<()>
         ensures { OnOk result (Appends (E.contents errors.old) (E.contents errors.new) (message_of self.now)) }
     {
@@ -194,9 +183,8 @@ impl JobError {
         }
     }
 
-    /// Prints the error: the message on `errors`, and then the line for standard output on `output`. Returns the exit
-    /// status: that of the error, or `FAILED` if the line can't be written, which is then printed on `errors` too. A
-    /// failed write to `errors` is ignored.
+    /// Prints the message on `errors`, where a failed write is ignored, and then the line for standard output on
+    /// `output`. Returns the exit status: `FAILED` if that line can't be written, which is printed on `errors` too.
     pub fn print<E: Write, O: Write>(&self, alloc: Global, errors: &mut E, output: &mut O) -> u8
         ensures status { (result ≡ status_of self.now) ⊎ (result ≡ 3) }
         ensures printed { result ≢ 3 → Appends (O.contents output.old) (O.contents output.new) (output_of self.now) }
@@ -220,7 +208,7 @@ impl JobError {
     }
 }
 
-/// Returns what a call gave that used the file which the argument `word` names, or why that file can't be used.
+/// Returns what a call gave that used the file which an argument names.
 pub fn at_file<T>(alloc: Global, word: &str, called: io::Result<T>) -> Result<T, JobError>
     ensures { MatchResult called (λ value. result ≡ Ok value) (λ _. IsErrAnd result (Ends 3 [])) }
 {
@@ -230,7 +218,7 @@ pub fn at_file<T>(alloc: Global, word: &str, called: io::Result<T>) -> Result<T,
     }
 }
 
-/// Returns Ok if `printed`, the result of a print on standard output, is Ok.
+/// Returns what a print on standard output came to.
 pub fn printed(alloc: Global, printed: io::Result<()>) -> Result<(), JobError>
     ensures { MatchResult printed (λ _. IsOk result) (λ _. IsErrAnd result (Ends 3 [])) }
 {
@@ -240,7 +228,6 @@ pub fn printed(alloc: Global, printed: io::Result<()>) -> Result<(), JobError>
     }
 }
 
-/// Prints a text on standard output as it is, with no LF added.
 pub fn print_text(rt: &HostRuntime, text: &str) -> Result<(), JobError>
     ensures { IfErr result (Ends 3 []) }
 {

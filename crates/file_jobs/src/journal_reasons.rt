@@ -10,9 +10,9 @@ use std::fmt;
 /// Why an entry of a journal is refused.
 #[derive(Drop)]
 pub enum JournalFlaw {
-    /// F1: the number of an entry isn't its place. The values are the number and the place, counted from 1.
+    /// F1: the number of an entry, and its place, which it isn't.
     Number(u32, u32),
-    /// F2: the verifier refuses the program of a load. The number is that of the slot.
+    /// F2: the slot of a load whose program is refused.
     Program(u32, RefusedProgram),
     /// F3: the entry differs from the one that the site makes of the same event.
     Entry(Difference),
@@ -37,7 +37,7 @@ impl fmt::Display for JournalFlaw {
     }
 }
 
-/// Returns the place of an entry, counted from 1, and in words what is wrong with it. The error is that memory ran out.
+/// Returns the place of an entry, counted from 1, and in words what is wrong with it.
 pub fn explained(alloc: Global, flaw: EntryFlaw) -> Result<(u32, JournalFlaw), AllocError>
     ensures explains { IfOk result (λ p. Explains flaw p.0 p.1) }
 {

@@ -1,6 +1,5 @@
-//! Messages on standard error. A failed write to it is ignored.
-//!
-//! A message is one line. Control characters in it, which can come from a file's name or content, are escaped.
+//! Messages on standard error, each a line. Control characters in it, which can come from a file's name or content, are
+//! escaped. A failed write to it is ignored.
 ghost use Rattle.std.specs.Prelude.{◌≡◌, None, Some, codes};
 ghost use Rattle.file_jobs.specs.StandardInput.{name_of};
 
@@ -17,7 +16,7 @@ pub struct Place<'a> {
 }
 
 impl<'a> Place<'a> {
-    /// Makes the place of a whole file. `word` is the argument that names the file; `-` names standard input.
+    /// Makes the place of the whole file that an argument names.
     pub fn of(word: &'a str) -> Place<'a>
         ensures name { result.name.now ≡ name_of word.now }
         ensures line { result.line ≡ None }
@@ -30,7 +29,6 @@ impl<'a> Place<'a> {
         }
     }
 
-    /// Makes the place for a message about standard output.
     pub(crate) fn output() -> Place<'static>
         ensures name { result.name.now ≡ codes "standard output" }
         ensures line { result.line ≡ None }
@@ -78,7 +76,7 @@ impl Display for Place<'_> {
     }
 }
 
-/// A number of a place, if it is given: `Display` writes a colon and the number, or nothing.
+/// A number of a place, behind a colon, if it is given.
 #[derive(Clone, Copy)]
 struct AfterColon(Option<u64>);
 
@@ -96,13 +94,11 @@ impl Display for AfterColon {
     }
 }
 
-/// Prints the message `words` on standard error, after the name of the program.
 pub fn print_message<D: Display>(rt: &HostRuntime, words: &D) {
     let words = Printable(words);
     let _ = eprintln!(rt; "fc: {words}");
 }
 
-/// Prints the message `words` on standard error, after the name of the program and the place.
 pub fn print_message_at<D: Display>(rt: &HostRuntime, place: Place<'_>, words: &D) {
     print_message(rt, &format_args!("{place}: {words}"));
 }

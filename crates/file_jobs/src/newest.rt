@@ -1,4 +1,4 @@
-//! Closes the newest day of a station, or continues with it.
+//! Ends the newest day of a station, or goes on with it.
 ghost use Rattle.std.specs.Prelude.{◌≡◌, ◌≢◌, ◌⊎◌, ◌+◌, ◌++◌, Ok, Some, [], false, IfOk, IfErr, codes, is_some, option_map};
 ghost use Rattle.std.specs.Fmt.{decimal};
 ghost use Rattle.file_jobs.specs.JobErrors.{Ends, EndsOrRunsOut, Refuses};
@@ -21,8 +21,8 @@ use std::alloc::{AllocError, Global};
 use std::fmt::{self, Display};
 use std::io::Read;
 
-/// The newest day of a folder: the configuration with which its site begins, and whether the day keeps a configuration
-/// that the folder has.
+/// The day that is served: the configuration with which its site begins, and whether that is the one of the folder,
+/// which the day keeps.
 #[derive(Drop)]
 pub struct Newest {
     pub number: u32,
@@ -30,13 +30,11 @@ pub struct Newest {
     pub is_kept: bool,
 }
 
-/// Returns the day that a station goes on with: the newest day of its folder, or day 1 if the folder has no day. If
-/// `is_new_day` and the newest day has an entry, closes that day and returns the next one.
+/// Returns the day that a station goes on with: the newest of its folder, or day 1. If `is_new_day` and the newest day
+/// has an entry, ends that day and returns the next one.
 ///
-/// `given` is the configuration that `word` names, and `text` its text. It is used for a day that has none in the
-/// folder, or whose journal is missing or empty. Any other day keeps the configuration that it has in the folder; if the
-/// two differ, this prints so. The error is that a file can't be used or is refused, or that the next day has begun
-/// already.
+/// `given` is the configuration that `word` names, and `text` its text. It is for a day that has none in the folder, or
+/// no entry. Any other day keeps the folder's; if the two differ, this prints so.
 pub fn newest_day<F: DayFiles>(
     rt: &HostRuntime,
     folder: &F,
@@ -68,9 +66,8 @@ pub fn newest_day<F: DayFiles>(
     }
 }
 
-/// Returns the configuration that the folder has for a day whose journal isn't empty, or else `given`, which `word`
-/// names, and whether it is the folder's. If the two differ, prints so. The error is that a file can't be used or is
-/// refused.
+/// Returns the configuration that a day with an entry keeps in the folder, or else `given`, and whether it is the
+/// folder's.
 fn config_for<F: DayFiles>(
     rt: &HostRuntime,
     folder: &F,
@@ -94,8 +91,6 @@ fn config_for<F: DayFiles>(
     }
 }
 
-/// Prints on standard error that day `day` goes on with the folder's configuration for this day, unless it `is_same` as
-/// the one that `word` names. The error is that memory ran out.
 fn print_other_config(
     rt: &HostRuntime,
     folder: Folder<'_>,
@@ -116,22 +111,14 @@ fn print_other_config(
     Ok(())
 }
 
-/// The day with which a station goes on:
-///
-/// - `This(n)`: day n
-/// - `After(n)`: the day after day n, once day n is closed. If day n has no entry, it isn't closed, and the station
-///   goes on with day n.
+/// What is to be done to find the day to serve: `Serve(n)` day n, or `End(n)`, which ends day n and serves the one
+/// after it, or day n itself if it has no entry.
 #[derive(Clone, Copy)]
 enum DayToServe {
     This(u32),
     After(u32),
 }
 
-/// Returns the day with which a station goes on. `span` is `None` if the station's folder has no day.
-///
-/// - `This(1)` if `span` is `None`
-/// - or else `After` with the number of the newest day, if `is_new_day`
-/// - or else `This` with the number of the newest day
 fn day_to_serve(span: Option<Span>, is_new_day: bool) -> DayToServe
     ensures { result ≡ day_to_serve span is_new_day }
 {
@@ -142,12 +129,8 @@ fn day_to_serve(span: Option<Span>, is_new_day: bool) -> DayToServe
     }
 }
 
-/// Returns the number of the day that a station goes on with: the newest day of its folder, or 1 if the folder has no
-/// day. If `is_new_day` and the newest day has an entry, closes that day and returns the next number.
-///
-/// The configuration `given`, whose text is `text`, is used if the folder has none for the day to close, or if that
-/// day's journal is missing or empty. The error is that a file can't be used or is refused, or that the next day has
-/// begun already.
+/// Returns the number of the day that a station goes on with. Before, ends the newest day, if `is_new_day` and it has
+/// an entry.
 fn number_of<F: DayFiles>(
     rt: &HostRuntime,
     folder: &F,
@@ -170,16 +153,15 @@ fn number_of<F: DayFiles>(
     close_day(rt, folder, newest, config, ConfigTexts { day, next: text })
 }
 
-/// The texts of the configurations that are written into the folder as a day is closed: that of the day itself, unless
-/// the folder has it already, and that of the next day.
+/// The texts of the configurations that are written into the folder as a day is ended: that of the day itself, unless
+/// the folder has it, and that of the next day.
 #[derive(Clone, Copy)]
 struct ConfigTexts<'a> {
     day: Option<&'a [u8]>,
     next: &'a [u8],
 }
 
-/// Returns the configuration that a folder has for a day, or `None` if it has none. The error is that the file can't be
-/// read or is refused.
+/// Returns the configuration that a folder has for a day.
 pub fn own_config<F: DayFiles>(
     rt: &HostRuntime,
     folder: &F,
@@ -200,9 +182,7 @@ pub fn own_config<F: DayFiles>(
     }
 }
 
-/// Returns the configuration that the folder has for a day whose journal isn't empty. Returns `None` if the folder has
-/// none, or if the journal is missing or empty: then the day can still get another configuration. The error is that a
-/// file can't be used or is refused.
+/// Returns the configuration that the folder has for a day with an entry. A day without one can still get another.
 fn kept_config<F: DayFiles>(
     rt: &HostRuntime,
     folder: &F,
@@ -219,7 +199,7 @@ fn kept_config<F: DayFiles>(
     }
 }
 
-/// Returns whether a day has a journal that isn't empty. The error is that the file can't be used.
+/// Returns whether a day has a journal that isn't empty.
 fn is_written<F: DayFiles>(rt: &HostRuntime, folder: &F, day: u32) -> Result<bool, JobError>
     ensures written { (texts : FolderText) → F.files folder.now ≡ Some texts
         → IfOk result (λ written. written ≡ is_written (file_of texts day Part.Journal)) }
@@ -235,9 +215,7 @@ fn is_written<F: DayFiles>(rt: &HostRuntime, folder: &F, day: u32) -> Result<boo
     }
 }
 
-/// Reads the opening that the folder has for day `number`, and returns `config` with this opening in it. For day 1,
-/// returns `config` as it is. The error is that the opening is missing, can't be read, is refused, doesn't fit `config`
-/// or belongs to another day.
+/// Returns `config` with the opening that the folder has for day `number`. Day 1 has none.
 fn begin_day<F: DayFiles>(
     rt: &HostRuntime,
     folder: &F,
@@ -264,19 +242,16 @@ fn begin_day<F: DayFiles>(
     Ok(config)
 }
 
-/// The message for a day that has no opening.
 pub const UNOPENED: &str = "the day has no opening";
 
-/// Makes the error for a day that doesn't follow the day before it: `words` are the reason, the fault's number is O1,
-/// and the line on standard output is O1 and `day`.
+/// Makes the error O1 for a day that doesn't follow the day before it.
 pub fn refuse_link<D: Display>(alloc: Global, place: Place<'_>, day: u32, words: &D) -> JobError
     ensures { EndsOrRunsOut 1 (codes "O1 " ++ (decimal day ++ codes "\n")) result }
 {
     JobError::refused_as(alloc, place, words, "O1", &format_args!("O1 {day}"))
 }
 
-/// The message that an opening belongs to another day than the one it was read for. The field is the number of the day
-/// that it belongs to.
+/// The message that this is the opening of another day, of this number.
 #[derive(Drop)]
 pub struct OfDay(pub u32);
 
@@ -291,9 +266,8 @@ impl Display for OfDay {
     }
 }
 
-/// Closes day `number`, unless it has no entry. Returns the number of the day that is then the newest. `config` is the
-/// configuration of the day's site, without an opening. `texts` are the configurations that closing the day also writes
-/// into the folder. The error is that a file can't be used or is refused, or that the next day has begun already.
+/// Ends day `number`, unless it has no entry, and returns the day that is then the newest. `config` is the day's,
+/// without an opening.
 fn close_day<F: DayFiles>(
     rt: &HostRuntime,
     folder: &F,
@@ -311,14 +285,8 @@ fn close_day<F: DayFiles>(
     put_close(rt, folder.as_folder(), number, &closing, texts)
 }
 
-/// Finishes the close of day `number`, unless it has no entry. Returns the number of the day that is then the newest.
-/// The steps:
-///
-/// - checks that the next day hasn't begun
-/// - syncs the day's journal
-/// - writes the configurations in `texts`, and the opening of the next day
-///
-/// The error is that a step failed.
+/// Returns the day that is the newest once day `number` is ended, which it isn't without an entry: checks that the next
+/// day hasn't begun, syncs the day's journal, and writes `texts` and the next day's opening.
 fn put_close(
     rt: &HostRuntime,
     folder: Folder<'_>,
@@ -339,7 +307,6 @@ fn put_close(
     begin_next_day(rt, folder, number, &closing.audited, texts)
 }
 
-/// Writes the opening of the day after day `number`, and the configurations in `texts`. Returns that next day's number.
 /// After an error the next day hasn't begun, unless only a sync of the folder failed.
 fn begin_next_day(
     rt: &HostRuntime,
@@ -368,8 +335,7 @@ fn begin_next_day(
     Ok(opening.day)
 }
 
-/// Writes the configurations in `texts` into the folder, that of day `number` and that of the next day, and last
-/// `opening`, the next day's opening, by which that day begins. The errors are those of `Folder::put`.
+/// Writes the opening last: by it the next day begins.
 fn put_next_day(
     rt: &HostRuntime,
     folder: Folder<'_>,
@@ -397,9 +363,8 @@ fn put_next_day(
     }
 }
 
-/// Checks that the day after day `number` hasn't begun: that it has no opening. If the caller has locked the journal of
-/// day `number` and gets no error, no other process begins the next day until the lock is released. The error is that
-/// the next day has begun, or that this can't be found out.
+/// Checks that the next day has no opening. Where the caller has locked the journal of day `number`, no other process
+/// begins the next day until the lock is released.
 pub fn check_newest(rt: &HostRuntime, folder: Folder<'_>, number: u32) -> Result<(), JobError>
     ensures { IfErr result (Ends 3 []) }
 {
@@ -414,7 +379,6 @@ pub fn check_newest(rt: &HostRuntime, folder: Folder<'_>, number: u32) -> Result
     Err(JobError::at(rt.alloc(), Place::of(&path), &words, FAILED))
 }
 
-/// Makes the error for a day that can't be closed. `journal` names the file of its journal.
 pub fn refuse_uncarried(alloc: Global, journal: &str, why: Uncarried) -> JobError
     ensures ends { why ≢ Uncarried.Fault OpeningFault.OutOfMemory → Ends 1 [] result }
     ensures memory { why ≡ Uncarried.Fault OpeningFault.OutOfMemory → result ≡ JobError.OutOfMemory }

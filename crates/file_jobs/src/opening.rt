@@ -1,5 +1,4 @@
-//! Reads the opening that a site begins with, and checks that it fits the site's configuration. Says why an opening is
-//! refused.
+//! Reads the opening that a site begins with, and says why one is refused.
 ghost use Rattle.std.specs.Prelude.{◌≡◌, ◌≢◌, ◌≤◌, ◌++◌, ◌∷◌, ℕ, List, [], Some, decimal, IfOk, IfErr, vec_len};
 ghost use Rattle.reg_types.specs.Refusals.{refusal_numbers};
 ghost use Rattle.file_jobs.specs.AuditOutput.{program_text};
@@ -29,12 +28,11 @@ use std::alloc::Global;
 use std::fmt::Display;
 use std::io::Read;
 
-/// The greatest number of bytes that an opening's file is allowed to have. An opening with the longest programs has
-/// some 150,000.
+/// The most bytes of an opening's file. One with the longest programs has some 150,000.
 const MOST_OPENING: usize = 262_144;
 
-/// What was read of a day before its site begins: the configuration (with the opening in it, if there is one), how the
-/// site is served, and the day's number, which is 1 without an opening.
+/// What was read of a day before its site begins: its configuration, with the opening in it, if there is one. Without
+/// an opening it is day 1.
 #[derive(Drop)]
 pub struct Day {
     pub config: Config,
@@ -42,9 +40,7 @@ pub struct Day {
     pub number: u32,
 }
 
-/// Reads the opening that `source` gives, which reads the file that `word` names. Returns `config` with this opening in
-/// it, and the number of the opening's day. The error is that the opening can't be read, is refused or doesn't fit
-/// `config`.
+/// Returns `config` with the opening in the file that `word` names, which `source` reads, and the opening's day.
 pub(crate) fn begin_with<R: Read + Drop>(
     rt: &HostRuntime,
     word: &str,
@@ -64,8 +60,6 @@ pub(crate) fn begin_with<R: Read + Drop>(
     }
 }
 
-/// Returns the bytes of the opening that `source` gives, which reads the file that `word` names. The error is that they
-/// can't be read, or are more than `MOST_OPENING` (L1).
 pub fn opening_bytes<R: Read + Drop>(
     rt: &HostRuntime,
     word: &str,
@@ -79,8 +73,6 @@ pub fn opening_bytes<R: Read + Drop>(
     bytes_in(rt, word, source, MOST_OPENING, &"over 262,144 bytes")
 }
 
-/// Reads the opening that `source` gives, which reads the file that `word` names. The error is that it can't be read or
-/// is refused.
 fn opening_in<R: Read + Drop>(
     rt: &HostRuntime,
     word: &str,
@@ -98,9 +90,8 @@ fn opening_in<R: Read + Drop>(
     }
 }
 
-/// Makes the error for an opening, in the file that `word` names, that is refused: a line is wrong or missing (J1), the
-/// last line has no LF (J2), or a program is refused (F2). The line on standard output has the fault's number and the
-/// line's number, and after them, for a refused program, the fault that the verifier found (V1 to V20).
+/// Makes the error for a refused opening: a line is wrong or missing (J1), the last one has no LF (J2), or a program is
+/// refused (F2). Behind the fault's number stand the line's and, for a program, the verifier's fault.
 pub fn refuse_opening(alloc: Global, word: &str, flaw: OpeningFlaw) -> JobError
     ensures refused { RefusesOpening flaw result }
     ensures status { Refuses 1 result }
@@ -131,7 +122,6 @@ fn refuse_line(alloc: Global, word: &str, line: u32, words: &str, code: &str) ->
     JobError::refused_as(alloc, place, &words, code, &format_args!("{code} {line}"))
 }
 
-/// Makes the error for an opening with a program that the verifier refuses, in this line.
 fn refuse_rule(
     alloc: Global,
     word: &str,
@@ -155,8 +145,7 @@ fn refuse_rule(
     }
 }
 
-/// Makes the error for a site with a given configuration that can't begin with the opening in the file that `word`
-/// names.
+/// Makes the error for an opening with which a site of a given configuration can't begin.
 pub fn refuse_unfit(alloc: Global, word: &str, unfit: Unfit) -> JobError
     ensures ends { unfit ≢ Unfit.Fault OpeningFault.OutOfMemory → Ends 1 [] result }
     ensures memory { unfit ≡ Unfit.Fault OpeningFault.OutOfMemory → result ≡ JobError.OutOfMemory }
@@ -167,8 +156,6 @@ pub fn refuse_unfit(alloc: Global, word: &str, unfit: Unfit) -> JobError
     }
 }
 
-/// Makes the error for a file, which `word` names, in which `words` say what is wrong, unless `fault` is that memory
-/// ran out.
 pub(crate) fn refuse_fault<D: Display>(
     alloc: Global,
     word: &str,
@@ -192,8 +179,7 @@ pub(crate) fn refuse_fault<D: Display>(
     }
 }
 
-/// Makes the error for a file, which `word` names, in which `words` say what is wrong. It has no number, and nothing is
-/// printed of it on standard output.
+/// Makes the error for a file in which `words` say what is wrong, with no number and nothing on standard output.
 pub fn refuse_words<D: Display>(alloc: Global, word: &str, words: &D) -> JobError
     ensures { Ends 1 [] result }
 {

@@ -21,16 +21,13 @@ use std::alloc::{AllocError, Global};
 use till_request::write::{write_all, write_answer};
 use till_request::{Act, Answer, DeviceFault, LineFault, LineOut, WriteFault};
 
-/// The line handler of a play (a run of a script). It carries out each line on the site, and writes the answer. The
-/// time of an act is the moment that the script set last. Each line and each refused load is reported to `notices`.
+/// The line handler of a play. The time of an act is the moment that the script set last.
 #[derive(Clone, Copy)]
 pub struct Player<'a, N: PlayNotices> {
     pub alloc: Global,
     pub notices: &'a N,
 }
 
-/// Writes an answer as a line with its LF. The error is `Write`: the device failed, perhaps after a beginning of the
-/// line was written.
 fn write_play_answer<O: LineOut>(
     alloc: Global,
     output: &mut O,
@@ -49,7 +46,6 @@ fn write_play_answer<O: LineOut>(
     }
 }
 
-/// Writes a text. The error is `Write`: the device failed, perhaps after a beginning of the text was written.
 fn write_play_text<O: LineOut>(output: &mut O, text: &[u8]) -> Result<(), HandlerError>
     ensures ok { OnOk result (Appends (O.written output.old) (O.written output.new) text.now) }
     ensures err { OnErr result ((k : ℕ) × Appends (O.written output.old) (O.written output.new) (take k text.now)) }
@@ -62,8 +58,7 @@ fn write_play_text<O: LineOut>(output: &mut O, text: &[u8]) -> Result<(), Handle
     }
 }
 
-/// Writes the entries as a journal. The text of each entry must have at most 8,400 bytes. The error is `Write` if the
-/// device failed, perhaps after a beginning was written. It is `OutOfMemory` if memory ran out before any write.
+/// The text of each entry must have at most 8,400 bytes.
 fn write_play_journal<O: LineOut>(
     alloc: Global,
     output: &mut O,
@@ -86,7 +81,6 @@ fn write_play_journal<O: LineOut>(
     }
 }
 
-/// Returns the entries of a site's history.
 fn entries_of(site: &Site) -> &[Entry]
     ensures entries { result.now ≡ site.now.history }
     ensures journal { IsJournal site.now.config (journal_text site.now.history) }
@@ -95,15 +89,13 @@ fn entries_of(site: &Site) -> &[Entry]
     site.history()
 }
 
-/// Returns the line, with its LF, that answers a script's line `moment N`. The error is that memory ran out.
 fn moment_line(alloc: Global, moment: u64) -> Result<String, AllocError>
     ensures { IfOk result (λ text. string_bytes text ≡ moment_text moment) }
 {
     format!(in alloc; "moment {moment}\n")
 }
 
-/// Returns the line, with its LF, that answers `counter C`: the value and the bound in `counter`, or the fault
-/// `BadNumber` if `counter` is `None` (there is no such counter). The error is that memory ran out.
+/// Returns the answer to `counter C`: its value and bound, or the fault `BadNumber` if there is no such counter.
 fn counter_line(alloc: Global, counter: Option<(u64, u64)>) -> Result<String, AllocError>
     ensures { IfOk result (λ text. string_bytes text ≡ counter_text counter) }
 {
@@ -119,7 +111,6 @@ fn counter_line(alloc: Global, counter: Option<(u64, u64)>) -> Result<String, Al
     }
 }
 
-/// Reports to `notices` that a load was refused, if it was. `entered` must be the result of entering `act`.
 fn report<N: PlayNotices>(notices: &N, act: &Act, entered: Entered)
     requires { IsLoadRefusal act.now entered.answer entered.refusal }
     ensures { IfSome entered.refusal (λ refusal. N.reported notices.now act.now refusal) }
@@ -132,8 +123,8 @@ fn report<N: PlayNotices>(notices: &N, act: &Act, entered: Entered)
 impl<N: PlayNotices> LineHandler<u64, Site> for Player<'_, N> {
     ghost answers_with = { λ _. AnswersScriptLine };
 
-    // A line is left without an answer in one case alone: the line needs memory, memory ran out, and nothing has
-    // changed. `handle_line` never returns the error `Journal`, since a play keeps no journal on a device.
+    // Only for want of memory is a line left without an answer, and then nothing has changed. A play keeps no journal
+    // on a device, so `handle_line` never returns the error `Journal`.
     ghost drops = { λ _. drops_none };
 
     ghost needs_memory = { λ _. TakesMemory };

@@ -13,9 +13,8 @@ use site_core::{Config, Site};
 use std::alloc::Global;
 use till_request::{LineIn, LineOut};
 
-/// Answers a script line by line, like `play`, but with at most `left` reads of one byte each. `left` must be at most
-/// `READS`, and is set to the number of reads that remain. Reports each line and each refused load to `notices`. The
-/// errors are those of `play`.
+/// Answers a script line by line, like `play`, but with at most `left` reads, at most `READS`, which is set to what
+/// remains.
 pub fn play_within<I: LineIn, O: LineOut, N: PlayNotices>(
     alloc: Global,
     config: Config,
@@ -50,12 +49,9 @@ pub fn play_within<I: LineIn, O: LineOut, N: PlayNotices>(
     answer_lines_within(input, output, &player, &mut moment, &mut site, left)
 }
 
-/// Answers a script line by line, on a new site of this configuration. The moment (the time of an act) is 0 until a
-/// line sets it. At most 67,108,864 reads of one byte are made. Returns how many lines were answered. If the last line
-/// was too long (L1) or had no LF (L4), also returns this fault.
-///
-/// The error is that a read or a write failed, that more reads would be needed, or that memory ran out. After an error,
-/// a beginning of the answers may have been written.
+/// Answers a script line by line, on a new site. The moment (the time of an act) is 0 until a line sets it. At most
+/// 67,108,864 reads of one byte are made. Returns how many lines were answered, and the fault of a last line that was
+/// too long (L1) or had no LF (L4). After an error, a beginning of the answers may have been written.
 pub fn play<I: LineIn, O: LineOut>(
     alloc: Global,
     config: Config,
@@ -80,11 +76,9 @@ pub fn play<I: LineIn, O: LineOut>(
     play_within(alloc, config, input, output, &NoNotices, &mut left)
 }
 
-/// Does nothing. Its contract is a law: the answers to a script don't depend on the sizes of the reads. Two plays of
-/// the same bytes, with the same configuration, write the same answers and leave the same site. Both must have ended
-/// without an error, and no answer may be that memory ran out.
-///
-/// The law follows from the contract of `play`.
+/// A law: the answers to a script don't depend on the sizes of the reads. Two plays of the same bytes that ended
+/// without an error, and never answered for want of memory, write the same answers and leave the same site. It follows
+/// from the contract of `play`.
 pub fn law_of_read_sizes()
     ensures { PlaysAlike }
 {}

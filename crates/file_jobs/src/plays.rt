@@ -21,16 +21,14 @@ use std::io::{self, IsTerminal};
 use till_request::LineFault;
 use till_request::devices::{Ahead, StreamIn, StreamOut};
 
-/// The message to a user at a terminal who gave no argument: input is awaited.
+/// For a user at a terminal who gave no argument.
 const AWAITED: &str =
     "reading a configuration, a line --- and a script from standard input; fc --help tells more";
 
-/// The input of a play. It is read from the device in blocks, and the play takes it byte by byte.
+/// The input of a play: read from the device in blocks, and taken byte by byte.
 type Script<'a, 'b, 'c> = Ahead<StreamIn<Incoming<'a, 'b, 'c>>>;
 
-/// Returns Ok if a play with the result `ended` came to the end of its script. `word` is the argument that names the
-/// script, and `lines` lines come before the script in the same input. `read` is the error of a failed read, if a read
-/// failed.
+/// `lines` lines come before the script in the same input. `read` is the error of a failed read.
 fn played(
     alloc: Global,
     ended: Result<Ended, SessionFault>,
@@ -50,15 +48,14 @@ fn played(
     }
 }
 
-/// Makes the error of a play whose script stopped at a line: the line has over 8,400 bytes (L1), or it is the last one
-/// and has no LF (L4).
+/// Makes the error of a script that stopped at a line of over 8,400 bytes (L1), or at its last line, without LF (L4).
 fn stopped(alloc: Global, word: &str, line: u64, fault: LineFault) -> JobError
     ensures { Ends 1 [] result }
 {
     let (words, code) = match fault {
         LineFault::TooLong => ("over 8,400 bytes", "L1"),
         LineFault::CutLine => ("the last line has no LF", "L4"),
-        // A play never returns these as the fault of the line at which its script stops.
+        // These are no faults at which a script stops.
         LineFault::BadLine | LineFault::BadNumber | LineFault::OutOfMemory => {
             return JobError::silent(alloc, REFUSED);
         }
@@ -67,7 +64,6 @@ fn stopped(alloc: Global, word: &str, line: u64, fault: LineFault) -> JobError
 }
 
 /// Makes the error of a play that was broken off: a read (N1) or a write failed, or no more reads are allowed (N3).
-/// `read` is the error of a failed read, if a read failed.
 fn broken_off(
     alloc: Global,
     word: &str,
@@ -88,8 +84,7 @@ fn broken_off(
     }
 }
 
-/// Plays a script on a new site. Standard input has the configuration, and then the script. The error is that the
-/// configuration is refused, or that the play was stopped or broken off.
+/// Plays a script on a new site. Standard input has the configuration, and then the script.
 pub fn play_input(rt: &HostRuntime) -> Result<(), JobError>
     ensures { IfErr result (Refuses 1) }
 {
@@ -100,8 +95,6 @@ pub fn play_input(rt: &HostRuntime) -> Result<(), JobError>
     play_both(rt, &mut script_of(Source::input(rt), &answers, None))
 }
 
-/// Plays a script that follows its configuration in the same input. The error is that the configuration is refused, or
-/// that the play was stopped or broken off.
 fn play_both<'a>(rt: &'a HostRuntime, input: &mut Script<'a, '_, '_>) -> Result<(), JobError>
     ensures { IfErr result (Refuses 1) }
 {
@@ -119,8 +112,7 @@ fn play_both<'a>(rt: &'a HostRuntime, input: &mut Script<'a, '_, '_>) -> Result<
     }
 }
 
-/// Returns the settings in `head`, the bytes that come before a script in the same input: a configuration, and the line
-/// `---` if there is one. The error is that the configuration has over 65,536 bytes or is refused.
+/// Returns the settings in the bytes before a script: a configuration, and the line `---` if there is one.
 fn settings_before(rt: &HostRuntime, head: &[u8]) -> Result<Settings, JobError>
     ensures { IfErr result (Refuses 1) }
 {
@@ -142,8 +134,6 @@ fn script_of<'a, 'b, 'c>(
     }))
 }
 
-/// Makes the device that a play writes its answers to. It buffers them at most until the next read of the script, or
-/// until the play ends.
 fn outlet<'a, 'b>(answers: &'b Answers<'a>) -> StreamOut<Outgoing<'a, 'b>> {
     StreamOut {
         writer: Outgoing { answers },
@@ -151,9 +141,7 @@ fn outlet<'a, 'b>(answers: &'b Answers<'a>) -> StreamOut<Outgoing<'a, 'b>> {
     }
 }
 
-/// Plays the script in the file that `script` names, on the site that `site` names. At the start this site has no
-/// entries. The error is that a file can't be read or is refused, that two files are standard input, or that the play
-/// was stopped or broken off.
+/// Plays the script in the file that `script` names, on a new site.
 pub fn play_files<'a>(
     rt: &'a HostRuntime,
     site: SiteFiles<'_>,
@@ -171,9 +159,7 @@ pub fn play_files<'a>(
     play_script(rt, day.config, script, 0, &mut input, READS)
 }
 
-/// Plays a script. `word` is the argument that names the script, and `lines` lines come before the script in the same
-/// input. At most `left` reads are made. `left` must be at most `READS`. The error is that the play was stopped or
-/// broken off.
+/// `lines` lines come before the script in the same input.
 fn play_script<'a>(
     rt: &'a HostRuntime,
     config: Config,

@@ -12,12 +12,7 @@ use bpf_asm::AsmFault;
 use bpf_model::context::Layout;
 use std::alloc::Global;
 
-/// What to print of a file:
-///
-/// - `Asm`: the units (eight bytes each) of an assembler text.
-/// - `Dis`: a program as assembler text.
-/// - `DisUnits`: a program as assembler text, with the numbers of the units.
-/// - `Verify`: the verifier's result for a program with this mask (a bit for each counter) and this layout.
+/// What to print of a file.
 #[derive(Clone, Copy)]
 pub enum PrintRequest {
     Asm,
@@ -26,15 +21,11 @@ pub enum PrintRequest {
     Verify(u32, Layout),
 }
 
-/// Prints what `request` asks for about the file that `word` names. The error is that the file can't be read, has over
-/// 65,536 bytes, or is refused.
 pub fn print_file(rt: &HostRuntime, word: &str, request: PrintRequest) -> Result<(), JobError> {
     let text = text_of(rt, word)?;
     print_bytes(rt, word, request, &text)
 }
 
-/// Prints what `request` asks for about a file with these bytes, which `word` names. The error is that the file is
-/// refused.
 fn print_bytes(
     rt: &HostRuntime,
     word: &str,
@@ -49,7 +40,6 @@ fn print_bytes(
     }
 }
 
-/// Returns the text to print for a file with these bytes. The error is that the file is refused.
 fn printed_text<'a>(
     alloc: Global,
     request: PrintRequest,
@@ -66,7 +56,6 @@ fn printed_text<'a>(
     }
 }
 
-/// Makes the error for a file, which `word` names, that is refused.
 fn refuse_file(alloc: Global, word: &str, flaw: &FileFlaw<'_>) -> JobError
     ensures ends { EndsOrRunsOut 1 (line_of flaw.now) result }
     ensures memory { flaw.now ≡ FileFlaw.OutOfMemory → result ≡ JobError.OutOfMemory }

@@ -16,8 +16,7 @@ use reg_types::verifier::verify;
 use reg_types::{Layout, Refusal};
 use std::alloc::Global;
 
-/// Returns what `fc asm` prints of an assembler text: the units of its program, each as a line of 16 hexadecimal
-/// digits. The error is that the text has over 65,536 bytes, the fault that `assemble` finds, or that memory ran out.
+/// Returns what `fc asm` prints of an assembler text: its units, each as a line of 16 hexadecimal digits.
 pub fn asm_file<'a>(alloc: Global, text: &'a [u8]) -> Result<String, FileFlaw<'a>>
     ensures printed { IfOk result (λ printed. Assembles text.now (string_bytes printed)) }
     ensures flaw { IfErr result (IsAsmFlaw text.now) }
@@ -32,9 +31,7 @@ pub fn asm_file<'a>(alloc: Global, text: &'a [u8]) -> Result<String, FileFlaw<'a
     }
 }
 
-/// Returns what `fc dis` prints of a program file: the program as assembler text. Jumps and types aren't checked. The
-/// error is that the file isn't a program file or has over 65,536 bytes, that its bytes don't decode (V1 to V5), or
-/// that memory ran out.
+/// Returns what `fc dis` prints of a program file: its text. Jumps and types aren't checked.
 pub fn dis_file(alloc: Global, file: &[u8]) -> Result<String, FileFlaw<'static>>
     ensures printed { IfOk result
         (λ printed. Disassembles canonical_text (program_in file.now) (string_bytes printed)) }
@@ -45,8 +42,7 @@ pub fn dis_file(alloc: Global, file: &[u8]) -> Result<String, FileFlaw<'static>>
     Ok(disassemble(alloc, &code)?)
 }
 
-/// Returns what `fc dis --units` prints of a program file. It is what `dis_file` returns, but the line of each
-/// instruction begins with the number of its first unit, counted from 0, a colon and a space. The error is the same.
+/// Returns what `fc dis --units` prints: the text of `dis_file`, with the number of its first unit before each line.
 pub fn dis_units_file(alloc: Global, file: &[u8]) -> Result<String, FileFlaw<'static>>
     ensures printed { IfOk result
         (λ printed. Disassembles (numbered_from 0) (program_in file.now) (string_bytes printed)) }
@@ -57,7 +53,6 @@ pub fn dis_units_file(alloc: Global, file: &[u8]) -> Result<String, FileFlaw<'st
     Ok(disassemble_numbered(alloc, &code)?)
 }
 
-/// Decodes the program in a file. The error is that of `dis_file`.
 fn code_in(alloc: Global, file: &[u8]) -> Result<Code, FileFlaw<'static>>
     ensures code { IfOk result (DecodesTo (program_in file.now)) }
     ensures flaw { IfErr result (IsDisFlaw (program_in file.now)) }
@@ -74,9 +69,8 @@ fn code_in(alloc: Global, file: &[u8]) -> Result<Code, FileFlaw<'static>>
     }
 }
 
-/// Returns what `fc verify` prints of a program file that the verifier accepts for contexts of this layout: the line
-/// `accepted N` for N units. Bit c of `counters` declares counter c. The error is that the file isn't a program file or
-/// has over 65,536 bytes, the verifier's first fault (V1 to V20), or that memory ran out.
+/// Returns what `fc verify` prints of a program file that the verifier accepts for contexts of this layout: `accepted
+/// N` for N units. Bit c of `counters` declares counter c.
 pub fn verify_file(
     alloc: Global,
     file: &[u8],

@@ -1,4 +1,4 @@
-//! The progress line of a long job: how many lines are read. It is shown on standard error, if that is a terminal.
+//! The progress line of a long job, on standard error, if that is a terminal.
 ghost use Rattle.std.specs.Prelude.{◌≡◌};
 
 use crate::files::stream;
@@ -15,12 +15,10 @@ const STEP: u64 = 8192;
 /// The terminal's codes that move to the start of the line and erase it.
 const RENEW: &str = "\r\x1b[K";
 
-/// The progress line of a job, and the counts that it shows. The line appears after `STEP` lines are read, and is
-/// erased when this value is dropped.
+/// The progress line of a job. It appears after `STEP` lines are read, and is erased when this value is dropped.
 pub struct Progress<'a> {
     rt: &'a HostRuntime,
     is_shown: bool,
-    /// How many bytes the input has, if that is known.
     size: Option<u64>,
     begun: Option<Instant>,
     bytes: Cell<u64>,
@@ -30,7 +28,6 @@ pub struct Progress<'a> {
 }
 
 impl<'a> Progress<'a> {
-    /// Makes a progress line with nothing read yet. It is shown only if it is wanted and standard error is a terminal.
     pub fn new(rt: &'a HostRuntime, is_wanted: bool, size: Option<u64>) -> Self {
         let is_shown = is_wanted && rt.stderr().is_terminal();
         Progress {
@@ -48,8 +45,7 @@ impl<'a> Progress<'a> {
         }
     }
 
-    /// Counts the bytes that a read returned, and the lines that end in them. Empty `bytes` are taken as the end of the
-    /// input. Does nothing if the progress line isn't to be shown.
+    /// Counts what a read returned. Empty `bytes` are the end of the input.
     pub fn see(&self, bytes: &[u8]) {
         if !self.is_shown {
             return;
@@ -72,8 +68,6 @@ impl<'a> Progress<'a> {
         }
     }
 
-    /// Renews the progress line: the lines read, and for an input of known size also the percentage and the seconds
-    /// left. An error of the terminal is ignored.
     fn print_progress(&self, lines: u64) {
         self.is_there.set(true);
         let _ = eprint!(self.rt; "{RENEW}fc: {lines} lines read");
@@ -82,7 +76,6 @@ impl<'a> Progress<'a> {
         }
     }
 
-    /// Shows that all lines are read, if there are enough of them for a progress line.
     fn print_end(&self) {
         let lines = self.lines.get();
         if lines >= STEP {
@@ -91,20 +84,18 @@ impl<'a> Progress<'a> {
         }
     }
 
-    /// Erases the progress line, if it is on the terminal. It can appear again when more of the input is read.
+    /// Erases the progress line. It can appear again when more of the input is read.
     pub fn clear(&self) {
         if self.is_there.replace(false) {
             let _ = eprint!(self.rt; "{RENEW}");
         }
     }
 
-    /// Returns how much of the input was read, in percent, or `None` if the input's size isn't known or is 0.
     fn percent(&self) -> Option<u64> {
         self.bytes.get().saturating_mul(100).checked_div(self.size?)
     }
 
-    /// Returns how many seconds the rest of the input takes, at the average speed so far. Returns `None` if the size or
-    /// the time isn't known, or if nothing was read.
+    /// Returns how long the rest of the input takes at the average speed so far.
     fn seconds_left(&self) -> Option<u64> {
         let elapsed = self.begun?.elapsed(self.rt).ok()?.as_secs();
         let left = self.size?.saturating_sub(self.bytes.get());
@@ -134,7 +125,6 @@ pub struct Watched<'a, I: LineIn> {
     pub progress: Progress<'a>,
 }
 
-/// Makes a device that reads from `source` and shows a progress line. `size` is the number of bytes, if that is known.
 pub fn watch<'a, R: Read + Drop>(
     rt: &'a HostRuntime,
     source: R,

@@ -14,13 +14,12 @@ use reg_types::{Refusal, TypeFault};
 use std::alloc::{AllocError, Global};
 use std::fmt;
 
-/// Why a program is refused: the refusal, and the line of the unit that it names. If an argument of a helper (a
-/// function that programs can call) is at fault, `wanted` is the kind of value that this argument must be.
+/// Why a program is refused, with the line of the unit at fault, and what kind of value an argument at fault must be.
 #[derive(Drop)]
 pub struct RefusedProgram {
     pub refusal: Refusal,
     /// The instruction as `fc dis` prints it, or the unit's 16 hexadecimal digits if the bytes don't decode; with an
-    /// LF. It is `None` if the refusal names no unit, or if there is no such instruction or unit.
+    /// LF.
     pub line: Option<String>,
     pub wanted: Option<Kind>,
 }
@@ -30,8 +29,6 @@ impl fmt::Display for RefusedProgram {
 
     ghost output = { λ reported. Some (refused_text reported) };
 
-    /// Writes the number of the unit at fault, then `line` (its instruction or its hexadecimal digits), and then what
-    /// is wrong. Leaves out the number or the line if there is none. The error is that the formatter failed.
     fn fmt<W: fmt::Write>(&self, f: &mut fmt::Formatter<W>) -> fmt::Result {
         let unit = UnitAtFault(unit_of(self.refusal));
         let line = LineAtFault(&self.line);
@@ -40,8 +37,7 @@ impl fmt::Display for RefusedProgram {
     }
 }
 
-/// The number of the unit at fault, if there is one. `Display` writes it as the beginning of a message, such as
-/// `unit 7: `, or writes nothing if there is none.
+/// The beginning of a message, such as `unit 7: `, if a unit is at fault.
 #[derive(Clone, Copy)]
 struct UnitAtFault(Option<u32>);
 
@@ -58,8 +54,7 @@ impl fmt::Display for UnitAtFault {
     }
 }
 
-/// The line of the unit at fault, if there is one. `Display` writes the line without the white space (such as an LF) at
-/// its end, and then `: `. It writes nothing if there is no line.
+/// The line of the unit at fault, without the white space at its end, and `: `.
 #[derive(Clone, Copy)]
 struct LineAtFault<'a>(&'a Option<String>);
 
@@ -76,8 +71,7 @@ impl fmt::Display for LineAtFault<'_> {
     }
 }
 
-/// A refusal, and the kind of value that an argument of a helper must be, if such an argument is at fault. A helper is
-/// a function that programs can call. `Display` writes in words what is wrong.
+/// What is wrong, in words, and the kind that an argument must be.
 #[derive(Clone, Copy)]
 struct Wrong(Refusal, Option<Kind>);
 
@@ -96,7 +90,6 @@ impl fmt::Display for Wrong {
     }
 }
 
-/// Returns in words what an argument of this kind must be.
 fn words_of(kind: Kind) -> &'static str
     ensures { result.now ≡ kind_text kind }
 {
@@ -109,7 +102,7 @@ fn words_of(kind: Kind) -> &'static str
 }
 
 impl RefusedProgram {
-    /// Returns the number of the fault (1 for V1, to 20 for V20), or 0 if the refusal is that memory ran out.
+    /// Returns the number of the fault (1 for V1, to 20 for V20), or 0 if memory ran out.
     pub fn number(&self) -> u32
         ensures { result ≡ number_in (refusal_numbers self.now.refusal) }
     {
@@ -120,8 +113,6 @@ impl RefusedProgram {
     }
 }
 
-/// Returns the number of the unit (an instruction slot of 8 bytes, counted from 0) that a refusal names, or `None` if
-/// it names none.
 fn unit_of(refusal: Refusal) -> Option<u32>
     ensures { result ≡ unit_in (refusal_numbers refusal) }
 {
@@ -129,8 +120,6 @@ fn unit_of(refusal: Refusal) -> Option<u32>
     unit
 }
 
-/// Returns the 16 hexadecimal digits of a unit, with an LF, or `None` if `bytes` end before the unit does. Units count
-/// from 0. The error is that memory ran out.
 fn digits_of(alloc: Global, bytes: &[u8], unit: u32) -> Result<Option<String>, AllocError>
     ensures { IfOk result (λ line. option_map string_bytes line ≡ digits_line bytes.now unit) }
 {
@@ -141,10 +130,8 @@ fn digits_of(alloc: Global, bytes: &[u8], unit: u32) -> Result<Option<String>, A
     }
 }
 
-/// Returns the kind of value that a helper must be given as one of its arguments. `refusal` names the argument, and a
-/// unit (an instruction slot of 8 bytes, counted from 0). The helper's number is the immediate of the instruction at
-/// this unit. Returns `None` if `refusal` names no argument, if no instruction begins at the unit, or if there is no
-/// such helper or argument.
+/// Returns the kind of value that a helper must be given as the argument that a refusal names. The helper's number is
+/// the immediate of the instruction at the refusal's unit.
 fn wanted_by(code: &Code, refusal: Refusal) -> Option<Kind>
     ensures { result ≡ kind_wanted code.now refusal }
 {
@@ -157,8 +144,6 @@ fn wanted_by(code: &Code, refusal: Refusal) -> Option<Kind>
     }
 }
 
-/// Returns the kind of value that a helper must be given as argument 1 or 2. Returns `None` for another argument, or if
-/// there is no helper with the number `helper`.
 fn kind_of(helper: i32, argument: u32) -> Option<Kind>
     ensures { result ≡ wanted_at helper argument }
 {
@@ -178,7 +163,7 @@ fn is_memory(fault: DecodeFault) -> bool
     fault == DecodeFault::OutOfMemory
 }
 
-/// Decodes bytes, and returns the program, or `None` if they don't decode. The error is that memory ran out.
+/// Decodes bytes, and returns `None` if they don't decode.
 fn units_of(alloc: Global, bytes: &[u8]) -> Result<Option<Code>, AllocError>
     ensures { IfOk result (λ found. MatchOption found (units bytes.now ≡ None) (λ code. units bytes.now ≡ Some code)) }
 {
@@ -194,15 +179,8 @@ fn units_of(alloc: Global, bytes: &[u8]) -> Result<Option<Code>, AllocError>
     }
 }
 
-/// Returns `refusal` with a line and a kind:
-///
-/// - The line is that of the unit that `refusal` names: the instruction there, or the unit's hexadecimal digits if
-///   `bytes` don't decode. It is `None` if `refusal` names no unit, or if `bytes` have no such instruction or unit.
-/// - The kind is that of the value which a helper takes as the argument at fault. It is `None` if `refusal` names no
-///   argument, if `bytes` don't decode, if no instruction begins at the unit, or if there is no such helper or
-///   argument.
-///
-/// The error is that memory ran out. For a refusal that names no unit there is no error.
+/// Returns `refusal` with the line of the unit that it names, and the kind of value that a helper takes as the argument
+/// at fault, as far as `bytes` have them. Without a unit there is no error.
 pub fn explain_refusal(
     alloc: Global,
     bytes: &[u8],

@@ -14,8 +14,8 @@ use site_core::EntryFlaw;
 use std::alloc::Global;
 use std::io;
 
-/// Returns what the audit of a journal gave, which is in the file that `word` names, or why the journal is refused or
-/// can't be read. `failure` is the system's error of the last failed read, if one failed.
+/// Returns what the audit of a journal gave, or why it is refused. `failure` is the system's error of the last failed
+/// read.
 pub fn audited<T>(
     alloc: Global,
     word: &str,
@@ -34,8 +34,6 @@ pub fn audited<T>(
     }
 }
 
-/// Makes the error for a journal, in the file that `word` names, whose text is refused or can't be read. `failure` is
-/// the system's error of the last failed read, if one failed.
 pub fn refuse_text(
     alloc: Global,
     word: &str,
@@ -68,8 +66,7 @@ fn code_of(flaw: &EntryFlaw) -> &'static str {
     }
 }
 
-/// Makes the error for a journal, in the file that `word` names, with an entry in which an audit found this flaw. The
-/// line on standard output begins with the fault's number and the entry's place, counted from 1, as in `F3 5`.
+/// The line on standard output begins with the fault's number and the entry's place, counted from 1, as in `F3 5`.
 pub fn refuse_entry(alloc: Global, word: &str, flaw: EntryFlaw) -> JobError
     ensures refused { EndsOrRunsOut 1 (line_of_flaw flaw) result }
 {

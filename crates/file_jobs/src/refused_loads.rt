@@ -1,5 +1,5 @@
-//! Messages about a script's loads of programs that the verifier refuses. They are printed on standard error. The
-//! answer to such a load, on standard output, has only the refusal's number.
+//! Messages on standard error about a script's loads that the verifier refuses. The answer to such a load, on standard
+//! output, has only the refusal's number.
 use crate::PlayNotices;
 use crate::messages::print_message;
 use crate::progress::Progress;
@@ -9,20 +9,18 @@ use std::alloc::AllocError;
 use std::cell::Cell;
 use till_request::Act;
 
-/// Receives what a play reports, and prints on standard error why a load is refused, with the number of the load's
-/// line.
+/// Prints why a load is refused, with the number of its line.
 #[derive(Drop)]
 pub struct RefusedLoads<'a, 'b> {
     rt: &'a HostRuntime,
     name: &'a str,
-    /// The number of lines of the input that have begun, including those before the script.
+    /// How many lines of the input have begun, with those before the script.
     lines: Cell<u64>,
-    /// The progress line of the play, if it has one. It is erased before a message.
+    /// Erased before a message.
     progress: Option<&'b Progress<'a>>,
 }
 
 impl<'a, 'b> RefusedLoads<'a, 'b> {
-    /// Makes the receiver for the script with this name. `lines` lines come before the script in the same input.
     pub fn new(
         rt: &'a HostRuntime,
         name: &'a str,
@@ -60,7 +58,7 @@ impl PlayNotices for RefusedLoads<'_, '_> {
     }
 
     fn refused_load(&self, load: &Act, refusal: Refusal) {
-        // If memory runs out, no message is printed. The answer to the load still has the refusal's number.
+        // Without memory there is no message, but the answer still has the refusal's number.
         let _ = self.print_refusal(load, refusal);
     }
 }

@@ -12,9 +12,7 @@ use pages::Page;
 use site_core::Replayed;
 use std::io::{self, BufWriter, Write};
 
-/// Audits the journal in the file that `journal` names, as a journal of the site that `site` names. Prints a page of
-/// HTML that shows the journal. The error is that a file is refused or can't be read, or that two files are standard
-/// input.
+/// Audits the journal in the file that `journal` names, and prints a page of HTML that shows it.
 pub fn report_files(rt: &HostRuntime, site: SiteFiles<'_>, journal: &str) -> Result<(), JobError>
     ensures { IsTrue (reads_twice site.entry.config.now (option_map (λ w. w.now) site.entry.opening) journal.now)
         → IsErrAnd result (Ends 2 []) }

@@ -17,20 +17,18 @@ pub enum ScriptLine {
     Act(Act),
     /// `moment N` sets the moment (the time) of the acts in later lines.
     Moment(u64),
-    /// `counter C` asks for the value and the bound of counter C, counted from 0.
+    /// `counter C` asks for the value and the bound of counter C.
     Counter(u32),
     /// `journal` asks for all entries of the history.
     Journal,
 }
 
-/// Returns whether `word` is `name` and `value` isn't empty.
 fn is_pair(word: &[u8], name: &[u8], value: &[u8]) -> bool
     ensures { result ≡ is_named word.now name.now value.now }
 {
     word == name && !value.is_empty()
 }
 
-/// Parses the words of a line as an act of any role. The errors are those of `parse_script_line`.
 fn read_act(alloc: Global, words: &[&[u8]]) -> Result<ScriptLine, LineFault>
     ensures given { Gives result (act_line (map (λ w. w.now) words.now)) }
     ensures memory { result ≡ Err LineFault.OutOfMemory → IsLoad Role.All (map (λ w. w.now) words.now) }
@@ -38,8 +36,6 @@ fn read_act(alloc: Global, words: &[&[u8]]) -> Result<ScriptLine, LineFault>
     Ok(ScriptLine::Act(parse_words(alloc, Role::All, words)?))
 }
 
-/// Parses a line of one word: `journal`, or else an act. `words` has only this word. The errors are those of
-/// `parse_script_line`.
 fn read_alone(alloc: Global, word: &[u8], words: &[&[u8]]) -> Result<ScriptLine, LineFault>
     ensures given { Gives result (line_alone word.now (map (λ w. w.now) words.now)) }
     ensures memory { result ≡ Err LineFault.OutOfMemory → IsLoad Role.All (map (λ w. w.now) words.now) }
@@ -51,8 +47,6 @@ fn read_alone(alloc: Global, word: &[u8], words: &[&[u8]]) -> Result<ScriptLine,
     }
 }
 
-/// Parses a line of two words: `moment N`, `counter C`, or else an act. `words` has both words. The errors are those of
-/// `parse_script_line`.
 fn read_with_value(
     alloc: Global,
     word: &[u8],
@@ -73,7 +67,6 @@ fn read_with_value(
     read_act(alloc, words)
 }
 
-/// Parses the words of a script's line. The errors are those of `parse_script_line`.
 fn read_words(alloc: Global, words: &[&[u8]]) -> Result<ScriptLine, LineFault>
     ensures given { Gives result (line_of_words (map (λ w. w.now) words.now)) }
     ensures memory { result ≡ Err LineFault.OutOfMemory → IsLoad Role.All (map (λ w. w.now) words.now) }
@@ -85,8 +78,7 @@ fn read_words(alloc: Global, words: &[&[u8]]) -> Result<ScriptLine, LineFault>
     }
 }
 
-/// Parses a line of a script, which is given without its LF. The error is `BadLine` if the words have none of the known
-/// forms, `BadNumber` if a value can't be read, or `OutOfMemory` if there was no memory for the bytes of a load.
+/// Parses a line of a script, without its LF. Memory is taken for the bytes of a load alone.
 pub fn parse_script_line(alloc: Global, line: &[u8]) -> Result<ScriptLine, LineFault>
     ensures given { Gives result (line_of line.now) }
     ensures memory { result ≡ Err LineFault.OutOfMemory → IsLoad Role.All (words_of line.now) }

@@ -1,4 +1,4 @@
-//! Reading of the files that say what a site begins with: its configuration, and its opening.
+//! Reads the files that say what a site begins with.
 ghost use Rattle.std.specs.Prelude.{◌≡◌, ◌&&◌, [], false, None, Some, Ok, IfOk, IfErr, IsErrAnd, IsSome, IsTrue, option_map};
 ghost use Rattle.site_core.specs.Limits.{ConfigValue};
 ghost use Rattle.site_config.specs.Flaws.{fault_of};
@@ -17,8 +17,7 @@ use site_config::ranges::read_settings;
 use site_config::{ConfigFault, ConfigFlaw, Settings};
 use std::alloc::Global;
 
-/// The arguments that name the files of a site: its configuration, and the opening that it begins with, if there is
-/// one.
+/// The arguments that name a site's configuration, and the opening that it begins with.
 #[derive(Clone, Copy)]
 pub struct SiteFiles<'a> {
     config: &'a str,
@@ -33,7 +32,6 @@ impl<'a> SiteFiles<'a> {
         SiteFiles { config, opening }
     }
 
-    /// Returns the argument that names the configuration.
     pub fn config(self) -> &'a str
         ensures { result.now ≡ self.entry.config.now }
     {
@@ -50,8 +48,7 @@ impl<'a> SiteFiles<'a> {
     }
 }
 
-/// Reads the configuration of a site, and then the site's opening, if `site` names one. The error is that a file can't
-/// be read or is refused, or that both files are standard input.
+/// Reads the configuration of a site, and then its opening.
 pub fn day_of(rt: &HostRuntime, site: SiteFiles<'_>) -> Result<Day, JobError>
     ensures twice { IsTrue (is_input site.entry.config.now && may_be_input (option_map (λ w. w.now) site.entry.opening))
         → IsErrAnd result (Ends 2 []) }
@@ -80,7 +77,6 @@ pub fn day_of(rt: &HostRuntime, site: SiteFiles<'_>) -> Result<Day, JobError>
     }
 }
 
-/// Makes the error for a command line that names standard input for two files.
 fn refuse_twice(alloc: Global) -> JobError
     ensures { Ends 2 [] result }
 {
@@ -88,8 +84,7 @@ fn refuse_twice(alloc: Global) -> JobError
     JobError::message(alloc, &words, USAGE)
 }
 
-/// Reads the settings in `text`, the text of a configuration in the file that `word` names. The error is that the text
-/// is refused.
+/// Reads the text of a configuration, in the file that `word` names.
 pub fn settings_in(rt: &HostRuntime, word: &str, text: &[u8]) -> Result<Settings, JobError>
     ensures read { IfOk result (λ settings. config_of text.now ≡ Ok (settings_view settings)) }
     ensures refused { IfErr result (Refuses 1) }
@@ -100,7 +95,6 @@ pub fn settings_in(rt: &HostRuntime, word: &str, text: &[u8]) -> Result<Settings
     }
 }
 
-/// Makes the error for a configuration, in the file that `word` names, that is refused (K1 to K3).
 fn refuse_config(alloc: Global, word: &str, flaw: &ConfigFlaw) -> JobError
     ensures refused { RefusesConfig (fault_of flaw.now) result }
     ensures status { Refuses 1 result }
@@ -118,8 +112,7 @@ fn refuse_config(alloc: Global, word: &str, flaw: &ConfigFlaw) -> JobError
     JobError::refused(alloc, place, flaw, code)
 }
 
-/// Reads the site's configuration, and its opening, if `site` names one. Then opens the file that `other` names. The
-/// error is that a file can't be used or is refused, or that two of them are standard input.
+/// Reads a site like `day_of`, and then opens the file that `other` names.
 pub fn day_and(
     rt: &HostRuntime,
     site: SiteFiles<'_>,

@@ -13,25 +13,22 @@ use std::alloc::{AllocError, Global};
 /// An argument of a subcommand.
 #[derive(Clone, Copy)]
 enum Argument {
-    /// A file that must be given: the argument's name, and its help text.
+    /// Its name, and its help text; so below.
     File(&'static str, &'static str),
-    /// A file that can be left out: the argument's name, and its help text.
+    /// A file that can be left out.
     SpareFile(&'static str, &'static str),
-    /// The argument that says which rows `export` prints.
+    /// Which rows `export` prints.
     Kind,
-    /// The option `--counters MASK`.
     Mask,
-    /// The option `--context LAYOUT`.
     Context,
-    /// An option `--NAME FILE`: its name, and its help text.
+    /// An option `--NAME FILE`.
     FileOption(&'static str, &'static str),
-    /// The option `--days FOLDER`: its help text.
+    /// The help text of `--days FOLDER`.
     Days(&'static str),
-    /// An option without a value: its name, and its help text.
+    /// An option without a value.
     Flag(&'static str, &'static str),
 }
 
-/// A subcommand: its name, its help text, an example, and its arguments.
 #[derive(Clone, Copy)]
 struct SubcommandDescription {
     name: &'static str,
@@ -40,7 +37,6 @@ struct SubcommandDescription {
     arguments: &'static [Argument],
 }
 
-/// Makes the argument for a file that must be given.
 fn file_arg<'a>(alloc: Global, name: &'a str, help: &'a str) -> Arg<'a>
     ensures rule { rule_of result ≡ file_rule name.entry.now }
     ensures local { result.global ≡ false }
@@ -48,7 +44,6 @@ fn file_arg<'a>(alloc: Global, name: &'a str, help: &'a str) -> Arg<'a>
     Arg::new(alloc, name).help(help).required(true)
 }
 
-/// Makes the argument for a file that can be left out.
 fn spare_arg<'a>(alloc: Global, name: &'a str, help: &'a str) -> Arg<'a>
     ensures rule { rule_of result ≡ spare_rule name.entry.now }
     ensures local { result.global ≡ false }
@@ -56,7 +51,6 @@ fn spare_arg<'a>(alloc: Global, name: &'a str, help: &'a str) -> Arg<'a>
     Arg::new(alloc, name).help(help)
 }
 
-/// Makes the argument that says which rows `export` prints.
 fn kind_arg<'a>(alloc: Global) -> Arg<'a>
     ensures rule { rule_of result ≡ kind_rule }
     ensures local { result.global ≡ false }
@@ -64,7 +58,7 @@ fn kind_arg<'a>(alloc: Global) -> Arg<'a>
     file_arg(alloc, "kind", "which rows: sales, decisions or events")
 }
 
-/// Makes an option `--NAME VALUE`. In the help text, its value is shown as `value`, for example `FILE`.
+/// In the help text, the option's value is shown as `value`, for example `FILE`.
 fn option_arg<'a>(alloc: Global, name: &'a str, value: &'a str, help: &'a str) -> Arg<'a>
     ensures rule { rule_of result ≡ option_rule name.entry.now }
     ensures local { result.global ≡ false }
@@ -75,8 +69,7 @@ fn option_arg<'a>(alloc: Global, name: &'a str, value: &'a str, help: &'a str) -
         .help(help)
 }
 
-/// Makes the option `--counters`: the mask of the counters that a program declares, a number below 2^32 in which bit c
-/// is counter c. It is 0 if the option isn't given.
+/// The mask of the counters that a program declares: bit c is counter c.
 fn mask_arg<'a>(alloc: Global) -> Arg<'a>
     ensures rule { rule_of result ≡ mask_rule }
     ensures local { result.global ≡ false }
@@ -87,8 +80,6 @@ fn mask_arg<'a>(alloc: Global) -> Arg<'a>
         .value_parser(value_parser!(u32))
 }
 
-/// Makes the option `--context`: the layout of the contexts that a program is run on. It is `1` if the option isn't
-/// given.
 fn context_arg<'a>(alloc: Global) -> Arg<'a>
     ensures rule { rule_of result ≡ context_rule }
     ensures local { result.global ≡ false }
@@ -97,7 +88,6 @@ fn context_arg<'a>(alloc: Global) -> Arg<'a>
     option_arg(alloc, "context", "LAYOUT", help).default_value("1")
 }
 
-/// Makes an option `--NAME` without a value.
 fn flag_arg<'a>(alloc: Global, name: &'a str, help: &'a str) -> Arg<'a>
     ensures rule { rule_of result ≡ flag_rule name.entry.now }
     ensures local { result.global ≡ false }
@@ -235,7 +225,6 @@ K configuration, L line, N device, O days that don't follow one another, S refus
 docs/use/reference.md names each.
 Status: 0 done, 1 the input is refused, 2 the words are wrong, 3 a device failed or memory ran out.";
 
-/// Returns an argument in the form that `clap` takes.
 fn argument_of<'a>(alloc: Global, argument: Argument) -> Arg<'a>
     ensures rule { rule_of result ≡ rule_for argument }
     ensures local { result.global ≡ false }
@@ -252,7 +241,6 @@ fn argument_of<'a>(alloc: Global, argument: Argument) -> Arg<'a>
     }
 }
 
-/// Makes the `clap` command for a subcommand, without its arguments.
 fn described<'a>(alloc: Global, word: SubcommandDescription) -> Command<'a>
     ensures app { app_of result ≡ new_app word.name.now }
     ensures local { (out-Command result).has_globals ≡ false }
@@ -262,7 +250,6 @@ fn described<'a>(alloc: Global, word: SubcommandDescription) -> Command<'a>
         .after_help(word.example)
 }
 
-/// Makes the `clap` command for a subcommand, with its arguments. The error is that memory ran out.
 fn subcommand_of<'a>(alloc: Global, word: SubcommandDescription) -> Result<Command<'a>, AllocError>
     ensures app { IfOk result (λ c. app_of c ≡ app_for word) }
     ensures local { IfOk result (λ c. (out-Command c).has_globals ≡ false) }
@@ -274,7 +261,6 @@ fn subcommand_of<'a>(alloc: Global, word: SubcommandDescription) -> Result<Comma
     Ok(command)
 }
 
-/// Adds a subcommand to the command `some`, and returns the result. The error is that memory ran out.
 fn with_word<'a>(
     alloc: Global,
     some: Command<'a>,
@@ -286,7 +272,6 @@ fn with_word<'a>(
     some.subcommand(subcommand)
 }
 
-/// Makes the `clap` command for the whole program, without its subcommands.
 fn top_command<'a>(alloc: Global) -> Command<'a>
     ensures { app_of result ≡ top_app }
 {
@@ -296,7 +281,6 @@ fn top_command<'a>(alloc: Global) -> Command<'a>
         .after_help(AFTER)
 }
 
-/// Makes the `clap` command for the whole program, with these subcommands. The error is that memory ran out.
 fn with_words<'a>(alloc: Global, words: &[SubcommandDescription]) -> Result<Command<'a>, AllocError>
     ensures { IfOk result (λ c. app_of c ≡ with_words top_app words.now) }
 {
@@ -307,7 +291,6 @@ fn with_words<'a>(alloc: Global, words: &[SubcommandDescription]) -> Result<Comm
     Ok(command)
 }
 
-/// Makes the `clap` command for the whole program, with all its subcommands. The error is that memory ran out.
 pub fn fc<'a>(alloc: Global) -> Result<Command<'a>, AllocError>
     ensures { IfOk result (λ c. app_of c ≡ fc_app) }
 {

@@ -2,9 +2,8 @@
 
 use std::fmt::{self, Write as _};
 
-/// A value that is written as its `Display` writes it, but with each control character (U+0000 to U+001F, and U+007F to
-/// U+009F) escaped: as `\n`, `\r` or `\t`, or as its number in hexadecimal digits, as in `\u{1b}`. All other characters
-/// are written as they are, a backslash too.
+/// A value written as its `Display` writes it, with each control character (U+0000 to U+001F, and U+007F to U+009F)
+/// escaped: as `\n`, `\r` or `\t`, or by its number, as in `\u{1b}`. All else is written as it is, a backslash too.
 #[derive(Clone, Copy)]
 pub struct Printable<'a, D>(pub &'a D);
 
