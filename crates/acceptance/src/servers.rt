@@ -4,7 +4,7 @@ use line_session::Doors;
 use site_core::{Config, Watched};
 use site_server::{
     AtOnce, Crew, Listener, NoJournal, NoWatcher, Notices, OpenDoor, Serving, ServingHooks,
-    SessionFailure, SharedDoor, SocketDoors, Stream,
+    SessionFailure, SharedDoor, SocketDoors, Stream, ThreadCounts,
 };
 use std::alloc::{AllocError, Global};
 use std::io;
@@ -38,6 +38,10 @@ impl Notices for Silent {
     fn turned_away(&self, _role: Role, _pass: u32) {}
 
     fn line_read(&self, _role: Role, _pass: u32) {}
+
+    fn began(&self, _role: Role, _pass: u32) {}
+
+    fn started(&self, _threads: ThreadCounts) {}
 
     fn connected(&self, _role: Role, _pass: u32) {}
 
@@ -165,6 +169,7 @@ fn serving(alloc: Global, ports: Ports) -> Result<Serving, Fail> {
         crew,
         connections: Some(1),
         idle_seconds: 0,
+        ready_entries: 0,
     })
 }
 

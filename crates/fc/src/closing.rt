@@ -21,6 +21,10 @@ pub fn unclosed(alloc: Global, config_name: &str, why: ServeFault) -> JobError {
     match why {
         ServeFault::NotClosed(why) => refuse_close(alloc, config_name, why),
         ServeFault::OutOfMemory => JobError::OutOfMemory,
+        ServeFault::TooFewThreads => {
+            let words = "not served: the system gave too few threads for a worker of each role";
+            JobError::at(alloc, Place::of(config_name), &words, FAILED)
+        }
         // This case never happens: the journal `NoJournal` can't fail, and with another journal the caller handles this
         // fault itself.
         ServeFault::Journal => JobError::silent(alloc, FAILED),

@@ -1,11 +1,11 @@
 //! The lines that are printed for an operator on standard error while a site is served.
 ghost use Rattle.std.specs.Prelude.{◌≡◌, is_some};
 
-use crate::doors::DoorAddress;
+use crate::doors::{DoorAddress, DoorListing};
 use file_jobs::messages::print_message;
 use page_port::ConnectionCounts;
-use site_config::Door;
-use site_server::{Limiter, Notices, SessionFailure, SessionFault};
+use site_config::{Door, Serve};
+use site_server::{Limiter, Notices, SessionFailure, SessionFault, ThreadCounts};
 use std::fmt::{self, Display};
 use std::io;
 use std::sync::{Mutex, Wait};
@@ -28,7 +28,7 @@ pub struct OperatorReports<'a, H: Wait + Clock> {
     limiter: Mutex<Limiter>,
     /// Limits the reports on connections that speak another protocol, by the minute.
     strangers: Mutex<Limiter>,
-    doors: &'a [Door],
+    serve: &'a Serve,
     connections: Option<&'a ConnectionCounts>,
 }
 
@@ -44,6 +44,38 @@ impl Display for Peer {
             Role::Dispenser | Role::SomePoints(_) => f.write_str("a dispenser"),
             Role::Owner | Role::All => f.write_str("the owner"),
         }
+    }
+}
+
+/// How many workers have a thread, in all and for each role that has workers.
+#[derive(Clone, Copy)]
+struct ThreadsFound(ThreadCounts);
+
+impl Display for ThreadsFound {
+    fn fmt<W: fmt::Write>(&self, f: &mut fmt::Formatter<W>) -> fmt::Result {
+        let ThreadCounts {
+            tills,
+            dispensers,
+            owner,
+        } = self.0;
+        let all = self.0.all();
+        write!(
+            f,
+            "the system gave threads to {} of {} workers:",
+            all.threads, all.workers
+        )?;
+        let mut between = " ";
+        for (name, role) in [
+            ("tills", tills),
+            ("dispensers", dispensers),
+            ("owner", owner),
+        ] {
+            if role.workers > 0 {
+                write!(f, "{between}{name} {} of {}", role.threads, role.workers)?;
+                between = ", ";
+            }
+        }
+        Ok(())
     }
 }
 
@@ -85,7 +117,7 @@ impl<'a, H: Wait + Clock> OperatorReports<'a, H> {
     pub fn new(
         rt: &'a HostRuntime,
         host: &'a H,
-        doors: &'a [Door],
+        serve: &'a Serve,
         connections: Option<&'a ConnectionCounts>,
     ) -> OperatorReports<'a, H> {
         OperatorReports {
@@ -93,7 +125,7 @@ impl<'a, H: Wait + Clock> OperatorReports<'a, H> {
             host,
             limiter: Mutex::new(Limiter::new(MOST_IN_SECOND)),
             strangers: Mutex::new(Limiter::new(MOST_STRANGERS_IN_MINUTE)),
-            doors,
+            serve,
             connections,
         }
     }
@@ -182,7 +214,7 @@ impl<H: Wait + Clock> Notices for OperatorReports<'_, H> {
         if let Some(connections) = self.connections {
             connections.turned_away(role, pass);
         }
-        let Some(door) = door_at(self.doors, pass) else {
+        let Some(door) = door_at(&self.serve.doors, pass) else {
             return;
         };
         if self.is_stranger_admitted() {
@@ -197,6 +229,26 @@ impl<H: Wait + Clock> Notices for OperatorReports<'_, H> {
     fn line_read(&self, role: Role, pass: u32) {
         if let Some(connections) = self.connections {
             connections.line_read(role, pass);
+        }
+    }
+
+    fn began(&self, role: Role, _pass: u32) {
+        if let Some(connections) = self.connections {
+            connections.began(role);
+        }
+    }
+
+    fn started(&self, threads: ThreadCounts) {
+        let all = threads.all();
+        if all.threads < all.workers {
+            print_message(self.rt, &ThreadsFound(threads));
+        }
+        if threads.serves_each_role() {
+            let listing = DoorListing {
+                doors: &self.serve.doors,
+                page_port: self.serve.page_port,
+            };
+            print_message(self.rt, &listing);
         }
     }
 

@@ -8,7 +8,10 @@ use till_request::Role;
 /// Counts the workers and the connections of one role: tills, dispensers or owner.
 #[derive(Drop)]
 struct RoleCounters {
+    /// How many workers the doors of this role have.
     workers: u32,
+    /// How many of them have a thread, or had one.
+    began: AtomicU32,
     /// How many workers have served their last connection.
     left: AtomicU32,
     opened: AtomicU64,
@@ -19,6 +22,7 @@ impl RoleCounters {
     fn new() -> RoleCounters {
         RoleCounters {
             workers: 0,
+            began: AtomicU32::new(0),
             left: AtomicU32::new(0),
             opened: AtomicU64::new(0),
             closed: AtomicU64::new(0),
@@ -28,13 +32,12 @@ impl RoleCounters {
     /// Returns these counts: the workers that still serve, the open connections, and all connections so far. `role` is
     /// only copied to the result. A connection that ends during this call can still count as open.
     fn role_counts(&self, role: Role) -> RoleCounts {
+        let left = self.left.load(Ordering::SeqCst);
         let closed = self.closed.load(Ordering::SeqCst);
         let total = self.opened.load(Ordering::SeqCst);
         RoleCounts {
             role,
-            workers: self
-                .workers
-                .saturating_sub(self.left.load(Ordering::SeqCst)),
+            workers: self.began.load(Ordering::SeqCst).saturating_sub(left),
             open: total.saturating_sub(closed),
             total,
         }
@@ -177,6 +180,11 @@ impl ConnectionCounts {
             passes = others;
         }
         Ok(door_counts)
+    }
+
+    /// Counts that a worker with this role has a thread.
+    pub fn began(&self, role: Role) {
+        self.counted(role).began.fetch_add(1, Ordering::SeqCst);
     }
 
     /// Counts that a connection of a worker with this role was opened.

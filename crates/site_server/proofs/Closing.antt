@@ -11,7 +11,7 @@ use Rattle.site_server.specs.Plans.{Plan}
 use Rattle.site_server.specs.Ending.{HaveWorked, IsReturned, IsServed, RefusesWithFault, ServingFails, StaysUnclosed}
 use Rattle.site_server.specs.Tasks.{WorkedAll}
 use Rattle.site_server.specs.declared.serving.ServeFault.{ServeFault}
-use Rattle.site_server.specs.declared.serving.ServeFault.TheVariants.{OutOfMemory, Journal, NotClosed}
+use Rattle.site_server.specs.declared.serving.ServeFault.TheVariants.{OutOfMemory, TooFewThreads, Journal, NotClosed}
 
 pub if_ok_both : {T E : Type 0} (P Q R : T → Type 0) (r : Result T E) → ((x : T) → P x → Q x → R x) → IfOk r P → IfOk r Q → IfOk r R
 if_ok_both P Q R (Ok x) more h k = more x h k
@@ -45,6 +45,7 @@ module _ (plan : Plan) (from : Opened) (same : from ≡ plan.from) (passes : Lis
 
   pub spoils_so : (fault : ServeFault) → AreAll plan.from.passes passes → RefusesWithFault from plan.may_fail passes fault → ServingFails plan fault
   spoils_so OutOfMemory all h = tt
+  spoils_so TooFewThreads all h = tt
   spoils_so Journal all h = refused_so Journal all h
   spoils_so (NotClosed why) all h = refused_so (NotClosed why) all h
 

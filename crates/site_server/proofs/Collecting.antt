@@ -16,7 +16,7 @@ use Rattle.site_server.specs.declared.crew.Worker.{Worker}
 use Rattle.site_server.specs.Crews.{roles_of}
 use Rattle.site_server.specs.Plans.{Plan}
 use Rattle.site_server.specs.Ending.{IsReturned, AreReturned, HaveWorked, all_clean}
-use Rattle.site_server.specs.Collecting.{AreWaiting, RunsWorker, collected, clean_in}
+use Rattle.site_server.specs.Collecting.{AreWaiting, RunEach, RunsWorker, collected, clean_in}
 use Rattle.site_server.specs.Tasks.{WorkedAll}
 use Rattle.site_server.proofs.Numbering.{all_worked}
 
@@ -91,34 +91,33 @@ module _ (may_fail : Type 0) (workers : List Worker) (connections : Option ℕ) 
   abbrev WaitsAt : List (Option (PassView × Worker)) → ℕ → ℕ → Option (PassView × Worker) → Type 0
   WaitsAt tasks k n e = (worker : Worker) × (slice_get workers n ≡ Some worker) × (slice_index_or tasks k e ≡ Some (new_pass (n + 1), worker))
 
-  all_back : {P : Type 0} (w : P → Option (PassView × Worker)) (d : P → Option (PassView × ℕ)) (b : ℕ) (xs ys : List P) → length ys ≡ length xs
-      → ((k n : ℕ) (e : Option (PassView × Worker)) → n ≡ b + k → k < length xs → WaitsAt (map w xs) k n e)
-      → ((k : ℕ) (e : P) → k < length xs → RunsWorker own may_fail connections (w (slice_index_or xs k e)) (d (slice_index_or ys k e)))
-      → AllBack b (map d ys)
-  all_back w d b [] [] is waiting manned = tt
-  all_back w d b [] (y ∷ ys) is waiting manned = absurd (omega arith)
-  all_back w d b (x ∷ xs) [] is waiting manned = absurd (omega arith)
-  all_back w d b (x ∷ xs) (y ∷ ys) is waiting manned =
-      let first : WaitsAt (map w (x ∷ xs)) 0 b None = waiting 0 b None (omega arith) (omega arith) in
-      one_back b first.0 (d y) (map d ys) first.1
-      (subst (λ (z : Option (PassView × Worker)). RunsWorker own may_fail connections z (d y)) first.2 (manned 0 x (omega arith)))
-      (all_back w d (b + 1) xs ys (omega arith) (λ k n e num lt. waiting (suc k) n e (omega arith) (omega arith)) (λ k e lt. manned (suc k) e (omega arith)))
+  all_back : (b : ℕ) (waiting : List (Option (PassView × Worker))) (done : List (Option (PassView × ℕ)))
+      → RunEach own may_fail connections waiting done
+      → ((k n : ℕ) (e : Option (PassView × Worker)) → n ≡ b + k → k < length waiting → WaitsAt waiting k n e)
+      → AllBack b done
+  all_back b [] [] ran at = tt
+  all_back b [] (y ∷ ys) ran at = absurd ran
+  all_back b (x ∷ xs) [] ran at = absurd ran
+  all_back b (x ∷ xs) (y ∷ ys) ran at =
+      let first : WaitsAt (x ∷ xs) 0 b None = at 0 b None (omega arith) (omega arith) in
+      one_back b first.0 y ys first.1 (subst (λ (z : Option (PassView × Worker)). RunsWorker own may_fail connections z y) first.2 ran.0)
+      (all_back (b + 1) xs ys ran.1 (λ k n e num lt. at (suc k) n e (omega (arith, num)) (omega (arith, lt))))
+
+  as_many_ran : (waiting : List (Option (PassView × Worker))) (done : List (Option (PassView × ℕ))) → RunEach own may_fail connections waiting done
+      → length done ≡ length waiting
+  as_many_ran [] [] ran = refl
+  as_many_ran [] (y ∷ ys) ran = absurd ran
+  as_many_ran (x ∷ xs) [] ran = absurd ran
+  as_many_ran (x ∷ xs) (y ∷ ys) ran = (let more = as_many_ran xs ys ran.1 in omega (arith, more))
 
   -- When the tasks of all workers have run, each has the result of its worker, and there are as many tasks as workers.
-  -- `tasks` and `xs` are the tasks before, and `ys` the same tasks afterwards, in the same order. `w` reads the pass
-  -- and the worker that a task holds, and `d` its result.
-  pub all_done : {P : Type 0} (w : P → Option (PassView × Worker)) (d : P → Option (PassView × ℕ)) (tasks xs ys : List P)
-      → tasks ≡ xs → length ys ≡ length xs → AreWaiting workers (map w tasks)
-      → ((k : ℕ) (e : P) → k < length xs → RunsWorker own may_fail connections (w (slice_index_or xs k e)) (d (slice_index_or ys k e)))
-      → AllBack 0 (map d ys) × (length (map d ys) ≡ length workers)
-  all_done w d tasks xs ys same_tasks as_many waiting manned =
-      let there : AreWaiting workers (map w xs) = subst (λ l. AreWaiting workers (map w l)) same_tasks waiting in (
-        all_back w d 0 xs ys as_many
-            (λ k m e num lt. subst (λ (j : ℕ). WaitsAt (map w xs) k j e) (omega (arith, num))
-            (there.1 k e (omega (arith, lt, there.0, length-map xs w))))
-            manned,
-        length-map ys d ∙ as_many ∙ sym (length-map xs w) ∙ there.0,
-      )
+  pub all_done : (waiting : List (Option (PassView × Worker))) (done : List (Option (PassView × ℕ))) → AreWaiting workers waiting
+      → RunEach own may_fail connections waiting done → AllBack 0 done × (length done ≡ length workers)
+  all_done waiting done are ran = (
+    all_back 0 waiting done ran
+        (λ k m e num lt. subst (λ (j : ℕ). WaitsAt waiting k j e) (omega (arith, num)) (are.1 k e (omega (arith, lt, are.0)))),
+    as_many_ran waiting done ran ∙ are.0,
+  )
 
   one_few : (b : ℕ) (r : PassView × ℕ) → IfSome connections (λ (n : ℕ). n < 4294967296) → IsReturned plan b r → r.1 < 4294967296
   one_few b r few h = all_few own may_fail h.1 connections r.1 (new_pass (b + 1)) r.0 few (subst (λ (c : ConfigValue). WorkedAll c may_fail h.1 connections r.1 (new_pass (b + 1)) r.0) same h.3)
@@ -161,13 +160,6 @@ module _ (may_fail : Type 0) (workers : List Worker) (connections : Option ℕ) 
       → passes ≡ room ++ collected tasks → HaveWorked plan passes clean → AreAll n passes
   are_all n tasks room passes clean back many none are worked =
       all_worked plan passes n clean (ap length (are ∙ ap (λ (ps : List PassView). ps ++ collected tasks) none) ∙ handed_length 0 tasks back ∙ many) worked
-
-module _ (config : ConfigValue) (may_fail : Type 0) (connections : Option ℕ) {P : Type 0} (w : P → Option (PassView × Worker)) (d : P
-    → Option (PassView × ℕ)) where
-  pub manned_so : (x y a b : P) → a ≡ x → b ≡ y → RunsWorker config may_fail connections (w a) (d b)
-      → RunsWorker config may_fail connections (w x) (d y)
-  manned_so x y a b is left h = subst (λ (p : P). RunsWorker config may_fail connections (w p) (d y)) is
-      (subst (λ (p : P). RunsWorker config may_fail connections (w a) (d p)) left h)
 
 abbrev pub here : PassView × Worker → Option (PassView × Worker)
 here pair = Some pair

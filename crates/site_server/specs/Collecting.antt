@@ -27,6 +27,19 @@ RunsWorker config may_fail connections None after = Unit {0}
 RunsWorker config may_fail connections (Some w) None = ⊥
 RunsWorker config may_fail connections (Some w) (Some d) = (d.0.id ≡ w.0.id) × WorkedAll config may_fail w.1.role connections d.1 w.0 d.0
 
+-- What a worker's thread returned is `after`, if it served at all: where the site isn't served, it returns None.
+abbrev pub MayRunWorker : ConfigValue → Type 0 → Option ℕ → Option (PassView × Worker) → Option (PassView × ℕ) → Type 0
+MayRunWorker config may_fail connections before None = Unit {0}
+MayRunWorker config may_fail connections before (Some done) = RunsWorker config may_fail connections before (Some done)
+
+-- Each of these tasks ran. `waiting` is what they held before, and `done` what they hold now.
+abbrev pub RunEach : ConfigValue → Type 0 → Option ℕ → List (Option (PassView × Worker)) → List (Option (PassView × ℕ)) → Type 0
+RunEach config may_fail connections [] [] = Unit {0}
+RunEach config may_fail connections [] (after ∷ done) = ⊥
+RunEach config may_fail connections (before ∷ waiting) [] = ⊥
+RunEach config may_fail connections (before ∷ waiting) (after ∷ done) =
+    RunsWorker config may_fail connections before after × RunEach config may_fail connections waiting done
+
 -- the passes of the finished tasks, in the order of the tasks
 abbrev pub collected : List (Option (PassView × ℕ)) → List PassView
 collected [] = []

@@ -12,7 +12,7 @@ use Rattle.site_server.specs.Crews.{roles_of}
 use Rattle.site_server.specs.Plans.{Plan}
 use Rattle.site_server.specs.Tasks.{WorkedAll}
 use Rattle.site_server.specs.declared.serving.ServeFault.{ServeFault}
-use Rattle.site_server.specs.declared.serving.ServeFault.TheVariants.{OutOfMemory, Journal, NotClosed}
+use Rattle.site_server.specs.declared.serving.ServeFault.TheVariants.{OutOfMemory, TooFewThreads, Journal, NotClosed}
 
 -- `IsReturned plan k done`: the worker with pass k + 1 served its connections, in the plan's role at place k. It
 -- returned `done`: its pass, and how many of these connections ended without a SessionFault.
@@ -71,6 +71,7 @@ fault_of_close why journal_has_failed = if journal_has_failed then Journal else 
 -- A close with these passes was refused. The fault is `Journal` exactly if the journal had failed.
 abbrev pub RefusesWithFault : Opened → Type 0 → List PassView → ServeFault → Type 0
 RefusesWithFault from may_fail passes OutOfMemory = ⊥
+RefusesWithFault from may_fail passes TooFewThreads = ⊥
 RefusesWithFault from may_fail passes Journal = (why : CloseRefusal) × RefusesClose from may_fail passes true why
 RefusesWithFault from may_fail passes (NotClosed why) = RefusesClose from may_fail passes false why
 
@@ -84,9 +85,17 @@ pub record StaysUnclosed (plan : Plan) (fault : ServeFault) : Type 0 where
   pub refused : RefusesWithFault plan.from plan.may_fail passes fault
 
 -- What holds if serving ended with this fault:
--- - `OutOfMemory`: nothing is claimed.
+-- - `OutOfMemory` or `TooFewThreads`: nothing is claimed.
 -- - `Journal` or `NotClosed`: the workers returned all passes, but the close with them was refused.
 abbrev pub ServingFails : Plan → ServeFault → Type 0
 ServingFails plan OutOfMemory = Unit {0}
+ServingFails plan TooFewThreads = Unit {0}
 ServingFails plan Journal = StaysUnclosed plan Journal
 ServingFails plan (NotClosed why) = StaysUnclosed plan (NotClosed why)
+
+-- serving ended with this fault before any connection was served
+abbrev pub NeverServes : ServeFault → Type 0
+NeverServes OutOfMemory = Unit {0}
+NeverServes TooFewThreads = Unit {0}
+NeverServes Journal = ⊥
+NeverServes (NotClosed why) = ⊥

@@ -9,5 +9,6 @@ pub mod Pace
 pub mod Pacing
 pub mod Pauses
 pub mod Plans
+pub mod Starting
 pub mod Tasks
 pub mod Words

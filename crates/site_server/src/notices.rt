@@ -1,4 +1,5 @@
 //! What is reported to an operator while a site is served.
+use crate::starting::ThreadCounts;
 use line_session::SessionFault;
 use std::{fmt, io};
 use till_request::{LineFault, Role};
@@ -74,6 +75,13 @@ pub trait Notices {
     /// Reports that a line of a connection of the worker with this role and this pass number was read.
     fn line_read(&self, role: Role, pass: u32)
         ensures { line_reported role pass };
+
+    /// Reports that the worker with this role and this pass number has a thread. It serves once `started` has returned.
+    fn began(&self, role: Role, pass: u32);
+
+    /// Reports which workers have a thread, once all have been asked for. If a role has none, the site isn't served;
+    /// else it is from now on, and a worker without a thread begins only when others have ended.
+    fn started(&self, threads: ThreadCounts);
 
     /// Reports that a connection was opened for the worker with this role and this pass number.
     fn connected(&self, role: Role, pass: u32);

@@ -2,11 +2,13 @@
 ghost use Rattle.std.specs.Prelude.{◌≡◌, ◌<◌, ◌≤◌, ◌^◌, [], IfErr, IfOk, IfSome, IsErrAnd, None, Some, length, map, vec_capacity};
 ghost use Rattle.site_lock.specs.Closing.{ClosesSince};
 ghost use Rattle.site_server.specs.Plans.{plan_of};
-ghost use Rattle.site_server.specs.Ending.{IsServed, RefusesWithFault, ServingFails, RunsAllTasks, fault_of_close};
-ghost use Rattle.site_server.specs.Collecting.{AreWaiting, HasCrew, RunsWorker};
+ghost use Rattle.site_server.specs.Ending.{IsServed, NeverServes, RefusesWithFault, ServingFails, RunsAllTasks, fault_of_close};
+ghost use Rattle.site_server.specs.Collecting.{AreWaiting, HasCrew, RunEach};
 
 use crate::crew::Crew;
 use crate::notices::Notices;
+use crate::running::run_in_threads;
+use crate::starting::StartGate;
 use crate::tasks::{WorkerTask, collect_passes, tasks_of};
 use crate::watcher::Watcher;
 use crate::workers::Workers;
@@ -34,6 +36,9 @@ pub struct Serving<J: Journal = NoJournal> {
     pub connections: Option<u32>,
     /// How many seconds at most a peer is allowed to send nothing, or to take no bytes of an answer. 0 is no limit.
     pub idle_seconds: u32,
+    /// For how many further entries memory is made ready before the first connection is served, if there is enough. An
+    /// entry without such memory holds the site's lock while the system finds it.
+    pub ready_entries: usize,
 }
 
 /// What serving a site needs besides the site: `notices` receives the workers' reports, `release` decides when an
@@ -60,6 +65,8 @@ pub struct Served<J: Journal = NoJournal> {
 #[derive(Clone, Copy)]
 pub enum ServeFault {
     OutOfMemory,
+    /// The system gave so few threads that a role has no worker, so nothing was served.
+    TooFewThreads,
     /// The journal failed, so the act of the last entry was never answered.
     Journal,
     /// The close was refused because the workers' receipts differ from the site's history (C2). `Serving::run` returns
@@ -176,12 +183,9 @@ struct Returned<L: SiteLedger> {
     clean: u64,
 }
 
-/// Runs all tasks, each in a thread of its own where one can be made, and then asks the watcher to stop looking at the
-/// site. Returns the tasks' passes, which it moves into `passes`, and the number of connections whose sessions ended
-/// without a `SessionFault`.
-///
-/// `passes` must be empty and have room for one pass from each task. `tasks` must be those of a whole crew, and must
-/// not have run yet. The configuration of the forecourt must be that of the ledger `L`.
+/// Runs all tasks, and then asks the watcher to stop looking at the site. Moves the tasks' passes into `passes`, which
+/// must be empty and have room for them. `tasks` must be those of a whole crew, and must not have run yet. Returns `None`
+/// if the system gave too few threads; then no task ran.
 fn work_all<
     L: SiteLedger + Send + Sync,
     J: Journal + Send,
@@ -191,31 +195,22 @@ fn work_all<
     R: Threads + Wait + Clock + Sync,
 >(
     workers: &Workers<'_, L, J, N, A, R>,
-    mut tasks: Vec<WorkerTask<L>>,
+    tasks: Vec<WorkerTask<L>>,
     mut passes: Vec<Pass<L>>,
     watcher: &W,
-) -> Returned<L>
+) -> Option<Returned<L>>
     requires waiting { HasCrew (map (λ p. p.waiting) tasks.items) }
     requires room { (passes.items ≡ []) × (length tasks.items ≤ vec_capacity passes) }
     requires config { workers.now.forecourt.config ≡ L.config }
-    ensures { RunsAllTasks workers.now.forecourt J.may_fail workers.now.connections (map (λ p. p.waiting) tasks.items)
-        result.passes.items result.clean }
+    ensures { IfSome result (λ r. RunsAllTasks workers.now.forecourt J.may_fail workers.now.connections
+        (map (λ p. p.waiting) tasks.items) r.passes.items r.clean) }
 {
     prove_few(workers.connections);
-    let most = tasks.len().max(1);
-    let all = tasks.as_mut_slice();
-    thread::for_each_mut(
-        workers.rt,
-        all,
-        most,
-        &|_: usize, task: &mut WorkerTask<L>|
-            ensures { RunsWorker L.config J.may_fail workers.entry.now.connections
-                task.entry.now.waiting task.exit.now.done }
-        { workers.work(task) },
-    );
-    let clean = collect_passes(all, &mut passes);
+    let done = run_in_threads(workers, tasks);
     watcher.leave();
-    Returned { passes, clean }
+    let mut done = done?;
+    let clean = collect_passes(done.as_mut_slice(), &mut passes);
+    Some(Returned { passes, clean })
 }
 
 impl<J: Journal + Send> Serving<J> {
@@ -227,10 +222,11 @@ impl<J: Journal + Send> Serving<J> {
     /// The error is:
     ///
     /// - `OutOfMemory`: nothing was served, and the site and the journal are given back.
+    /// - `TooFewThreads`: nothing was served.
     /// - `Journal`: the journal failed.
     /// - `NotClosed`: the close was refused.
     ///
-    /// If `connections` is `None`, the only result is the error `OutOfMemory`; else this doesn't return.
+    /// If `connections` is `None`, this returns only if nothing was served.
     pub fn run<
         N: Notices + Sync,
         A: Release + Sync,
@@ -249,7 +245,7 @@ impl<J: Journal + Send> Serving<J> {
         ensures memory { IfErr result
             (λ unclosed. unclosed.why ≡ ServeFault.OutOfMemory → unclosed.back ≡ Some (self.watched, self.journal)) }
         ensures endless { self.connections ≡ None
-            → IsErrAnd result (λ unclosed. unclosed.why ≡ ServeFault.OutOfMemory) }
+            → IsErrAnd result (λ unclosed. NeverServes unclosed.why) }
     {
         let blank = Blank::new(u64::from(self.crew.passes()));
         self.run_on::<Brand, N, A, W, R>(rt, alloc, blank, outside)
@@ -284,7 +280,7 @@ impl<J: Journal + Send> Serving<J> {
         ensures memory { IfErr result
             (λ unclosed. unclosed.why ≡ ServeFault.OutOfMemory → unclosed.back ≡ Some (self.watched, self.journal)) }
         ensures endless { self.connections ≡ None
-            → IsErrAnd result (λ unclosed. unclosed.why ≡ ServeFault.OutOfMemory) }
+            → IsErrAnd result (λ unclosed. NeverServes unclosed.why) }
     {
         let Serving {
             watched,
@@ -292,6 +288,7 @@ impl<J: Journal + Send> Serving<J> {
             crew,
             connections,
             idle_seconds,
+            ready_entries,
         } = self;
         let Ok(prepared) = prepare::<L>(alloc, watched.site().config(), blank, crew) else {
             return Err(Unclosed {
@@ -311,6 +308,8 @@ impl<J: Journal + Send> Serving<J> {
             forecourt: prepared.builder.open(watched, journal),
             notices,
             release,
+            gate: StartGate::new(),
+            ready_entries,
             connections,
             idle_seconds,
         };
@@ -321,10 +320,16 @@ impl<J: Journal + Send> Serving<J> {
                 requires waiting { HasCrew (map (λ p. p.waiting) tasks.items) }
                 requires room { (room.items ≡ []) × (length tasks.items ≤ vec_capacity room) }
                 requires config { workers.forecourt.config ≡ L.config }
-                ensures { RunsAllTasks workers.entry.forecourt J.may_fail workers.entry.connections
-                    (map (λ p. p.waiting) tasks.items) result.passes.items result.clean }
+                ensures { IfSome result (λ r. RunsAllTasks workers.entry.forecourt J.may_fail
+                    workers.entry.connections (map (λ p. p.waiting) tasks.items) r.passes.items r.clean) }
             { work_all(&workers, tasks, room, watcher) },
         );
+        let Some(returned) = returned else {
+            return Err(Unclosed {
+                why: ServeFault::TooFewThreads,
+                back: None,
+            });
+        };
         close(rt, workers.forecourt, returned.passes, returned.clean)
     }
 }

@@ -1,11 +1,12 @@
 //! What the workers of a served site share, and how a worker does its task.
-ghost use Rattle.std.specs.Prelude.{◌≡◌};
-ghost use Rattle.site_server.specs.Collecting.{RunsWorker};
+ghost use Rattle.std.specs.Prelude.{◌≡◌, Some};
+ghost use Rattle.site_server.specs.Collecting.{MayRunWorker};
 ghost use Rattle.site_server.specs.Tasks.{Worked};
 
+use crate::crew::Worker;
 use crate::doors::SocketDoors;
 use crate::notices::Notices;
-use crate::tasks::WorkerTask;
+use crate::starting::{StartGate, ThreadCounts};
 use group_sync::{HeldDoors, Release};
 use line_session::serving::worker;
 use line_session::{Doors, MachineClock};
@@ -24,6 +25,9 @@ pub struct Workers<'a, L: SiteLedger, J: Journal, N: Notices, A: Release, R: Wai
     pub notices: &'a N,
     /// Decides when an answer is allowed to be sent.
     pub release: &'a A,
+    pub(crate) gate: StartGate,
+    /// For how many further entries memory is made ready once the workers have their threads.
+    pub ready_entries: usize,
     /// The number of connections that each worker serves, one after another. `None` is without end.
     pub connections: Option<u32>,
     /// How many seconds at most a peer is allowed to send nothing, or to take no bytes of an answer. 0 is no limit.
@@ -38,14 +42,26 @@ impl<L: SiteLedger, J: Journal, N: Notices, A: Release, R: Wait + Clock> Workers
     A,
     R,
 > {
-    /// Runs a task: serves the worker's connections with the pass in `waiting`, and then puts the pass into `done`.
-    /// Does nothing if `waiting` is `None`. If connections are served without end, doesn't return.
-    pub fn work(&self, task: &mut WorkerTask<L>)
-        ensures { RunsWorker L.config J.may_fail self.now.connections task.old.waiting task.new.done }
+    /// Decides by the threads that there are whether the site is served, and lets the workers go on. Memory is made ready
+    /// only now, so that it leaves room for threads.
+    pub fn start(&self, threads: ThreadCounts) {
+        let is_served = threads.serves_each_role();
+        if is_served {
+            self.forecourt.make_ready(self.rt, self.ready_entries);
+        }
+        self.notices.started(threads);
+        self.gate.decide(self.rt, is_served);
+    }
+
+    /// Waits at the gate, and then serves the worker's connections with the pass. Returns the pass, and how many
+    /// sessions ended without a `SessionFault`; or `None` if the site isn't served.
+    pub fn work(&self, task: (Pass<L>, Worker)) -> Option<(Pass<L>, u64)>
+        ensures { MayRunWorker L.config J.may_fail self.now.connections (Some task) result }
     {
-        let Some((pass, worker)) = task.waiting.take() else {
-            return;
-        };
+        let (pass, worker) = task;
+        if !self.gate.wait(self.rt) {
+            return None;
+        }
         let (role, number) = (worker.role, pass.id());
         let doors = SocketDoors::new(
             self.rt,
@@ -58,8 +74,9 @@ impl<L: SiteLedger, J: Journal, N: Notices, A: Release, R: Wait + Clock> Workers
         let Some(connections) = self.connections else {
             self.serve_without_end(pass, role, doors)
         };
-        task.done = Some(self.serve(pass, role, doors, connections));
+        let done = self.serve(pass, role, doors, connections);
         self.notices.left(role, number);
+        Some(done)
     }
 
     /// Serves `connections` connections of `doors` with this pass and role. Each answer is sent once `release` allows

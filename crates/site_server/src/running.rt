@@ -1,0 +1,114 @@
+//! Runs the tasks of a site's workers in threads.
+ghost use Rattle.std.specs.Prelude.{◌≡◌, IfSome, IsTrue, Some, map};
+ghost use Rattle.site_server.specs.Collecting.{MayRunWorker, RunEach};
+
+use crate::crew::Worker;
+use crate::notices::Notices;
+use crate::starting::ThreadCounts;
+use crate::tasks::WorkerTask;
+use crate::workers::Workers;
+use group_sync::Release;
+use site_lock::{Journal, Pass, SiteLedger};
+use std::marker::PhantomData;
+use std::snapshot::Snapshot;
+use std::sync::Wait;
+use std::thread::{self, Promise, Scope, Threads};
+use std::time::Clock;
+
+/// For proofs: what the thread of a worker with this task returns.
+#[derive(Drop)]
+struct WorkerPromise<L: SiteLedger, J: Journal> {
+    task: Snapshot<(Pass<L>, Worker)>,
+    connections: Option<u32>,
+    journal: PhantomData<J>,
+}
+
+impl<L: SiteLedger, J: Journal> Promise<Option<(Pass<L>, u64)>> for WorkerPromise<L, J> {
+    ghost use Rattle.std.specs.Prelude.{Some};
+    ghost use Rattle.site_server.specs.Collecting.{MayRunWorker};
+
+    ghost kept_by = { λ promise done. MayRunWorker L.config J.may_fail promise.connections (Some promise.task.value)
+        done };
+}
+
+/// Runs these tasks and those that have a thread already, which `threads` counts. Each gets a thread of its own. Once all
+/// have been asked for, it is decided whether the site is served. A task without a thread runs here, once the tasks
+/// after it have ended. Returns whether all these tasks ran.
+fn run_each<
+    's,
+    E,
+    L: SiteLedger + Send + Sync,
+    J: Journal + Send,
+    N: Notices + Sync,
+    A: Release + Sync,
+    R: Threads + Wait + Clock + Sync,
+>(
+    scope: &'s Scope<'s, E>,
+    workers: &'s Workers<'_, L, J, N, A, R>,
+    tasks: &mut [WorkerTask<L>],
+    threads: ThreadCounts,
+) -> bool
+    ensures { IsTrue result → RunEach L.config J.may_fail workers.now.connections
+        (map (λ p. p.waiting) tasks.old) (map (λ p. p.done) tasks.new) }
+{
+    let Some((task, rest)) = tasks.split_first_mut() else {
+        workers.start(threads);
+        return true;
+    };
+    let Some((pass, worker)) = task.waiting.take() else {
+        return run_each(scope, workers, rest, threads);
+    };
+    let (role, number) = (worker.role, pass.id());
+    let own = (pass, worker);
+    let promise = WorkerPromise::<L, J> {
+        task: Snapshot::of(&own),
+        connections: workers.connections,
+        journal: PhantomData,
+    };
+    let run = move || -> Option<(Pass<L>, u64)>
+        ensures { MayRunWorker L.config J.may_fail workers.entry.now.connections (Some own) result }
+    { workers.work(own) };
+    match scope.spawn_with(promise, run) {
+        Ok(thread) => {
+            workers.notices.began(role, number);
+            let all = run_each(scope, workers, rest, threads.counted(role, true));
+            task.done = thread.join(workers.rt);
+            all && task.done.is_some()
+        }
+        Err(refused) => {
+            let all = run_each(scope, workers, rest, threads.counted(role, false));
+            workers.notices.began(role, number);
+            task.done = (refused.value)();
+            all && task.done.is_some()
+        }
+    }
+}
+
+/// Runs all tasks, each in a thread of its own where one can be made, and returns them. Returns `None` if the system gave
+/// too few threads; then no task ran.
+pub fn run_in_threads<
+    L: SiteLedger + Send + Sync,
+    J: Journal + Send,
+    N: Notices + Sync,
+    A: Release + Sync,
+    R: Threads + Wait + Clock + Sync,
+>(workers: &Workers<'_, L, J, N, A, R>, tasks: Vec<WorkerTask<L>>) -> Option<Vec<WorkerTask<L>>>
+    ensures { IfSome result (λ done. RunEach L.config J.may_fail workers.now.connections
+        (map (λ p. p.waiting) tasks.items) (map (λ p. p.done) done.items)) }
+{
+    thread::scope(
+        thread::scope_env(),
+        workers.rt,
+        move |scope| -> Option<Vec<WorkerTask<L>>>
+            ensures { IfSome result (λ done. RunEach L.config J.may_fail workers.entry.now.connections
+                (map (λ p. p.waiting) tasks.items) (map (λ p. p.done) done.items)) }
+        {
+            let mut tasks = tasks;
+            if run_each(scope, workers, tasks.as_mut_slice(), ThreadCounts::none()) {
+                Some(tasks)
+            } else {
+                None
+            }
+        },
+    )
+}
