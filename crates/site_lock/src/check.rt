@@ -16,8 +16,7 @@ fn matches(id: u32, receipt: &Receipt, entry: &Entry) -> bool
     entry.act == receipt.act && entry.reply == receipt.reply
 }
 
-// Let n be the receipt's number. Returns whether the history has an n-th entry, counted from 1, and this entry has the
-// number n, the pass `id`, and the receipt's moment, act and reply.
+// Whether the entry at the receipt's number, counted from 1, is the receipt's.
 fn agrees_with_entry(history: &[Entry], id: u32, receipt: &Receipt) -> bool
     ensures { IsTrue result ↔ IsEntryOf history.now id receipt.now }
 {
@@ -30,9 +29,7 @@ fn agrees_with_entry(history: &[Entry], id: u32, receipt: &Receipt) -> bool
     }
 }
 
-// Returns the number of the first wrong receipt of the pass `id`, or `None` if all are right. Let n be a receipt's
-// number. The receipt is wrong if the history has no n-th entry, counted from 1, if this entry has another number,
-// pass, moment, act or reply, if n is at most `base`, or if n is at most the number of the receipt before it.
+// The number of the first wrong receipt (see `Receipt`) of the pass `id`.
 fn wrong_receipt(history: &[Entry], base: u32, id: u32, receipts: &[Receipt]) -> Option<u32>
     ensures none { IfNone result (AgreesFrom history.now id base receipts.now) }
     ensures some { IfSome result (λ n. FailsFrom history.now id base receipts.now n) }
@@ -68,8 +65,7 @@ fn has_number(receipts: &[Receipt], number: u32) -> bool
     receipts.iter().any(|receipt| receipt.number == number)
 }
 
-// Returns whether a binary search finds a receipt with this number. If the numbers of the receipts don't rise, the
-// result can be false although one of the receipts has this number.
+// By a binary search, so it can be false if the numbers of the receipts don't rise.
 fn has_rising_number(receipts: &[Receipt], number: u32) -> bool
     ensures { IsTrue result → HasNumber receipts.now number }
 {
@@ -96,9 +92,7 @@ fn is_covered<L: SiteLedger>(passes: &[Pass<L>], entry: &Entry) -> bool
     false
 }
 
-// Returns whether the entry's pass is one of `passes`, and a binary search finds a receipt of this pass with the
-// entry's number. If the numbers of the pass's receipts don't rise, the result can be false although one of these
-// receipts has the entry's number.
+// By a binary search, so it can be false if the numbers of the pass's receipts don't rise.
 fn is_covered_fast<L: SiteLedger>(passes: &[Pass<L>], entry: &Entry) -> bool
     ensures { IsTrue result → Covered passes.now entry.now }
 {
@@ -129,7 +123,6 @@ fn uncovered<L: SiteLedger>(history: &[Entry], passes: &[Pass<L>]) -> Option<(u3
     None
 }
 
-// Returns all entries but the first `base` ones. `base` must be at most the number of all entries.
 pub(super) fn behind(base: u32, history: &[Entry]) -> &[Entry]
     requires { base ≤ length history.now }
     ensures { result.now ≡ drop base history.now }
@@ -150,13 +143,8 @@ fn uncovered_since<L: SiteLedger>(
     uncovered(behind(base, history), passes)
 }
 
-/// Compares a history with the receipts of the passes. Returns `None` if they agree. Otherwise returns the number of a
-/// pass, and the number of a receipt or of an entry, in one of two cases:
-///
-/// - The pass's first wrong receipt has this number. Let n be a receipt's number. The receipt is wrong if the history
-///   has no n-th entry, counted from 1, if this entry has another number, pass, moment, act or reply, or if n isn't
-///   above the number of the receipt before it.
-/// - An entry with this number is one of this pass, and the pass has no receipt of this number.
+/// Compares a history with the receipts of the passes. Returns `None` if they agree, or else a pass with the number of
+/// its first wrong receipt (see `Receipt`), or of an entry of this pass that has no receipt.
 pub fn fault<L: SiteLedger>(history: &[Entry], passes: &[Pass<L>]) -> Option<(u32, u32)>
     ensures none { IfNone result (IsMerge history.now passes.now) }
     ensures some { IfSome result (λ x. IsFault history.now passes.now x.0 x.1) }
@@ -164,17 +152,7 @@ pub fn fault<L: SiteLedger>(history: &[Entry], passes: &[Pass<L>]) -> Option<(u3
     fault_since(0, history, passes)
 }
 
-/// Compares a history with the receipts of the passes. The first `base` entries are older than the passes, and need no
-/// receipt. Returns `None` if the history and the receipts agree. Otherwise returns the number of a pass, and the
-/// number of a receipt or of an entry, in one of two cases:
-///
-/// - The pass's first wrong receipt has this number. Let n be a receipt's number. The receipt is wrong if the history
-///   has no n-th entry, counted from 1, if this entry has another number, pass, moment, act or reply, if n isn't above
-///   `base`, or if n isn't above the number of the receipt before it.
-/// - An entry with this number comes after the first `base` ones, and is one of this pass, and the pass has no receipt
-///   of this number.
-///
-/// `base` must be at most the number of all entries.
+/// Like `fault`, but the first `base` entries are older than the passes: a receipt of one is wrong, and they need none.
 pub fn fault_since<L: SiteLedger>(
     base: u32,
     history: &[Entry],
@@ -196,7 +174,7 @@ fn count_of<L: SiteLedger>(passes: &[Pass<L>], id: u32) -> usize
     passes.iter().filter(|pass| pass.id() == id).count()
 }
 
-/// Returns whether these are the passes 1 to `number`, each once, in any order.
+/// Whether these are the passes 1 to `number`, each once, in any order.
 pub fn are_all<L: SiteLedger>(number: u32, passes: &[Pass<L>]) -> bool
     ensures { IsTrue result ↔ AreAll number passes.now }
 {

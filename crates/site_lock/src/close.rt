@@ -8,17 +8,12 @@ use std::fmt;
 /// Why a forecourt wasn't closed.
 #[derive(Clone, Copy)]
 pub enum CloseRefusal {
-    /// C1: the passes given to the close aren't exactly the passes of the forecourt, each once.
+    /// C1: not exactly the passes of the forecourt, each once.
     PassMissing,
-    /// C2, with the number of a pass, and the number of a receipt or of an entry, in one of two cases:
-    ///
-    /// - A receipt of this pass with this number is wrong. Let n be a receipt's number. The receipt is wrong if the
-    ///   history has no n-th entry, counted from 1, if this entry has another number, pass, moment, act or reply, if
-    ///   this entry is older than the passes, or if n isn't above the number of the receipt before it.
-    /// - An entry with this number is one of this pass, and the pass has no receipt of this number. An example is the
-    ///   entry at which a journal failed.
+    /// C2: a pass, and the number of its wrong receipt (see `Receipt`), or of an entry of this pass that has no
+    /// receipt, such as the one at which a journal failed.
     NotInHistory(u32, u32),
-    /// C3: the site has another configuration than the forecourt was made for. `Forecourt::finish` never returns it.
+    /// C3: the site has another configuration than the forecourt. `Forecourt::finish` never returns it.
     OtherConfig,
 }
 
@@ -42,8 +37,7 @@ impl fmt::Display for CloseRefusal {
     }
 }
 
-/// The error of a close: why the forecourt wasn't closed, the forecourt itself, which is unchanged, and the given
-/// passes.
+/// Why the forecourt wasn't closed, the forecourt itself, unchanged, and the passes.
 #[derive(Drop)]
 pub struct CloseFault<L: SiteLedger, J: Journal = NoJournal> {
     pub why: CloseRefusal,
@@ -51,7 +45,6 @@ pub struct CloseFault<L: SiteLedger, J: Journal = NoJournal> {
     pub passes: Vec<Pass<L>>,
 }
 
-/// What remains of a closed forecourt: its site.
 #[derive(Drop)]
 pub struct Closed {
     pub site: Site,

@@ -21,13 +21,11 @@ use std::alloc::Global;
 use std::sync::Wait;
 use till_request::{Act, Answer};
 
-/// A desk that calls a forecourt with one pass and one gate. A load's program is verified before the lock is taken. If
-/// the verifier refuses the program, the answer names the refusal, such as V11 (a register isn't a number, or isn't
-/// set), and no event reaches the forecourt.
+/// Calls a forecourt with one pass and one gate. A load's program is verified before the lock is taken; where it is
+/// refused, no event reaches the forecourt.
 ///
-/// Once the journal has failed, each event that reaches the forecourt is answered with `JournalFailed`, or with
-/// `OutOfMemory` if memory runs out before the lock is taken. No line is written for `JournalFailed`, and the session
-/// ends.
+/// Once the journal has failed, an event is answered with `JournalFailed`, or with `OutOfMemory` if memory runs out
+/// before the lock is taken. No line is written for `JournalFailed`, and the session ends.
 #[derive(Drop)]
 pub struct PassDesk<'a, L: SiteLedger, R: Wait, G: Gate + Drop, J: Journal = NoJournal> {
     rt: &'a R,
@@ -38,7 +36,6 @@ pub struct PassDesk<'a, L: SiteLedger, R: Wait, G: Gate + Drop, J: Journal = NoJ
 }
 
 impl<'a, L: SiteLedger, R: Wait, G: Gate + Drop, J: Journal> PassDesk<'a, L, R, G, J> {
-    /// Makes a desk with this pass and this gate. Allocates no memory.
     pub fn new(
         rt: &'a R,
         alloc: Global,
@@ -79,7 +76,7 @@ impl<L: SiteLedger, R: Wait, G: Gate + Drop, J: Journal> Desk for PassDesk<'_, L
     fn answer(&mut self, act: Act, moment: u64) -> Answer {
         let (rt, alloc, forecourt) = (self.rt, self.alloc, self.forecourt);
         let (pass, gate) = (&mut self.pass, &mut self.gate);
-        // This call tells the prover that the forecourt's configuration is `L.config`.
+        // Tells the prover that the forecourt's configuration is `L.config`.
         let _ = forecourt.config();
         match &act {
             Act::Till { till, request } => answer_of(forecourt.ask(
@@ -110,9 +107,8 @@ fn answer_of(called: Result<Answered, EnterFault>) -> Answer
     }
 }
 
-// Returns the answer to a load whose program was refused. The answer is `OutOfMemory` if memory ran out. Otherwise it
-// is `Program` with three numbers: that of the refusal, that of the unit, and that of the register or argument. The
-// second is `None` if the refusal names no unit. The third is `None` if it names no register or argument.
+// The answer to a load whose program was refused: the numbers of the refusal, of its unit, and of its register or
+// argument, where it names them.
 fn refused<G: Gate, J: Journal>(refusal: Refusal) -> Answer
     ensures answers { (config : ConfigValue) (pass : PassView) (act : Act) (moment : ℕ) → IsRefusedAct act refusal
         → IsRefusal (load_refusal act) refusal → DeskAnswers config J.may_fail pass pass act moment result }

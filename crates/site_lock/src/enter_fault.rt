@@ -4,8 +4,9 @@ use site_core::CallFault;
 /// Why a site didn't answer an event. `Journal` comes only at a site that keeps a journal.
 #[derive(Clone, Copy)]
 pub enum EnterFault {
-    /// The event wasn't entered: the history is full (S29), or memory ran out (S31).
+    /// The history is full (S29), or memory ran out (S31): the event wasn't entered, and nothing has changed, but that
+    /// a full history marks the pass.
     Call(CallFault),
-    /// The journal failed, at this event's entry or at an earlier one. The site takes no further event.
+    /// The journal failed. If it was at this event, its entry stays, and isn't counted; else nothing has changed.
     Journal,
 }

@@ -1,11 +1,10 @@
-//! The result of the first step of a till's request.
 use site_core::{Answered, Draft};
 
-/// The result of the first step of a till's request, which is made under the lock.
+/// The first step of a till's request, which is made under the lock.
 #[derive(Drop)]
 pub(super) enum FirstStep {
-    /// The request was entered, since no program has to be run for it.
+    /// No program has to be run.
     Entered(Answered),
-    /// The request wasn't entered yet. A program has to be run for it, on this draft.
+    /// A program has to be run on this draft, and then committed.
     Run(Draft),
 }

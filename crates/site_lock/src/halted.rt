@@ -12,8 +12,7 @@ use site_core::{Config, Site};
 use std::alloc::Global;
 use std::marker::Model;
 
-/// A forecourt that couldn't be closed. Until it is reopened nobody can call it, so its history stays the same and can
-/// be read.
+/// A forecourt that couldn't be closed. Until it is reopened nobody can call it.
 #[derive(Drop)]
 pub struct Halted<L: SiteLedger, J: Journal = NoJournal> {
     pub(super) alloc: Global,
@@ -44,7 +43,6 @@ impl<L: SiteLedger, J: Journal> Model for Halted<L, J> {
 impl<L: SiteLedger, J: Journal> Halted<L, J> {
     ghost use Rattle.site_lock.specs.Closing.{ClosesSince, IsHalted, RefusesSince};
 
-    /// Returns why the forecourt can't be closed with these passes, or `None` if it can. Changes nothing.
     pub(super) fn refusal(&mut self, passes: &mut Vec<Pass<L>>) -> Option<CloseRefusal>
         ensures same { (self.new ≡ self.old) × (passes.new.items ≡ passes.old.items) }
         ensures none { IfNone result
@@ -52,7 +50,7 @@ impl<L: SiteLedger, J: Journal> Halted<L, J> {
         ensures some { IfSome result (λ why. RefusesSince self.old passes.old.items why) }
         ensures halted { IsHalted J.may_fail self.new }
     {
-        // This call tells the prover what is known of a forecourt that couldn't be closed (`IsHalted`).
+        // Tells the prover what is known of a forecourt that couldn't be closed (`IsHalted`).
         let _ = self.history();
         if !are_all(self.passes, passes.as_slice()) {
             return Some(CloseRefusal::PassMissing);
@@ -61,7 +59,6 @@ impl<L: SiteLedger, J: Journal> Halted<L, J> {
         self.locked_site.refusal(&self.config, passes.as_slice())
     }
 
-    /// Returns the site and the journal.
     pub(super) fn into_parts(self) -> (Site, J)
         ensures site { result.0 ≡ self.locked_site.site }
         ensures journal { J.written result.1 ≡ self.locked_site.written }
@@ -69,24 +66,23 @@ impl<L: SiteLedger, J: Journal> Halted<L, J> {
         self.locked_site.into_parts()
     }
 
-    /// Returns the history of the forecourt's site.
     pub fn history(&self) -> &[Entry]
         ensures same { result.now ≡ self.now.locked_site.site.history }
         ensures matches_journal { IsHalted J.may_fail self.now }
     {
-        // Reading a field tells the prover that the forecourt's configuration is `L.config`.
+        // Tells the prover that the forecourt's configuration is `L.config`.
         let _ = &self.config;
         self.locked_site.history()
     }
 
-    /// Returns whether the journal failed. If so, the last entry wasn't answered.
+    /// Whether the journal failed. If so, the last entry wasn't answered.
     pub fn journal_has_failed(&self) -> bool
         ensures { result ≡ self.now.locked_site.journal_failed }
     {
         self.locked_site.journal_has_failed()
     }
 
-    /// Opens the forecourt again, for further calls and another close. A journal that failed stays failed.
+    /// Opens the forecourt for further calls and another close. A journal that failed stays failed.
     pub fn reopen(self) -> Forecourt<L, J>
         ensures { result ≡ self.opened }
     {
@@ -99,14 +95,11 @@ impl<L: SiteLedger, J: Journal> Halted<L, J> {
         Forecourt::over(alloc, config, passes, locked_site)
     }
 
-    /// Returns the journal. Since the forecourt was made, the journal took the text of all entries that were answered.
-    /// If the journal failed, it also took the first n bytes of the last entry's line, where n is a number from 0 to
-    /// the length of that line.
+    /// The journal took the text of all entries that were answered, and, if it failed, a beginning of one more line.
     pub fn into_journal(self) -> J
         ensures written { J.written result ≡ self.locked_site.written }
         ensures matches_journal { IsHalted J.may_fail self }
     {
-        // Reading a field tells the prover that the forecourt's configuration is `L.config`.
         let _ = &self.config;
         let (_, journal) = self.locked_site.into_parts();
         journal

@@ -1,5 +1,5 @@
-//! A site under one lock. Each caller has a pass, which has a receipt of each answer. When the forecourt is closed, the
-//! receipts are compared with the site's history.
+//! A site under one lock. Each caller has a pass, with a receipt of each answer. At the close the receipts are compared
+//! with the site's history.
 #![tactic(auto)]
 
 mod builder;

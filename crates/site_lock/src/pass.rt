@@ -9,9 +9,7 @@ use std::marker::{Brand, Model};
 use std::sync::ledger::{Blank, Book, Ledger, Share};
 use till_request::{Act, Reply};
 
-/// The ledger of a forecourt's answered calls, for proofs alone. It has one part for each pass. It also names the
-/// site's configuration, the history that the forecourt starts from, and the bytes that the journal had taken before
-/// the start, if they are known.
+/// The ledger of a forecourt's answered calls, for proofs alone, with one part for each pass.
 ///
 /// A forecourt is made, used and closed in one function that is generic over its ledger. So the passes of two
 /// forecourts have different types, and code that mixes them doesn't compile. At run time the ledger is `Brand`, which
@@ -21,13 +19,12 @@ pub trait SiteLedger: Ledger {
     ghost use Rattle.decision_journal.specs.declared.entries.Entry.{Entry};
     ghost use Rattle.site_core.specs.Limits.{ConfigValue};
 
-    /// The configuration of the forecourt's site.
     ghost config: { ConfigValue };
 
-    /// The history that the forecourt starts from, the oldest entry first. For a new site it is empty.
+    /// The history that the forecourt starts from, the oldest entry first.
     ghost base: { List Entry };
 
-    /// The bytes that the journal had taken when the forecourt was started, if they are known.
+    /// The bytes that the journal had taken by then, if they are known.
     ghost taken: { Option (List ℕ) };
 }
 
@@ -39,8 +36,8 @@ impl SiteLedger for Brand {
     ghost taken = { None };
 }
 
-/// The receipt of an answered call: the entry's number, its moment (0 for a dispenser's event and a load), the act, and
-/// the reply.
+/// What a pass was answered: the entry's number, its moment (0 but for a till's request), the act, and the reply. It is
+/// wrong where the entry of that number, counted from 1, has something else, or the receipt before it no lesser number.
 #[derive(Drop)]
 pub struct Receipt {
     pub number: u32,
@@ -49,16 +46,15 @@ pub struct Receipt {
     pub reply: Reply,
 }
 
-/// What an answer that the history is full adds to an amount of the ledger. It is more than all passes together can
-/// have receipts, so the ledger counts both kinds of answers at once.
+/// What an answer that the history is full adds to the ledger: more than all passes can have receipts, so that one
+/// number counts both.
 pub(super) const FULL_MARK: u64 = u64::MAX;
 
-/// What a pass has of the ledger: the count of its answered calls, and whether a call was answered that the history is
-/// full. It takes no bytes.
+/// A pass's answered calls, and whether one was answered that the history is full. It takes no bytes.
 #[derive(Drop)]
 pub(super) struct CallCount<L: SiteLedger> {
     pub(super) share: Share<L>,
-    /// No ledger is made of it. For proofs alone, it has 1 part if a call was answered that the history is full, else 0.
+    /// For proofs alone: it has 1 part if a call was answered that the history is full, else 0.
     told_full: Blank,
 }
 
@@ -75,7 +71,6 @@ impl<L: SiteLedger> Model for CallCount<L> {
 }
 
 impl<L: SiteLedger> CallCount<L> {
-    /// Makes the count of a new pass. `share` must have one part of the ledger, and count no call.
     fn new(share: Share<L>) -> CallCount<L>
         requires { (share.parts ≡ 1) × (share.amount ≡ 0) }
         ensures { result ≡ record { amount = 0; was_full = false } }
@@ -86,7 +81,6 @@ impl<L: SiteLedger> CallCount<L> {
         }
     }
 
-    /// Counts an answered call, also in `calls`.
     pub(super) fn add(&mut self, calls: &mut Book<L>)
         requires { calls.old.total + 1 < FULL_MARK }
         ensures total { calls.new.total ≡ calls.old.total + 1 }
@@ -98,7 +92,7 @@ impl<L: SiteLedger> CallCount<L> {
         calls.audit(&mut self.share);
     }
 
-    /// Returns the error of a call that wasn't entered. If it is that the history is full, marks this, also in `calls`.
+    /// The error of a call that wasn't entered. That the history is full is marked.
     pub(super) fn told(&mut self, calls: &mut Book<L>, fault: CallFault) -> EnterFault
         ensures result { result ≡ EnterFault.Call fault }
         ensures after { self.new ≡ count_after result self.old }
@@ -116,8 +110,8 @@ impl<L: SiteLedger> CallCount<L> {
     }
 }
 
-/// The pass of a caller (its right to call the forecourt): its number, counted from 1, its count of answered calls, and
-/// the receipts of these, the oldest first. It also keeps the memory of the last run for the next one.
+/// A caller's right to call the forecourt: its number, counted from 1, and the receipts of its answers, the oldest
+/// first. It also keeps the memory of the last run for the next one.
 #[derive(Drop)]
 pub struct Pass<L: SiteLedger> {
     pub(super) id: u32,
@@ -145,8 +139,6 @@ impl<L: SiteLedger> Model for Pass<L> {
 impl<L: SiteLedger> Pass<L> {
     ghost use Rattle.site_lock.specs.Passes.{new_pass};
 
-    /// Makes the pass with number `id`, without receipts. `share` is the pass's share of the ledger of answered calls.
-    /// It must have one part of the ledger, and count no call.
     pub(super) fn new(alloc: Global, id: u32, share: Share<L>) -> Pass<L>
         requires { (share.parts ≡ 1) × (share.amount ≡ 0) }
         ensures { result ≡ new_pass id }
@@ -159,22 +151,18 @@ impl<L: SiteLedger> Pass<L> {
         }
     }
 
-    /// Keeps the memory of a run that has ended, for the draft of the next run.
     pub(super) fn keep(&mut self, draft_memory: DraftMemory)
         ensures { self.new ≡ self.old }
     {
         self.draft_memory = Some(draft_memory);
     }
 
-    /// Returns the number of the pass.
     pub fn id(&self) -> u32
         ensures { result ≡ self.now.id }
     {
         self.id
     }
 
-    /// Returns the receipts, the oldest first. The contract says that they are as many as the answered calls that the
-    /// pass's share of the ledger counts.
     pub fn receipts(&self) -> &[Receipt]
         ensures receipts { result.now ≡ self.now.receipts }
         ensures counted { self.now.amount ≡ length self.now.receipts }

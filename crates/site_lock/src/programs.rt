@@ -8,8 +8,7 @@ use std::alloc::{AllocError, Global};
 use std::thread;
 use std::thread::Threads;
 
-/// The result that `verify_all` has for a program until it is verified. `verify` never returns it, as no program has a
-/// unit of this number.
+/// Stands for a result until it is there. `verify` never returns it, as no program has a unit of this number.
 const UNDECIDED: Refusal = Refusal::Type(TypeFault::FallsOff(u32::MAX));
 
 fn verified(alloc: Global, item: &(Vec<u8>, u32, Layout)) -> Result<Program, Refusal>
@@ -18,7 +17,6 @@ fn verified(alloc: Global, item: &(Vec<u8>, u32, Layout)) -> Result<Program, Ref
     verify(alloc, item.0.as_slice(), item.1, item.2)
 }
 
-// Makes a list for `count` results, each of them `UNDECIDED`. The error is that memory ran out.
 fn places(alloc: Global, count: usize) -> Result<Vec<Result<Program, Refusal>>, AllocError>
     ensures { IfOk result (λ v. vec_len v ≡ count) }
 {
@@ -29,9 +27,8 @@ fn places(alloc: Global, count: usize) -> Result<Vec<Result<Program, Refusal>>, 
     Ok(places)
 }
 
-/// Verifies each item (its bytes, mask and layout), and returns the results of `verify` in the items' order. At most
-/// `workers` threads do the work, and `workers` must be 1 to 16. The error is that there was no memory for the list of
-/// results. If memory runs out for an item, that item's own result says so.
+/// Verifies each item (bytes, mask and layout), on at most `workers` threads, 1 to 16. If memory runs out for one item,
+/// its own result says so.
 pub fn verify_all<R: Threads + Sync>(
     rt: &R,
     alloc: Global,

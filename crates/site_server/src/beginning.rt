@@ -11,7 +11,6 @@ use std::marker::Model;
 #[derive(Drop)]
 pub(crate) struct Beginning {
     bytes: ArrayVec<u8, 9216>,
-    /// How many of `bytes` were passed on.
     given: usize,
     verdict: Verdict,
 }
@@ -30,7 +29,6 @@ impl Model for Beginning {
 }
 
 impl Beginning {
-    /// Makes the beginning of a connection of which nothing was read yet.
     pub(crate) fn new() -> Beginning
         ensures kept { result.kept ≡ [] }
         ensures verdict { result.verdict ≡ Verdict.Unclear }
@@ -42,14 +40,12 @@ impl Beginning {
         }
     }
 
-    /// Returns the verdict on the peer.
     pub(crate) fn verdict(&self) -> Verdict
         ensures { result ≡ self.now.verdict }
     {
         self.verdict
     }
 
-    /// Returns whether all bytes that were read have been passed on.
     pub(crate) fn is_empty(&self) -> bool
         ensures { IsTrue result ↔ (self.now.kept ≡ []) }
     {
@@ -78,7 +74,7 @@ impl Beginning {
         self.verdict = judge_all(&self.bytes[self.given..]);
     }
 
-    /// Passes on as many of the bytes as there are, or as have room in `buffer`, and returns how many.
+    /// Passes on as many of the bytes as have room in `buffer`, and returns how many.
     pub(crate) fn pass_on(&mut self, buffer: &mut [u8]) -> usize
         requires { self.old.verdict ≢ Verdict.Unclear }
         ensures count { result ≡ min (length self.old.kept) (length buffer.new) }

@@ -8,7 +8,7 @@ use std::alloc::{AllocError, Global};
 use std::sync::Arc;
 use till_request::Role;
 
-/// A door: a listener with its workers. `role` says whose lines the workers take, and `workers` how many there are.
+/// A listener with its workers, and whose lines they take.
 #[derive(Drop)]
 pub struct OpenDoor {
     pub role: Role,
@@ -18,8 +18,7 @@ pub struct OpenDoor {
     pub lines_per_second: u32,
 }
 
-/// A worker of a site: whose lines it takes, and at which door. All workers of a door share its listener, which is
-/// closed when the last of them is dropped, and its bound of lines a second.
+/// All workers of a door share its listener, which is closed when the last of them is dropped, and its bound.
 #[derive(Drop)]
 pub(crate) struct Worker {
     pub role: Role,
@@ -33,7 +32,6 @@ pub struct Crew {
     ghost few: { IsCrew (length workers.items) },
 }
 
-/// Returns how many workers these doors have in all, or 2^32 - 1 if they have more.
 fn count_workers(doors: &[OpenDoor]) -> u32
     ensures { result ≡ min (length (all_posts doors.now)) (2 ^ 32 - 1) }
 {
@@ -43,8 +41,6 @@ fn count_workers(doors: &[OpenDoor]) -> u32
     door.workers.saturating_add(count_workers(rest))
 }
 
-/// Appends the workers of `door` to `workers`. If memory runs out, that is the error, and some of the door's workers
-/// may have been appended.
 fn push_workers(alloc: Global, workers: &mut Vec<Worker>, door: OpenDoor) -> Result<(), AllocError>
     ensures { IfOk result (λ _. posts_of workers.new.items ≡ posts_of workers.old.items ++ posts_at door) }
 {
@@ -62,7 +58,6 @@ fn push_workers(alloc: Global, workers: &mut Vec<Worker>, door: OpenDoor) -> Res
     Ok(())
 }
 
-/// Makes the workers of these doors, in their order. The error is that memory ran out.
 fn workers_of(alloc: Global, doors: Vec<OpenDoor>) -> Result<Vec<Worker>, AllocError>
     ensures { IfOk result (λ workers. posts_of workers.items ≡ all_posts doors.items) }
 {
@@ -74,8 +69,8 @@ fn workers_of(alloc: Global, doors: Vec<OpenDoor>) -> Result<Vec<Worker>, AllocE
 }
 
 impl Crew {
-    /// Makes a crew: for each door as many workers as it asks for, in the order of the doors. Returns `None` if the
-    /// doors ask for no worker, or for more than 96 in all. The error is that memory ran out.
+    /// Makes a crew: for each door as many workers as it asks for, in the order of the doors. `None` if that is none,
+    /// or over 96.
     pub fn new(alloc: Global, doors: Vec<OpenDoor>) -> Result<Option<Crew>, AllocError>
         ensures there { IfOk result (λ made. IsSome made ↔ IsCrew (length (all_posts doors.items))) }
         ensures memory { OnErr result (IsCrew (length (all_posts doors.items))) }
@@ -88,7 +83,7 @@ impl Crew {
         Ok(Some(Crew { workers }))
     }
 
-    /// Returns how many passes the crew needs, 1 to 96: one for each worker.
+    /// How many passes the crew needs: one for each worker.
     pub fn passes(&self) -> u32
         ensures number { result ≡ length self.now.workers.items }
         ensures some { (0 < result) × (result ≤ 96) }

@@ -17,8 +17,7 @@ use std::{io, thread};
 use till_request::devices::{Ahead, StreamIn, StreamOut};
 use till_request::{DeviceFault, Role};
 
-/// The input of a connection, as a session reads it. From the socket on: its end if the peer is silent, the guard, the
-/// block that is read ahead, and the pace.
+/// From the socket on: its end if the peer is silent, the guard, the block that is read ahead, and the pace.
 type Input<'a, R, N> = PacedIn<
     'a,
     R,
@@ -28,17 +27,14 @@ type Input<'a, R, N> = PacedIn<
 
 type Connection<'a, R, N> = (Input<'a, R, N>, StreamOut<Stream>);
 
-/// Opens the connections of a door one after another, for one worker. Other workers can use the same door.
+/// Opens the connections of a door one after another, for one worker.
 ///
 /// - Input is read ahead, in blocks of 4,096 bytes. Output is sent at once; a port's connections have `TCP_NODELAY`.
-/// - If a peer speaks another protocol, that is reported to an operator, and its session sees an empty input.
 /// - A line is read only once the door allows it.
 /// - If a session ends while its peer may still be sending, what comes is read and thrown away before the connection is
 ///   closed, so that the peer gets all answers.
-/// - If a connection can't be opened, the worker waits before it tries again: at first 10 milliseconds, then twice as
-///   long each time, and at most 1 second. Of several failures in a row only the first is reported to an operator.
-/// - If a peer sends nothing for `idle_seconds`, that is reported to an operator, and the input ends. If a peer takes
-///   no bytes of an answer for `idle_seconds`, the write fails. If `idle_seconds` is 0, there are no such limits.
+/// - If a connection can't be opened, the worker waits before it tries again: 10 milliseconds, then twice as long each
+///   time, at most 1 second. Of several failures in a row only the first is reported.
 #[derive(Drop)]
 pub struct SocketDoors<'a, R: Wait + Clock, N: Notices> {
     rt: &'a R,
@@ -48,15 +44,12 @@ pub struct SocketDoors<'a, R: Wait + Clock, N: Notices> {
     pass: u32,
     idle_seconds: u32,
     asked: u64,
-    /// How many milliseconds the worker waited after the last failure to open a connection. 0 if a connection was
-    /// opened since then, or if there was no failure.
+    /// How many milliseconds the worker waited after the last failure; 0 if a connection was opened since then.
     pause: u64,
     /// A further handle of the connection that was opened last.
     current: Option<Stream>,
 }
 
-/// Returns how long to wait next, in milliseconds, after a wait of `pause` milliseconds: 10 if `pause` is 0, or else
-/// twice as long, but at most 1,000.
 fn longer(pause: u64) -> u64
     ensures { result ≡ longer_pause pause }
 {
@@ -69,8 +62,7 @@ fn longer(pause: u64) -> u64
     }
 }
 
-/// Returns the failure to report to an operator, or `None` if the session ended after a whole line, or before the peer
-/// sent anything.
+/// What an operator reads of a session's end: nothing if it ended behind a whole line, or before the first byte.
 fn failure_of(outcome: &Result<Ended, SessionFault>) -> Option<SessionFailure>
     ensures { result ≡ reported_failure outcome.now }
 {
@@ -81,8 +73,6 @@ fn failure_of(outcome: &Result<Ended, SessionFault>) -> Option<SessionFailure>
 }
 
 impl<'a, R: Wait + Clock, N: Notices> SocketDoors<'a, R, N> {
-    /// Prepares to open connections of `door`, for the worker with this role and the pass with the number `pass`. A
-    /// peer is allowed to send nothing, or to take no bytes of an answer, for at most `idle_seconds`; 0 is no limit.
     pub fn new(
         rt: &'a R,
         door: &'a SharedDoor,
@@ -111,7 +101,6 @@ impl<'a, R: Wait + Clock, N: Notices> SocketDoors<'a, R, N> {
         }
     }
 
-    /// Makes the input of a connection from its reading half.
     fn input_of(&self, stream: Stream) -> Input<'a, R, N>
         ensures door { result.door.now ≡ self.now.door.now }
         ensures role { result.role ≡ self.now.role }
@@ -141,7 +130,6 @@ impl<'a, R: Wait + Clock, N: Notices> SocketDoors<'a, R, N> {
         )
     }
 
-    /// Opens the next connection. Returns also a further handle of it.
     fn connect(&self) -> io::Result<(Connection<'a, R, N>, Stream)>
         ensures { IfOk result (λ made. (made.0.0.door.now ≡ self.now.door.now) × (made.0.0.role ≡ self.now.role)
             × (made.0.0.pass ≡ self.now.pass)) }
@@ -159,9 +147,6 @@ impl<'a, R: Wait + Clock, N: Notices> SocketDoors<'a, R, N> {
         Ok(((self.input_of(stream), output), handle))
     }
 
-    /// Waits after a connection couldn't be opened: 10 milliseconds after the first of several failures in a row, then
-    /// twice as long each time, and at most 1 second. Before that, reports `error` to an operator, unless the previous
-    /// attempt failed too.
     fn wait_after_failure(&mut self, error: &io::Error)
         ensures asked { self.new.asked ≡ self.old.asked }
         ensures pause { self.new.pause ≡ longer_pause self.old.pause }
@@ -177,8 +162,6 @@ impl<'a, R: Wait + Clock, N: Notices> SocketDoors<'a, R, N> {
         thread::sleep(self.rt, Duration::from_millis(self.pause));
     }
 
-    /// Reports to an operator why a session failed. Reports nothing if the session ended after a whole line, or before
-    /// the peer sent anything.
     fn report(&self, outcome: &Result<Ended, SessionFault>)
         ensures { IfSome (reported_failure outcome.now) (λ failure. N.failure_reported self.now.role self.now.pass
             failure) }
@@ -188,7 +171,6 @@ impl<'a, R: Wait + Clock, N: Notices> SocketDoors<'a, R, N> {
         }
     }
 
-    /// Reads and throws away what the peer still sends, if the session ended while it may be sending.
     fn drain_if_needed(&self, outcome: &Result<Ended, SessionFault>) {
         if let Some(stream) = &self.current {
             if is_drained(outcome) {
@@ -203,7 +185,6 @@ impl<'a, R: Wait + Clock, N: Notices> Doors for SocketDoors<'a, R, N> {
 
     type Out = StreamOut<Stream>;
 
-    // A connection is paced and reported as one of this worker's door.
     ghost opens = { λ before input _ after. RoseBy 1 before.asked after.asked × (after.pause ≡ 0)
         × (input.door.now ≡ before.door.now) × (input.role ≡ before.role) × (input.pass ≡ before.pass)
         × (after.role ≡ before.role) × (after.pass ≡ before.pass) × (after.idle_seconds ≡ before.idle_seconds)
@@ -234,9 +215,8 @@ impl<'a, R: Wait + Clock, N: Notices> Doors for SocketDoors<'a, R, N> {
         }
     }
 
-    // Returns whether the next line is in memory already. It can be, since input is read in blocks, and the last block
-    // can have this line too. False if the door has a bound, since the line may have to wait, and no answer is to wait
-    // with it.
+    // The block that is read ahead can have the next line too. False where the door has a bound, since the line may
+    // have to wait, and no answer is to wait with it.
     fn has_buffered_line(&self, input: &Self::In) -> bool {
         self.door.lines_per_second == 0 && input.input.holds_line()
     }

@@ -9,8 +9,8 @@ use std::sync::Wait;
 use std::time::{Clock, Duration, Instant};
 use till_request::LineFault;
 
-/// Returns whether a session ended while its peer may still be sending: it had made all its reads (N3), or its last line
-/// was too long (L1).
+/// Whether a session ended while its peer may still be sending: all its reads were made (N3), or its last line was too
+/// long (L1).
 pub(crate) fn is_drained(outcome: &Result<Ended, SessionFault>) -> bool
     ensures { result ≡ is_drained outcome.now }
 {
@@ -20,17 +20,15 @@ pub(crate) fn is_drained(outcome: &Result<Ended, SessionFault>) -> bool
     }
 }
 
-/// Returns how many milliseconds the next read may wait for a byte, if draining began `elapsed` milliseconds ago. 0
-/// means that no further read is made.
+/// How many milliseconds the next read may wait, `elapsed` milliseconds after the beginning; at 0 there is none.
 fn drain_wait(elapsed: u64) -> u64
     ensures { result ≡ drain_wait elapsed }
 {
     30_000u64.saturating_sub(elapsed).min(5_000)
 }
 
-/// Sends what is still to be sent, and then the end of the output. Then reads until the peer closes the connection, and
-/// throws away what comes. Ends if nothing comes for 5 seconds, and after 30 seconds. The error is that the connection
-/// failed or was silent, or that the clock can't be read.
+/// Ends the output, and throws away what comes until the peer closes the connection, for at most 30 seconds, or 5 in
+/// which nothing comes.
 pub(crate) fn drain<R: Wait + Clock>(rt: &R, stream: &Stream) -> io::Result<()> {
     let start = Instant::now(rt)?;
     stream.end_output()?;

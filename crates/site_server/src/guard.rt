@@ -11,8 +11,7 @@ use crate::notices::Notices;
 use std::io::{self, Read};
 use till_request::Role;
 
-/// Reads the next bytes of a connection, and judges the peer by all that came so far. The error is that the read
-/// failed; then nothing was read.
+/// Reads the next bytes, and judges the peer by all that came so far.
 fn judge_next<R: Read>(beginning: &mut Beginning, reader: &mut R) -> io::Result<()>
     requires { beginning.old.verdict ≡ Verdict.Unclear }
     ensures ahead { Keeps (ahead_of beginning.old (R.remaining reader.old))
@@ -31,7 +30,6 @@ fn judge_next<R: Read>(beginning: &mut Beginning, reader: &mut R) -> io::Result<
     Ok(())
 }
 
-/// Reads bytes of a connection, 512 at a time, until it's clear who the peer is. The error is that a read failed.
 fn judge_peer<R: Read>(beginning: &mut Beginning, reader: &mut R) -> io::Result<()>
     ensures ahead { Keeps (ahead_of beginning.old (R.remaining reader.old))
         (ahead_of beginning.new (R.remaining reader.new)) }
@@ -44,7 +42,6 @@ fn judge_peer<R: Read>(beginning: &mut Beginning, reader: &mut R) -> io::Result<
     Ok(())
 }
 
-/// Reads from the beginning of a client's connection, or, when that was passed on, from `reader`.
 fn read_on<R: Read>(beginning: &mut Beginning, reader: &mut R, buf: &mut [u8]) -> io::Result<usize>
     requires { beginning.old.verdict ≡ Verdict.Client }
     ensures verdict { beginning.new.verdict ≡ beginning.old.verdict }
@@ -58,9 +55,9 @@ fn read_on<R: Read>(beginning: &mut Beginning, reader: &mut R, buf: &mut [u8]) -
     Ok(beginning.pass_on(buf))
 }
 
-/// The reading half of a connection, as a session sees it. If the peer speaks another protocol, that is reported to an
-/// operator once, and the input is empty. The peer is judged at the first read, which waits for at most the first word
-/// and two bytes behind it.
+/// The reading half of a connection, as a session sees it. If the peer speaks another protocol, that is reported once,
+/// and the input is empty. It is judged at the first read, which waits for at most the first word and two bytes behind
+/// it.
 #[derive(Drop)]
 pub struct GuardedReader<'a, N: Notices, R: Read> {
     reader: R,
@@ -71,8 +68,7 @@ pub struct GuardedReader<'a, N: Notices, R: Read> {
 }
 
 impl<'a, N: Notices, R: Read> GuardedReader<'a, N, R> {
-    /// Guards `reader`, from which nothing was read yet. It's the reading half of a connection of the worker with this
-    /// role and the pass with the number `pass`.
+    /// Nothing may have been read from `reader` yet.
     pub(crate) fn new(reader: R, notices: &'a N, role: Role, pass: u32) -> GuardedReader<'a, N, R>
         ensures admitted { ahead_of result.beginning (R.remaining result.reader)
             ≡ option_map (λ bytes. admitted bytes) (R.remaining reader) }
@@ -88,8 +84,7 @@ impl<'a, N: Notices, R: Read> GuardedReader<'a, N, R> {
         }
     }
 
-    /// Judges the peer, if that wasn't done yet. If it's a stranger, reports that to an operator. The error is that a
-    /// read failed.
+    /// Judges the peer, if that wasn't done yet, and reports a stranger.
     fn meet(&mut self) -> io::Result<()>
         ensures ahead { Keeps (ahead_of self.old.beginning (R.remaining self.old.reader))
             (ahead_of self.new.beginning (R.remaining self.new.reader)) }

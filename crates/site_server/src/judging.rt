@@ -12,14 +12,12 @@ const METHODS: [&str; 10] = [
 /// A first word of more bytes makes a line that is too long.
 const WORD_BYTES: usize = 8400;
 
-/// Who sends the bytes with which a connection begins.
 #[derive(Clone, Copy)]
 pub enum Verdict {
     /// More bytes are needed to say who.
     Unclear,
-    /// A client: a till, a dispenser or the owner.
+    /// A till, a dispenser or the owner.
     Client,
-    /// A program that speaks another protocol.
     Stranger,
 }
 
@@ -53,7 +51,7 @@ fn are_capitals(bytes: &[u8]) -> bool
     bytes.iter().all(|byte| byte.is_ascii_uppercase())
 }
 
-/// Returns how many bytes come before the first that ends a word; all, if none does.
+/// How many bytes come before the first that ends a word; all, if none does.
 fn word_length(bytes: &[u8]) -> usize
     ensures length { result ≡ prefix_len (λ b. not (ends_word b)) bytes.now }
     ensures bound { result ≤ length bytes.now }
@@ -70,7 +68,6 @@ fn begins_with_control(bytes: &[u8]) -> bool
     }
 }
 
-/// Returns `Stranger` if the peer speaks another protocol, or else `Client`.
 fn verdict_on(is_stranger: bool) -> Verdict
     ensures { result ≡ verdict_on is_stranger }
 {
@@ -81,7 +78,6 @@ fn verdict_on(is_stranger: bool) -> Verdict
     }
 }
 
-/// Judges the peer of a connection by the first byte and the first word that it has sent.
 fn judge_opening(bytes: &[u8]) -> Verdict
     ensures { Tells begins_otherwise bytes.now result }
 {
@@ -99,7 +95,7 @@ fn judge_opening(bytes: &[u8]) -> Verdict
     }
 }
 
-/// Judges whether a path is asked for by the bytes behind the first word.
+/// Whether a path is asked for, by the bytes behind the first word.
 fn judge_behind(behind: &[u8]) -> Verdict
     ensures { result ≡ path_verdict behind.now }
 {
@@ -116,7 +112,6 @@ fn judge_behind(behind: &[u8]) -> Verdict
     }
 }
 
-/// Judges the peer of a connection by whether it asks for a path.
 fn judge_path(bytes: &[u8]) -> Verdict
     ensures { Tells asks_for_path bytes.now result }
 {
@@ -127,7 +122,6 @@ fn judge_path(bytes: &[u8]) -> Verdict
     judge_behind(&bytes[length..])
 }
 
-/// Returns `Stranger` if either is, `Client` if both are, or else `Unclear`.
 fn either(first: Verdict, second: Verdict) -> Verdict
     ensures { result ≡ either_verdict first second }
 {
@@ -140,8 +134,7 @@ fn either(first: Verdict, second: Verdict) -> Verdict
     }
 }
 
-/// Judges the peer of a connection by the first bytes that it has sent. After 8,402 bytes it's never unclear who the
-/// peer is, nor after a whole line.
+/// After 8,402 bytes it's never unclear who the peer is, nor after a whole line.
 pub(crate) fn judge(bytes: &[u8]) -> Verdict
     ensures { IsVerdict bytes.now result }
 {
@@ -171,7 +164,7 @@ fn asks_for_path(bytes: &[u8]) -> bool
     length <= WORD_BYTES && starts_path(&bytes[length..])
 }
 
-/// Judges the peer of a connection by all bytes that it sends.
+/// Judges the peer by all bytes that it sends.
 pub(crate) fn judge_all(bytes: &[u8]) -> Verdict
     ensures { result ≡ verdict_on (speaks_another_protocol bytes.now) }
 {

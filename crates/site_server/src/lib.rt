@@ -1,5 +1,4 @@
-//! Serves a site over sockets to tills, dispensers and the owner. Each worker has one pass (the right to call the
-//! site), and the site has one journal.
+//! Serves a site over sockets to tills, dispensers and the owner.
 #![tactic(auto)]
 
 mod beginning;

@@ -4,7 +4,7 @@ ghost use Rattle.site_server.specs.Limits.{after_line, may_print};
 
 use std::marker::Model;
 
-/// A limiter of lines. It lets at most so many lines of a period through, and counts those that it holds back.
+/// Lets at most so many lines of a period through, and counts those that it holds back.
 #[derive(Drop)]
 pub struct Limiter {
     most: u32,
@@ -25,7 +25,6 @@ impl Model for Limiter {
 }
 
 impl Limiter {
-    /// Makes a limiter that has seen no line yet. It lets at most `most` lines of a period through.
     pub fn new(most: u32) -> Limiter
         ensures most { result.most ≡ most }
         ensures period { result.period ≡ 0 }
@@ -40,10 +39,8 @@ impl Limiter {
         }
     }
 
-    /// Decides whether a line that comes in this period is let through. `period` is its number, for example whole
-    /// seconds or minutes since a start. Of the lines that come one after another with the same `period`, the first
-    /// `most` are let through, and the others are held back. Returns how many lines were held back since the last one
-    /// that was let through, at most 2^64 - 1, or `None` if this line is held back.
+    /// Whether a line of this period (a number of seconds or minutes, say) is let through: if so, how many were held
+    /// back since the last one that was.
     pub fn admit(&mut self, period: u64) -> Option<u64>
         ensures admitted { result ≡ may_print self.old period }
         ensures after { self.new ≡ after_line self.old period }

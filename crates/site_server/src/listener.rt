@@ -10,15 +10,13 @@ use std::os::unix::net::UnixListener;
 /// A port or a local socket where connections come in. It is closed when it is dropped.
 #[derive(Drop)]
 pub enum Listener {
-    /// A port.
     Port(TcpListener),
-    /// A local socket. Whoever made it has to remove its file.
+    /// Whoever made it has to remove its file.
     Socket(UnixListener),
 }
 
 impl Listener {
-    /// Opens a port of 127.0.0.1, to which only this machine can connect. If `port` is 0, the system chooses a free
-    /// one. The error is `InvalidInput` for a port above 65,535, or that the system couldn't open the port.
+    /// Opens a port of 127.0.0.1, to which only this machine can connect; port 0 is any free one.
     pub fn on_port<R: Net<Listener = TcpListener, Stream = TcpStream>>(
         rt: &R,
         port: u32,
@@ -32,8 +30,6 @@ impl Listener {
         Ok(Listener::Port(TcpListener::bind(rt, address)?))
     }
 
-    /// Waits for the next connection, and returns it. What is written to the connection is sent at once. The error is
-    /// that the connection couldn't be opened.
     pub(crate) fn accept(&self) -> io::Result<Stream> {
         match self {
             Listener::Port(listener) => {

@@ -15,7 +15,6 @@ pub struct Bucket {
     pub credit: u64,
 }
 
-/// When a line is allowed to be read.
 #[derive(Clone, Copy)]
 pub enum Turn {
     Now,
@@ -24,7 +23,6 @@ pub enum Turn {
 }
 
 impl Bucket {
-    /// Makes a full bucket, for at most `bound` lines a second.
     pub fn full(bound: u32) -> Bucket
         ensures at { result.at ≡ 0 }
         ensures credit { result.credit ≡ full_credit bound }
@@ -35,7 +33,6 @@ impl Bucket {
         }
     }
 
-    /// Returns the credit at `now`, in microseconds.
     fn refilled(&self, bound: u32, now: u64) -> u64
         ensures { result ≡ refilled bound now self.now }
     {
@@ -45,8 +42,8 @@ impl Bucket {
             .min(u64::from(bound) * LINE)
     }
 
-    /// Asks to read a line at `now`, in microseconds on the door's own clock. `bound` is how many lines a second are
-    /// allowed, more than 0. A line that is allowed takes its credit out of the bucket.
+    /// Asks to read a line at `now`, in microseconds on the door's own clock. `bound`, over 0, is how many are read in
+    /// a second.
     pub fn take_turn(&mut self, bound: u32, now: u64) -> Turn
         requires { 0 < bound }
         ensures turn { result ≡ turn_at bound now self.old }
@@ -65,8 +62,8 @@ impl Bucket {
     }
 }
 
-/// Does nothing. Its contract is a law: however often a line is asked for, the lines that are read keep to the bound, and
-/// a line that has to wait is allowed after its pause.
+/// A law: however often a line is asked for, the lines that are read keep to the bound, and one that waits is allowed
+/// after its pause.
 pub fn law_of_pace()
     ensures bounded { (bound : ℕ) (moments : List ℕ) (bucket : Bucket) → IsBounded bound moments bucket }
     ensures prompt { (bound : ℕ) (now : ℕ) (bucket : Bucket) → IsPrompt bound now bucket }

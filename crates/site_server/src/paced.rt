@@ -10,8 +10,8 @@ use std::sync::Wait;
 use std::time::Clock;
 use till_request::{DeviceFault, LineIn, Role};
 
-/// A source in front of `input` that gives the LF of a line only once the door allows the line. What isn't read waits
-/// in the peer's socket. Each line is reported to `notices`.
+/// Gives the LF of a line only once the door allows the line; what isn't read waits in the peer's socket. Each line is
+/// reported.
 #[derive(Drop)]
 pub struct PacedIn<'a, R: Wait + Clock, N: Notices, I: LineIn> {
     pub(crate) input: I,
@@ -22,7 +22,6 @@ pub struct PacedIn<'a, R: Wait + Clock, N: Notices, I: LineIn> {
     pass: u32,
 }
 
-/// Returns how many lines end in these bytes.
 fn count_lines(bytes: &[u8]) -> usize
     ensures { result ≡ count_by (λ b. b == 10) bytes.now }
 {
@@ -30,8 +29,6 @@ fn count_lines(bytes: &[u8]) -> usize
 }
 
 impl<'a, R: Wait + Clock, N: Notices, I: LineIn> PacedIn<'a, R, N, I> {
-    /// Makes a source in front of `input`, for a connection of `door` and the worker with this role and the pass with
-    /// the number `pass`.
     pub(crate) fn new(
         rt: &'a R,
         door: &'a SharedDoor,

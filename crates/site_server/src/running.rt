@@ -31,9 +31,8 @@ impl<L: SiteLedger, J: Journal> Promise<Option<(Pass<L>, u64)>> for WorkerPromis
         done };
 }
 
-/// Runs these tasks and those that have a thread already, which `threads` counts. Each gets a thread of its own. Once all
-/// have been asked for, it is decided whether the site is served. A task without a thread runs here, once the tasks
-/// after it have ended. Returns whether all these tasks ran.
+/// Runs these tasks; `threads` counts the threads of those before. When all have been asked for, it is decided whether
+/// the site is served. A task without a thread runs here, once those after it have ended. Returns whether all ran.
 fn run_each<
     's,
     E,
@@ -84,8 +83,8 @@ fn run_each<
     }
 }
 
-/// Runs all tasks, each in a thread of its own where one can be made, and returns them. Returns `None` if the system gave
-/// too few threads; then no task ran.
+/// Runs all tasks, each in a thread of its own where one can be made, and returns them. `None` if the system gave too
+/// few threads; then none ran.
 pub fn run_in_threads<
     L: SiteLedger + Send + Sync,
     J: Journal + Send,

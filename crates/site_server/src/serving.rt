@@ -24,25 +24,23 @@ use std::thread;
 use std::thread::Threads;
 use std::time::Clock;
 
-/// A site to be served, with its journal, its crew, and the limits for its connections.
 #[derive(Drop)]
 pub struct Serving<J: Journal = NoJournal> {
     /// The site, with what its sales come to.
     pub watched: Watched<Sums>,
     pub journal: J,
     pub crew: Crew,
-    /// The number of connections that each worker serves, one after another. A connection that can't be opened counts
-    /// too. `None` is without end: then the site is never closed.
+    /// How many connections each worker serves; one that can't be opened counts too. `None` is without end: then the
+    /// site is never closed.
     pub connections: Option<u32>,
-    /// How many seconds at most a peer is allowed to send nothing, or to take no bytes of an answer. 0 is no limit.
+    /// For how many seconds a peer may send nothing, or take no bytes of an answer. 0 is no limit.
     pub idle_seconds: u32,
-    /// For how many further entries memory is made ready before the first connection is served, if there is enough. An
-    /// entry without such memory holds the site's lock while the system finds it.
+    /// For how many further entries memory is made ready before the first connection, if there is enough. Other entries
+    /// hold the site's lock while the system finds memory.
     pub ready_entries: usize,
 }
 
-/// What serving a site needs besides the site: `notices` receives the workers' reports, `release` decides when an
-/// answer is allowed to be sent, and `watcher` looks at the site while it is served.
+/// Who gets the workers' reports, what decides when an answer may be sent, and who looks at the site meanwhile.
 #[derive(Clone, Copy)]
 pub struct ServingHooks<'a, N: Notices, A: Release, W: Watcher> {
     pub notices: &'a N,
@@ -50,14 +48,12 @@ pub struct ServingHooks<'a, N: Notices, A: Release, W: Watcher> {
     pub watcher: &'a W,
 }
 
-/// The result of serving a site to its end.
 #[derive(Drop)]
 pub struct Served<J: Journal = NoJournal> {
     /// The site, closed.
     pub site: Site,
-    /// The site's journal.
     pub journal: J,
-    /// The number of connections whose sessions ended without a `SessionFault`.
+    /// How many sessions ended without a `SessionFault`.
     pub clean: u64,
 }
 
@@ -69,8 +65,7 @@ pub enum ServeFault {
     TooFewThreads,
     /// The journal failed, so the act of the last entry was never answered.
     Journal,
-    /// The close was refused because the workers' receipts differ from the site's history (C2). `Serving::run` returns
-    /// no other refusal.
+    /// The workers' receipts differ from the site's history (C2).
     NotClosed(CloseRefusal),
 }
 
@@ -84,11 +79,10 @@ impl From<AllocError> for ServeFault {
     }
 }
 
-/// What serving a site returns if it ends without a closed site.
 #[derive(Drop)]
 pub struct Unclosed<J: Journal = NoJournal> {
     pub why: ServeFault,
-    /// The site and the journal, unchanged, if `why` is `OutOfMemory`: then nothing was served. Otherwise `None`.
+    /// The site and the journal, unchanged, if `why` is `OutOfMemory`.
     pub back: Option<(Watched<Sums>, J)>,
 }
 
@@ -128,8 +122,6 @@ fn prepare<L: SiteLedger>(
     })
 }
 
-/// Returns why a site wasn't closed: `Journal` if `journal_has_failed` is true, or else `NotClosed` with the refusal
-/// `why`.
 fn why_not_closed(why: CloseRefusal, journal_has_failed: bool) -> ServeFault
     ensures { result ≡ fault_of_close why journal_has_failed }
 {
@@ -140,11 +132,6 @@ fn why_not_closed(why: CloseRefusal, journal_has_failed: bool) -> ServeFault
     }
 }
 
-/// Closes a forecourt, and returns its site, its journal and `clean`. If the close is refused, the error is:
-///
-/// - `Journal`, if the journal failed
-/// - `NotClosed` otherwise: `passes` aren't all passes of the forecourt, each once, or their receipts differ from the
-///   site's history
 fn close<L: SiteLedger, J: Journal, R: Wait>(
     rt: &R,
     forecourt: Forecourt<L, J>,
@@ -168,24 +155,21 @@ fn close<L: SiteLedger, J: Journal, R: Wait>(
     }
 }
 
-/// Does nothing. Its contract is a law: the number `connections`, if there is one, is below 2^32.
+/// A law, by the range of `u32`.
 fn prove_few(connections: Option<u32>)
     ensures { IfSome connections (λ number. number < 2 ^ 32) }
 {
     if let Some(_number) = connections {}
 }
 
-/// What all workers gave back: their passes, and the number of connections whose sessions ended without a
-/// `SessionFault`.
+/// What all workers gave back.
 #[derive(Drop)]
 struct Returned<L: SiteLedger> {
     passes: Vec<Pass<L>>,
     clean: u64,
 }
 
-/// Runs all tasks, and then asks the watcher to stop looking at the site. Moves the tasks' passes into `passes`, which
-/// must be empty and have room for them. `tasks` must be those of a whole crew, and must not have run yet. Returns `None`
-/// if the system gave too few threads; then no task ran.
+/// Runs all tasks of a crew, and then asks the watcher to go. `None` if the system gave too few threads.
 fn work_all<
     L: SiteLedger + Send + Sync,
     J: Journal + Send,
@@ -214,19 +198,9 @@ fn work_all<
 }
 
 impl<J: Journal + Send> Serving<J> {
-    /// Serves the site, and then closes it. Each worker of the crew serves its connections, one after another. The
-    /// watcher looks at the site until the last worker has ended. Each entry's line is passed to the journal before the
-    /// entry is answered, and the answer is sent once `release` allows it. A listener is closed when the last of its
-    /// workers ends.
-    ///
-    /// The error is:
-    ///
-    /// - `OutOfMemory`: nothing was served, and the site and the journal are given back.
-    /// - `TooFewThreads`: nothing was served.
-    /// - `Journal`: the journal failed.
-    /// - `NotClosed`: the close was refused.
-    ///
-    /// If `connections` is `None`, this returns only if nothing was served.
+    /// Serves the site, and then closes it. Each entry's line is passed to the journal before the entry is answered,
+    /// and the answer is sent once `release` allows it. A listener is closed when the last of its workers ends. If
+    /// `connections` is `None`, this returns only if nothing was served.
     pub fn run<
         N: Notices + Sync,
         A: Release + Sync,
@@ -251,9 +225,7 @@ impl<J: Journal + Send> Serving<J> {
         self.run_on::<Brand, N, A, W, R>(rt, alloc, blank, outside)
     }
 
-    /// Serves the site like `run`, with the same errors. Makes the ledger `L` from `blank`, which must have been made
-    /// for `L`. `L` must have one part for each worker. Its `config` must be the site's configuration, its `base` the
-    /// site's history, and its `taken` the bytes that the journal has taken, if they are known.
+    /// `run`, over a ledger that names the site's configuration, its history, and what the journal has taken.
     fn run_on<
         L: SiteLedger + Send + Sync,
         N: Notices + Sync,

@@ -8,7 +8,6 @@ use std::sync::{Mutex, Wait};
 use std::thread;
 use std::time::{Clock, Duration};
 
-/// A listener, and how fast the lines of its connections are read.
 #[derive(Drop)]
 pub struct SharedDoor {
     pub listener: Listener,
@@ -17,7 +16,6 @@ pub struct SharedDoor {
     bucket: Mutex<Bucket>,
 }
 
-/// Returns a time in whole microseconds, at most 2^64 - 1.
 fn microseconds(time: Duration) -> u64
     ensures { result ≡ min (as_nanos time / 1000) (2 ^ 64 - 1) }
 {
@@ -25,7 +23,6 @@ fn microseconds(time: Duration) -> u64
 }
 
 impl SharedDoor {
-    /// Makes a door at which no line was read yet.
     pub fn new(listener: Listener, lines_per_second: u32) -> SharedDoor
         ensures listener { result.listener ≡ listener }
         ensures bound { result.lines_per_second ≡ lines_per_second }
@@ -37,14 +34,14 @@ impl SharedDoor {
         }
     }
 
-    /// Asks to read a line at `now`, in microseconds on the machine's clock. There must be a bound.
+    /// Asks to read a line at `now`, in microseconds on the machine's clock.
     fn take_turn<R: Wait>(&self, rt: &R, now: u64) -> Turn
         requires { 0 < self.now.lines_per_second }
     {
         self.bucket.lock(rt).take_turn(self.lines_per_second, now)
     }
 
-    /// Waits until a line is allowed to be read. If there is no bound, or the clock can't be read, doesn't wait.
+    /// Waits until a line may be read; if the clock can't be read, doesn't wait.
     pub(crate) fn wait_for_turn<R: Wait + Clock>(&self, rt: &R) {
         if self.lines_per_second == 0 {
             return;

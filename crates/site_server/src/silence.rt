@@ -7,8 +7,8 @@ use crate::stream::Stream;
 use std::io::{self, ErrorKind, Read};
 use till_request::Role;
 
-/// The reading half of a connection. If its peer sends nothing for `idle_seconds`, that is reported to an operator, and
-/// the input ends as if the peer had closed the connection. If `idle_seconds` is 0, there is no such limit.
+/// The reading half of a connection. If its peer sends nothing for `idle_seconds` (0 is no limit), that is reported,
+/// and the input ends as if the peer had closed it.
 #[derive(Drop)]
 pub struct IdleLimitedReader<'a, N: Notices> {
     pub(crate) stream: Stream,
@@ -16,20 +16,16 @@ pub struct IdleLimitedReader<'a, N: Notices> {
     pub(crate) role: Role,
     pub(crate) pass: u32,
     pub(crate) idle_seconds: u32,
-    /// Whether the input has ended because the peer was silent. No further read waits then.
+    /// No read waits once the peer was silent.
     pub(crate) is_over: bool,
 }
 
-/// Returns whether a read failed because nothing came for `idle_seconds`. If `idle_seconds` is 0, there is no limit,
-/// and the result is false.
 fn is_silence(error: &io::Error, idle_seconds: u32) -> bool
     ensures { IsTrue result ↔ (0 < idle_seconds) × (error_kind error.now ≡ ErrorKind.WouldBlock) }
 {
     idle_seconds > 0 && error.kind() == ErrorKind::WouldBlock
 }
 
-/// Returns the end of the input (`Ok(0)`) and true if `read` failed because the peer was silent for `idle_seconds`.
-/// Otherwise returns `read` and false. If `idle_seconds` is 0, there is no limit.
 fn end_if_silent(read: io::Result<usize>, idle_seconds: u32) -> (io::Result<usize>, bool)
     ensures silent { IsTrue result.1
         ↔ IsErrAnd read (λ error. (0 < idle_seconds) × (error_kind error ≡ ErrorKind.WouldBlock)) }

@@ -44,7 +44,6 @@ impl RoleThreads {
         }
     }
 
-    /// Whether the role has workers, but a thread for none of them.
     pub fn is_unserved(self) -> bool
         ensures { result ≡ is_unserved self }
     {
@@ -74,7 +73,6 @@ impl ThreadCounts {
         }
     }
 
-    /// Counts one worker more.
     pub(crate) fn counted(self, role: Role, has_thread: bool) -> ThreadCounts
         ensures { result ≡ counted self role has_thread }
     {
@@ -102,14 +100,13 @@ impl ThreadCounts {
         }
     }
 
-    /// Adds the roles up.
     pub fn all(self) -> RoleThreads
         ensures { result ≡ all_roles self }
     {
         self.tills.plus(self.dispensers).plus(self.owner)
     }
 
-    /// Whether each role that has workers has a thread for one of them. A site is served only then.
+    /// Whether each role with workers has a thread for one of them. A site is served only then.
     pub fn serves_each_role(self) -> bool
         ensures { result ≡ serves_each_role self }
     {

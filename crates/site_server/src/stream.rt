@@ -4,17 +4,14 @@ use std::net::{Shutdown, TcpStream};
 use std::os::unix::net::UnixStream;
 use std::time::Duration;
 
-/// A connection. It is closed when its last handle is dropped.
+/// A connection over a port or a local socket. It is closed when its last handle is dropped.
 #[derive(Drop)]
 pub enum Stream {
-    /// A connection that came in at a port.
     Port(TcpStream),
-    /// A connection that came in at a local socket.
     Socket(UnixStream),
 }
 
 impl Stream {
-    /// Returns another handle of the same connection. The error is that the system couldn't make one.
     pub(crate) fn try_clone(&self) -> io::Result<Stream> {
         match self {
             Stream::Port(stream) => Ok(Stream::Port(stream.try_clone()?)),
@@ -22,8 +19,7 @@ impl Stream {
         }
     }
 
-    /// Limits how long a read or a write is allowed to wait, through any handle of the connection. A read or a write
-    /// that waits longer fails with `WouldBlock`. `limit` must not be 0. The error is that the limit couldn't be set.
+    /// Reads and writes that wait longer than `limit`, which isn't 0, fail with `WouldBlock`, through any handle.
     pub(crate) fn limit_waits(&self, limit: Duration) -> io::Result<()> {
         match self {
             Stream::Port(stream) => {
@@ -37,8 +33,7 @@ impl Stream {
         }
     }
 
-    /// Limits how long a read is allowed to wait, through any handle of the connection. A read that waits longer fails
-    /// with `WouldBlock`. `limit` must not be 0. The error is that the limit couldn't be set.
+    /// As `limit_waits`, for reads alone.
     pub(crate) fn limit_reads(&self, limit: Duration) -> io::Result<()> {
         match self {
             Stream::Port(stream) => stream.set_read_timeout(Some(limit)),
@@ -46,8 +41,7 @@ impl Stream {
         }
     }
 
-    /// Tells the peer that nothing more will be written, behind what was written so far. The error is that the
-    /// connection failed.
+    /// Tells the peer that nothing more will be written.
     pub(crate) fn end_output(&self) -> io::Result<()> {
         match self {
             Stream::Port(stream) => stream.shutdown(Shutdown::Write),
@@ -55,7 +49,6 @@ impl Stream {
         }
     }
 
-    /// Reads like `Read::read`, through a shared reference.
     pub(crate) fn read_shared(&self, buf: &mut [u8]) -> io::Result<usize> {
         match self {
             Stream::Port(stream) => {

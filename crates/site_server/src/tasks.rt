@@ -8,16 +8,15 @@ use crate::crew::Worker;
 use site_lock::{Pass, SiteLedger};
 use std::alloc::{AllocError, Global};
 
-/// A worker's task. Before it runs, `waiting` has the pass and the worker, and `done` is `None`. At its end `waiting`
-/// is `None`, and `done` has the pass, and the number of connections whose sessions ended without a `SessionFault`.
+/// Before it runs, `waiting` has the pass and the worker; afterwards `done` has the pass, and how many sessions ended
+/// without a `SessionFault`.
 #[derive(Drop)]
 pub struct WorkerTask<L: SiteLedger> {
     pub waiting: Option<(Pass<L>, Worker)>,
     pub done: Option<(Pass<L>, u64)>,
 }
 
-/// Makes a task for each pass, with the worker at the same place in `workers`. If one of the two lists is longer, its
-/// further elements are dropped. The error is that memory ran out.
+/// Makes a task for each pass, with the worker at the same place in `workers`.
 pub(crate) fn tasks_of<L: SiteLedger>(
     alloc: Global,
     passes: Vec<Pass<L>>,
@@ -36,9 +35,6 @@ pub(crate) fn tasks_of<L: SiteLedger>(
     Ok(tasks)
 }
 
-/// Moves the pass of a finished task into `passes`, which must have room for one more. Returns the number of the task's
-/// connections whose sessions ended without a `SessionFault`. For a task that isn't finished, moves nothing and returns
-/// 0.
 fn collect_pass<L: SiteLedger>(task: &mut WorkerTask<L>, passes: &mut Vec<Pass<L>>) -> u64
     requires { vec_len passes.old + 1 ≤ vec_capacity passes.old }
     ensures items { passes.new.items ≡ passes.old.items ++ collected (task.old.done ∷ []) }
@@ -55,8 +51,8 @@ fn collect_pass<L: SiteLedger>(task: &mut WorkerTask<L>, passes: &mut Vec<Pass<L
     }
 }
 
-/// Moves the passes of all finished tasks into `passes`, which must have room for one pass from each task. Returns how
-/// many sessions of these tasks ended without a `SessionFault`. This number must be below 2^64.
+/// Moves the passes of all finished tasks into `passes`. Returns how many of their sessions ended without a
+/// `SessionFault`.
 pub fn collect_passes<L: SiteLedger>(tasks: &mut [WorkerTask<L>], passes: &mut Vec<Pass<L>>) -> u64
     requires room { vec_len passes.old + length tasks.old ≤ vec_capacity passes.old }
     requires few { clean_in (map (λ p. p.done) tasks.old) < 2 ^ 64 }

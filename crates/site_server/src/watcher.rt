@@ -4,7 +4,6 @@ use std::sync::Wait;
 use std::thread::Threads;
 use std::time::Clock;
 
-/// Looks at a site while its workers serve it.
 pub trait Watcher {
     /// Looks at the site until `leave` is called.
     fn watch<L: SiteLedger + Send + Sync, J: Journal + Send, R: Threads + Wait + Clock + Sync>(
@@ -13,12 +12,10 @@ pub trait Watcher {
         forecourt: &Forecourt<L, J>,
     );
 
-    /// Asks `watch` to return soon, even if `watch` begins only later. `Serving::run` calls this once the last worker
-    /// has ended.
+    /// Asks `watch` to return soon, even if it begins only later. This is called once the last worker has ended.
     fn leave(&self);
 }
 
-/// A watcher that doesn't look at the site.
 #[derive(Clone, Copy)]
 pub struct NoWatcher;
 

@@ -16,21 +16,16 @@ use std::sync::Wait;
 use std::time::Clock;
 use till_request::Role;
 
-/// What all workers of a served site share.
 #[derive(Drop)]
 pub struct Workers<'a, L: SiteLedger, J: Journal, N: Notices, A: Release, R: Wait + Clock> {
     pub rt: &'a R,
     pub alloc: Global,
     pub forecourt: Forecourt<L, J>,
     pub notices: &'a N,
-    /// Decides when an answer is allowed to be sent.
     pub release: &'a A,
     pub(crate) gate: StartGate,
-    /// For how many further entries memory is made ready once the workers have their threads.
     pub ready_entries: usize,
-    /// The number of connections that each worker serves, one after another. `None` is without end.
     pub connections: Option<u32>,
-    /// How many seconds at most a peer is allowed to send nothing, or to take no bytes of an answer. 0 is no limit.
     pub idle_seconds: u32,
 }
 
@@ -42,8 +37,8 @@ impl<L: SiteLedger, J: Journal, N: Notices, A: Release, R: Wait + Clock> Workers
     A,
     R,
 > {
-    /// Decides by the threads that there are whether the site is served, and lets the workers go on. Memory is made ready
-    /// only now, so that it leaves room for threads.
+    /// Decides by these threads whether the site is served, and lets the workers go on. Memory is made ready only now,
+    /// so that there is room for the threads.
     pub fn start(&self, threads: ThreadCounts) {
         let is_served = threads.serves_each_role();
         if is_served {
@@ -53,8 +48,8 @@ impl<L: SiteLedger, J: Journal, N: Notices, A: Release, R: Wait + Clock> Workers
         self.gate.decide(self.rt, is_served);
     }
 
-    /// Waits at the gate, and then serves the worker's connections with the pass. Returns the pass, and how many
-    /// sessions ended without a `SessionFault`; or `None` if the site isn't served.
+    /// Waits at the gate, and then serves the worker's connections. Returns the pass, and how many sessions ended
+    /// without a `SessionFault`; `None` if the site isn't served.
     pub fn work(&self, task: (Pass<L>, Worker)) -> Option<(Pass<L>, u64)>
         ensures { MayRunWorker L.config J.may_fail self.now.connections (Some task) result }
     {
@@ -79,8 +74,6 @@ impl<L: SiteLedger, J: Journal, N: Notices, A: Release, R: Wait + Clock> Workers
         Some(done)
     }
 
-    /// Serves `connections` connections of `doors` with this pass and role. Each answer is sent once `release` allows
-    /// it. Returns the pass, with the receipts that it gained, and how many connections ended without a `SessionFault`.
     fn serve<S: Doors + Drop>(
         &self,
         pass: Pass<L>,
@@ -109,8 +102,6 @@ impl<L: SiteLedger, J: Journal, N: Notices, A: Release, R: Wait + Clock> Workers
         (desk.into_pass(), clean)
     }
 
-    /// Serves one connection of `doors` after another with this pass and role, without end. Each answer is sent once
-    /// `release` allows it.
     fn serve_without_end<S: Doors + Drop>(&self, pass: Pass<L>, role: Role, doors: S) -> ! {
         let mut doors = HeldDoors {
             doors,
