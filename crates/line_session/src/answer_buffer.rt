@@ -11,18 +11,16 @@ use till_request::short_text::put_line;
 use till_request::write::write_all;
 use till_request::{Answer, DeviceFault, LineOut, ShortText};
 
-/// The size of a full buffer, in bytes. If at least this many bytes are buffered, they are written before the next line
-/// is read.
+/// In bytes: so many are written before the next line is read.
 const MOST_WAITING: usize = 16_384;
 
-/// Answers that are buffered in memory, to be written to a device together. If memory runs out for an answer, that
-/// answer is written at once, after those in the buffer.
+/// Answers that are to be written together. If memory runs out for one, it is written at once, behind those in the
+/// buffer.
 #[derive(Drop)]
 pub struct AnswerBuffer {
     held: Vec<u8>,
 }
 
-/// Writes all of `bytes`. The error is that a write failed; then a part of them was perhaps written.
 fn write_now<O: LineOut>(output: &mut O, bytes: &[u8]) -> Result<(), SessionFault>
     ensures ok { OnOk result (Sends bytes.now [] (O.written output.old) (O.written output.new)) }
     ensures err { OnErr result ((lost : List ℕ) × Sends bytes.now lost (O.written output.old) (O.written output.new)) }
@@ -36,7 +34,6 @@ fn write_now<O: LineOut>(output: &mut O, bytes: &[u8]) -> Result<(), SessionFaul
 }
 
 impl AnswerBuffer {
-    /// Makes an empty buffer.
     pub fn new(alloc: Global) -> AnswerBuffer
         ensures { result.held.items ≡ [] }
     {
@@ -45,14 +42,12 @@ impl AnswerBuffer {
         }
     }
 
-    /// Returns whether the buffered answers have at least 16,384 bytes. They must then be written before the next line
-    /// is read.
     pub fn is_full(&self) -> bool {
         self.held.len() >= MOST_WAITING
     }
 
-    /// Writes the buffered answers, and empties the buffer. The error is that a write failed. Then the first bytes of
-    /// these answers were perhaps written, the rest is lost, and the buffer is empty too.
+    /// Writes the buffered answers, and empties the buffer. After an error a beginning was perhaps written, and the
+    /// rest is lost.
     pub fn flush<O: LineOut>(&mut self, output: &mut O) -> Result<(), SessionFault>
         ensures ok { OnOk result
             (Sends self.old.held.items [] (O.written output.old) (O.written output.new)) }
@@ -67,9 +62,7 @@ impl AnswerBuffer {
         written
     }
 
-    /// Appends an answer with its LF to the buffer. If there is no memory for that, writes the buffered answers and
-    /// then this answer, and empties the buffer. The error is that a write failed. Then the first bytes of these
-    /// answers were perhaps written, the rest is lost, and the buffer is empty too.
+    /// Appends an answer with its LF. Where there is no memory for that, writes all; an error is as in `flush`.
     pub fn put<O: LineOut>(&mut self, output: &mut O, answer: &Answer) -> Result<(), SessionFault>
         ensures ok { OnOk result
             (Sends (self.old.held.items ++ answer_line answer.now) self.new.held.items
@@ -85,7 +78,6 @@ impl AnswerBuffer {
         self.put_bytes(output, line.as_str().as_bytes())
     }
 
-    /// Appends bytes to the buffer, as `put` appends an answer.
     fn put_bytes<O: LineOut>(&mut self, output: &mut O, bytes: &[u8]) -> Result<(), SessionFault>
         ensures ok { OnOk result
             (Sends (self.old.held.items ++ bytes.now) self.new.held.items (O.written output.old) (O.written output.new)) }
@@ -101,7 +93,7 @@ impl AnswerBuffer {
         write_now(output, bytes)
     }
 
-    /// Appends bytes to the buffer, and returns true. If memory runs out, changes nothing and returns false.
+    /// Appends bytes, unless memory runs out.
     fn hold(&mut self, bytes: &[u8]) -> bool
         ensures holds { result ≡ true → self.new.held.items ≡ self.old.held.items ++ bytes.now }
         ensures same { result ≡ false → self.new.held.items ≡ self.old.held.items }

@@ -13,30 +13,27 @@ use till_request::line::read_line_into;
 use till_request::write::write_answer;
 use till_request::{Answer, Found, InputFault, LineFault, LineIn, LineOut, WriteFault};
 
-/// The most reads that one session makes. Each read asks for one byte.
+/// The most reads of one session. Each asks for one byte.
 pub const READS: u32 = 67_108_864;
 
-/// How a session ended without a `SessionFault`. `lines` is the number of its answers. `cut` is the fault of its last
-/// line, if this line was too long (L1) or had no LF (L4), else `None`. The answer with this fault is counted in
-/// `lines` too.
+/// How a session ended without a `SessionFault`: how many answers it had, and the fault of its last line, if that was
+/// too long (L1) or had no LF (L4). The answer with this fault is counted too.
 #[derive(Clone, Copy, PartialEq)]
 pub struct Ended {
     pub lines: u64,
     pub cut: Option<LineFault>,
 }
 
-/// Why a session failed.
 #[derive(Clone, Copy, PartialEq)]
 pub enum SessionFault {
     /// N1: a read failed.
     Read,
     /// N2: a write failed.
     Write,
-    /// N3: the session would need more reads than it is allowed to make.
+    /// N3: the reads ran out.
     ReadsSpent,
     OutOfMemory,
-    /// The journal failed, and the site takes no further event. The last line that was read has no answer, or only a
-    /// beginning of its answer was written. The answers to lines before it can also be missing or cut short.
+    /// The journal failed, and the site takes no further event. The last lines have no answer, or a beginning of one.
     Journal,
 }
 
@@ -85,8 +82,7 @@ impl From<HandlerError> for SessionFault {
     }
 }
 
-/// Returns the fault of a line that ends a session: the line is too long, or the input ends before its LF. Returns
-/// `None` if a whole line was found, or if the input ended and no line was begun.
+/// The fault of a line that ends a session, if it was cut.
 pub(crate) fn cut_of(found: Found) -> Option<LineFault>
     ensures { result ≡ cut_by found }
 {
@@ -97,9 +93,7 @@ pub(crate) fn cut_of(found: Found) -> Option<LineFault>
     }
 }
 
-/// Ends a session after `lines` answers. `lines` must be at most `READS`. If `cut` isn't `None`, it is the fault of the
-/// last line, and is written as one more answer. Returns the number of all answers, and `cut`. The error is that the
-/// write failed.
+/// Ends a session after `lines` answers, with one more for the fault of a last line.
 fn end<O: LineOut>(
     alloc: Global,
     output: &mut O,
@@ -127,13 +121,10 @@ fn end<O: LineOut>(
     }
 }
 
-/// Answers the lines of an input in order, with at most `left` reads, and sets `left` to the number of reads that
-/// remain. `left` must be at most `READS` before. `handler` writes each answer to `output`, and can use and change
-/// `clock` and `desk`.
+/// Answers the lines of an input in order, with at most `left` reads, and leaves in `left` how many remain.
 ///
-/// The session ends at the end of the input. A line that is too long, or a last line without LF, is answered with its
-/// fault, and the session ends there too. The error is that a read or a write failed, that a read is needed and `left`
-/// is 0, that memory ran out, or that the journal failed. An answer is written in part only if a write fails.
+/// The session ends at the end of the input, or with the fault of a line that is too long or has no LF. An answer is
+/// written in part only if a write fails.
 pub fn answer_lines_within<I: LineIn, O: LineOut, C, D, S: LineHandler<C, D>>(
     input: &mut I,
     output: &mut O,
@@ -178,9 +169,7 @@ pub fn answer_lines_within<I: LineIn, O: LineOut, C, D, S: LineHandler<C, D>>(
     }
 }
 
-/// Answers the lines of an input in order with at most 67,108,864 reads, and returns how the session ended. The error
-/// is that a read or a write failed, that more reads are needed, that memory ran out, or that the journal failed.
-/// `answer_lines_within` says more.
+/// `answer_lines_within` with 67,108,864 reads.
 pub fn answer_lines<I: LineIn, O: LineOut, C, D, S: LineHandler<C, D>>(
     input: &mut I,
     output: &mut O,

@@ -11,9 +11,8 @@ use till_request::grammar::parse_line;
 use till_request::write::write_answer;
 use till_request::{Answer, LineFault, LineOut, Role, WriteFault};
 
-/// Returns the answer to a line from a sender of this role. `line` doesn't include its LF. The answer is the desk's
-/// answer to the line's act at the clock's moment. If the line can't be read as an act of the role, or memory runs out
-/// for a load, the answer is `Line` with the line's fault, and the clock and the desk stay as they are.
+/// The desk's answer to a line's act at the clock's moment, or the line's fault; then clock and desk stay as they are.
+/// `line` is without its LF.
 fn answer_to<C: Clock, D: Desk>(
     alloc: Global,
     role: Role,
@@ -32,9 +31,7 @@ fn answer_to<C: Clock, D: Desk>(
     }
 }
 
-/// Returns the error with which an answer ends the session, if it is one of the two answers that aren't written:
-/// `OutOfMemory` for `Answer::Line(LineFault::OutOfMemory)`, and `Journal` for `Answer::JournalFailed`. Returns `None`
-/// for all other answers, `Answer::OutOfMemory` among them.
+/// The error with which the session ends where an answer isn't written. `Answer::OutOfMemory` is written.
 fn unwritten_error(answer: &Answer) -> Option<HandlerError>
     ensures some { IfSome result (λ fault. IsUnwritten fault answer.now) }
     ensures none { IfNone result (ends_unwritten answer.now ≡ false) }
@@ -53,8 +50,6 @@ fn unwritten_error(answer: &Answer) -> Option<HandlerError>
     }
 }
 
-/// Returns the answer to a line that is to be written: the answer of `answer_to`. If this is one of the two answers that
-/// aren't written, returns the error of `unwritten_error`.
 pub fn written_answer<C: Clock, D: Desk>(
     alloc: Global,
     role: Role,
@@ -74,9 +69,7 @@ pub fn written_answer<C: Clock, D: Desk>(
     }
 }
 
-/// A line handler for the lines of a role. It parses a line to an act, and answers with the desk's answer to this act,
-/// at the moment that the clock gives. If the line can't be read as an act of the role, it answers with the line's
-/// fault. The answers `Line(OutOfMemory)` and `JournalFailed` aren't written: they end the session with an error.
+/// Reads the lines of a role, and answers them by a desk at the moments of a clock.
 #[derive(Clone, Copy)]
 pub struct DeskHandler {
     pub alloc: Global,

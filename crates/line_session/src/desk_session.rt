@@ -10,13 +10,9 @@ use crate::desk_handler::DeskHandler;
 use std::alloc::Global;
 use till_request::{LineIn, LineOut, Role};
 
-/// Answers the lines of an input in order, like `answer_lines`, with the same errors. Each line is read as an act of
-/// the role, and answered with the desk's answer at the moment that the clock gives. A line that can't be read as such
-/// an act is answered with its fault. But if this fault is `OutOfMemory`, the line has no answer, and the session ends
-/// with this error.
-///
-/// After an error, all earlier answers have been written. If the error is `Write`, the first bytes of one more answer
-/// were perhaps written too.
+/// Answers the lines of an input in order, as acts of a role. A line for whose act memory ran out has no answer, and
+/// ends the session. After an error all earlier answers have been written, and after `Write` perhaps a beginning of one
+/// more.
 pub fn session<I: LineIn, O: LineOut, C: Clock, D: Desk>(
     alloc: Global,
     role: Role,

@@ -8,35 +8,30 @@ pub enum HandlerError {
     /// N2: the write of the answer failed.
     Write,
     OutOfMemory,
-    /// The journal failed, so the line has no answer: the site takes no further event.
+    /// The journal failed: the site takes no further event.
     Journal,
 }
 
-/// A handler of lines. It answers each line with a text, and can use and change a clock of type `C` and a desk of type
-/// `D`.
+/// Answers each line with a text, and can change a clock and a desk.
 pub trait LineHandler<C, D> {
     ghost use Rattle.std.specs.Prelude.{List, ℕ, OnOk, IfErr};
     ghost use Rattle.till_request.specs.Count.{RoseBy, one_if};
     ghost use Rattle.line_session.specs.Answering.{HandlerFails, WritesAnswer, is_write_fault};
     ghost use Rattle.line_session.specs.declared.line_handler.HandlerError.{HandlerError};
 
-    /// For proofs: with the clock and the desk in the first state, the handler can answer this line (the first list of
-    /// bytes) with this text (the second), and leave the clock and the desk in the second state.
+    /// For proofs: from the first state of clock and desk to the second, this line (the first bytes) can be answered
+    /// with this text (the second).
     ghost answers_with: { Self → (C × D) → List ℕ → List ℕ → (C × D) → Type 0 };
 
-    /// For proofs: the handler can leave this line without an answer, with this error (memory ran out, or the journal
-    /// failed). The clock and the desk are in the first state before the line, and in the second state after it.
+    /// For proofs: from the first state to the second, this line can stay without an answer, with this error.
     ghost drops: { Self → HandlerError → (C × D) → List ℕ → (C × D) → Type 0 };
 
-    /// For proofs: at this line, the handler can run out of memory, and leave the clock, the desk and the output as
-    /// they were.
+    /// For proofs: memory can run out at this line, which then changes nothing.
     ghost needs_memory: { Self → List ℕ → Type 0 };
 
-    /// Returns the allocator that gives the memory for lines and answers.
     fn alloc(&self) -> Global;
 
-    /// Writes the answer to a line. `line` doesn't include its LF. The error is that a write failed, that memory ran
-    /// out, or that the journal failed. Any error ends the session.
+    /// Writes the answer to a line, which is without its LF. Any error ends the session.
     fn handle_line<O: LineOut>(
         &self,
         line: &[u8],

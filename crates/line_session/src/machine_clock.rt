@@ -5,17 +5,16 @@ use crate::desk::Clock;
 use std::time;
 use std::time::{SystemTime, UNIX_EPOCH};
 
-/// A clock that gives the machine's time in whole seconds since the start of 1970. If this time can't be read, or is
-/// before 1970, the clock gives its last moment again, or 0 if there is none yet.
+/// Gives the machine's time in whole seconds since the start of 1970. If that can't be read, or is before 1970, it
+/// gives its last moment again.
 #[derive(Drop)]
 pub struct MachineClock<'a, R: time::Clock> {
     rt: &'a R,
-    /// The moment that was given last, or 0 if there is none yet.
+    /// 0 if there is none yet.
     pub last: u64,
 }
 
 impl<'a, R: time::Clock> MachineClock<'a, R> {
-    /// Makes a clock that has given no moment yet.
     pub fn new(rt: &'a R) -> MachineClock<'a, R>
         ensures { result.last ≡ 0 }
     {

@@ -1,5 +1,4 @@
-//! The loop that answers the lines of a connection, and writes several answers together where several lines have
-//! arrived.
+//! The loop that answers the lines of a connection, and writes answers together where several lines have come.
 ghost use Rattle.std.specs.Prelude.{◌≡◌, ◌≢◌, ◌++◌, ◌-◌, ◌≤◌, ℕ, List, [], true, false, IfOk, IfErr, OnErr, OnOk, Err};
 ghost use Rattle.till_request.specs.Count.{RoseBy, one_if};
 ghost use Rattle.line_session.specs.Buffering.{Sends, HoldsWithBuffered};
@@ -18,8 +17,6 @@ use std::alloc::Global;
 use till_request::line::read_line_into;
 use till_request::{Answer, Found, LineFault, LineOut, Role};
 
-/// The state of a session in progress: how many reads it can still make, the last line that was read, and the buffered
-/// answers.
 #[derive(Drop)]
 struct Progress {
     alloc: Global,
@@ -29,7 +26,6 @@ struct Progress {
 }
 
 impl Progress {
-    /// Makes the state of a new session: all its reads remain, and no answer is buffered.
     fn new(alloc: Global) -> Progress
         ensures left { result.left ≡ session_reads }
         ensures none { result.pending.held.items ≡ [] }
@@ -42,9 +38,7 @@ impl Progress {
         }
     }
 
-    /// Writes the buffered answers if they have at least 16,384 bytes, or if the input doesn't have the whole next line
-    /// in its buffer (`doors.has_buffered_line` returns false). Otherwise writes nothing. The error is that a write
-    /// failed.
+    /// Writes the buffered answers, unless the next line is there already and the buffer isn't full.
     fn flush_unless_more<S: Doors>(
         &mut self,
         doors: &S,
@@ -66,9 +60,7 @@ impl Progress {
         self.pending.flush(&mut connection.output)
     }
 
-    /// Ends a session after `lines` answers. `lines` must be at most `READS`. If `cut` isn't `None`, it is the fault of
-    /// the last line, and the line is answered with it. This answer is buffered, or written at once if there is no
-    /// memory to buffer it. Returns the number of all answers, and `cut`. The error is that a write failed.
+    /// Ends a session after `lines` answers, with one more, buffered, for the fault of a last line.
     fn end<O: LineOut>(
         &mut self,
         output: &mut O,
@@ -97,10 +89,7 @@ impl Progress {
         }
     }
 
-    /// Answers the lines of a connection in order, and returns how the session ended. Before the call the buffer must
-    /// be empty, and at most `READS` reads must be left. After the call some answers are perhaps still in the buffer.
-    /// The error is that a read or a write failed, that a read is needed and none is left, that memory ran out, or that
-    /// the journal failed.
+    /// Answers the lines of a connection in order. Some answers are perhaps still in the buffer afterwards.
     fn answer_lines<S: Doors, C: Clock, D: Desk>(
         &mut self,
         role: Role,
@@ -152,7 +141,7 @@ impl Progress {
     }
 }
 
-/// Returns whether a fault is that a device failed, in a read or a write. After such a fault nothing more is written.
+/// Nothing more is written after such a fault.
 fn device_failed(fault: SessionFault) -> bool
     ensures yes { result ≡ true → fault ≢ SessionFault.Write → fault ≡ SessionFault.Read }
     ensures no { result ≡ false → (fault ≢ SessionFault.Read) × (fault ≢ SessionFault.Write) }
@@ -163,12 +152,9 @@ fn device_failed(fault: SessionFault) -> bool
     }
 }
 
-/// Answers the lines of a connection in order, as acts of a role, like `session`, with the same errors. But answers are
-/// buffered, to be written together. Before a line is read, the buffered answers are written if they have at least
-/// 16,384 bytes, or if the input doesn't have this whole line in its buffer (`doors.has_buffered_line` returns false).
-/// Otherwise they stay buffered.
-///
-/// After a failed read or write, answers that are still buffered are not written. After any other error they are.
+/// Like `session`, but answers are buffered, to be written together. They are written before a line is read that isn't
+/// there yet, or if they have at least 16,384 bytes. After a failed read or write, what is buffered is not written;
+/// after any other error it is.
 pub fn pipelined_session<S: Doors, C: Clock, D: Desk>(
     alloc: Global,
     role: Role,

@@ -10,7 +10,6 @@ use crate::pipelined::pipelined_session;
 use std::alloc::Global;
 use till_request::Role;
 
-/// Returns 1 for a session that ended without a `SessionFault`, and 0 otherwise.
 fn one_if_good(outcome: Result<Ended, SessionFault>) -> u64
     ensures counted { result ≡ one_good (Some outcome) }
     ensures most { result ≤ 1 }
@@ -21,10 +20,8 @@ fn one_if_good(outcome: Result<Ended, SessionFault>) -> u64
     }
 }
 
-/// Serves `connections` connections of a role, one after another, and returns how many of their sessions ended without
-/// a `SessionFault`.
-///
-/// A connection that can't be opened counts as one of the `connections`, but not in the number that is returned.
+/// Serves `connections` connections of a role, and returns how many of their sessions ended without a `SessionFault`.
+/// One that can't be opened counts as a connection, but not in what is returned.
 pub fn worker<S: Doors, C: Clock, D: Desk>(
     alloc: Global,
     role: Role,

@@ -10,14 +10,12 @@ use std::io::{self, ErrorKind, Read};
 use std::net::{Shutdown, TcpStream};
 use std::time::{Clock, Instant};
 
-/// The time limit in milliseconds: a connection ends when it has been open for this long without an answer, or when this
-/// long has passed since its answer was made.
+/// In milliseconds: so long a connection is open without an answer at most, and so long after its answer was made.
 const MOST_MILLISECONDS: u128 = 5000;
 
-/// The time limit in milliseconds for a connection without an answer while no further connection can be served.
+/// The same without an answer, in milliseconds, while no further connection can be served.
 const MOST_MILLISECONDS_IF_TAKEN: u128 = 1000;
 
-/// The limits of a connection: a request's head must have at most 8,192 bytes, and a request must have no body.
 const LIMITS: Config = Config {
     limits: Limits {
         max_head_len: 8192,
@@ -29,19 +27,17 @@ const LIMITS: Config = Config {
     read_size: 4096,
 };
 
-/// The result of a call of `Client::turn`, which reads or writes what it can without waiting.
 #[derive(Clone, Copy)]
 pub enum TurnOutcome {
     /// Bytes were read or written, or the input ended.
     Moved,
-    /// Nothing could be read or written: the peer must send or take something first.
+    /// The peer must send or take something first.
     Waits,
     /// The connection must be closed.
     Over,
 }
 
-/// Returns whether a connection is over. If it `is_answered`, `milliseconds` have passed since its answer was made, or
-/// else since it was opened. `are_all_taken` says that as many connections are served as can be served at once.
+/// `milliseconds` have passed since the answer was made, or else since the connection was opened.
 fn is_over(milliseconds: u128, is_answered: bool, are_all_taken: bool) -> bool
     ensures { result ≡ is_over milliseconds is_answered are_all_taken }
 {
@@ -53,21 +49,18 @@ fn is_over(milliseconds: u128, is_answered: bool, are_all_taken: bool) -> bool
     milliseconds >= most
 }
 
-/// A connection to the page port. No method waits for the peer: each call of `turn` reads or writes what it can at
-/// once.
+/// A connection to the page port. No method waits for the peer.
 #[derive(Drop)]
 pub struct Client {
     stream: TcpStream,
     connection: Connection,
     /// When the answer was made, or, before that, when the connection was opened.
     since: Instant,
-    /// Whether the whole answer was sent. Nothing more is sent then.
+    /// Nothing more is sent then.
     is_answered: bool,
 }
 
 impl Client {
-    /// Makes the client for the connection `stream`, which was just opened. The error is the system's: the connection
-    /// couldn't be set up, or the clock couldn't be read.
     pub fn new<R: Clock>(
         rt: &R,
         alloc: Global,
@@ -91,8 +84,7 @@ impl Client {
         matches!(self.connection.state(), State::Open)
     }
 
-    /// If the whole request has come and isn't answered yet, has `service` answer it, and sets `self.since` to the time
-    /// now. The error is that the clock can't be read.
+    /// Has `service` answer the request, if it has come whole and isn't answered yet.
     fn answer<S: Service, R: Clock>(&mut self, rt: &R, service: &mut S) -> io::Result<()> {
         if self.is_open() {
             self.connection.advance(service);
@@ -103,8 +95,8 @@ impl Client {
         Ok(())
     }
 
-    /// Writes to the connection if something is to be sent, and reads from it otherwise. Returns the number of bytes.
-    /// The error is `WouldBlock` if nothing can be written or read at once, or else the system's.
+    /// Writes if something is to be sent, and reads otherwise. The error is `WouldBlock` if nothing can be done at
+    /// once.
     fn transfer_bytes(&mut self) -> io::Result<usize> {
         if self.connection.wants_write() {
             self.connection.write_to(&mut self.stream)
@@ -113,12 +105,8 @@ impl Client {
         }
     }
 
-    /// Closes the connection for writing, if it isn't closed yet. Then reads and ignores at most 4,096 bytes that the
-    /// peer still sends. Returns how many, or 0 if the peer has closed its side. The error is `WouldBlock` if nothing
-    /// can be read at once, or else the system's.
-    ///
-    /// The whole answer must have been sent. If the connection were closed before the peer's bytes are read, the system
-    /// might throw the answer away.
+    /// Ends the output, and throws away what the peer still sends: at most 4,096 bytes. If the connection were closed
+    /// before they are read, the system might throw the answer away.
     fn drain_input(&mut self) -> io::Result<usize> {
         if !self.is_answered {
             self.is_answered = true;
@@ -128,8 +116,7 @@ impl Client {
         self.stream.read(&mut bytes)
     }
 
-    /// Has `service` answer the request once it has come, and writes or reads what it can at once, as `turn` does, but
-    /// returns a failure as an error. After an error the connection must be closed.
+    /// As `turn`, but returns a failure as an error.
     fn try_turn<S: Service, R: Clock>(
         &mut self,
         rt: &R,
@@ -156,9 +143,8 @@ impl Client {
     }
 
     /// Has `service` answer the request once it has come, and writes or reads what it can at once. `are_all_taken` says
-    /// that as many connections are served as can be served at once: then the request must come within 1 second, not 5.
-    /// Returns `Over` if the time limit is reached, if nothing more is to be sent and the peer has closed its side, or if there is a
-    /// failure. A failure isn't reported: nobody needs to know of a peer that goes away.
+    /// that no further connection can be served: then a request must come within 1 second, not 5. A failure isn't
+    /// reported: nobody needs to know of a peer that goes away.
     pub fn turn<S: Service, R: Clock>(
         &mut self,
         rt: &R,

@@ -1,11 +1,9 @@
-//! Counts of a site's workers and of their connections: for tills, for dispensers and for the owner. Also counts of the
-//! lines that are read at each door, and of the connections that are turned away there.
+//! Counts of a site's workers, of their connections, and of what comes in at each door.
 use pages::{DoorCounts, RoleCounts};
 use std::alloc::{AllocError, Global};
 use std::sync::atomic::{AtomicU32, AtomicU64, Ordering};
 use till_request::Role;
 
-/// Counts the workers and the connections of one role: tills, dispensers or owner.
 #[derive(Drop)]
 struct RoleCounters {
     /// How many workers the doors of this role have.
@@ -29,8 +27,7 @@ impl RoleCounters {
         }
     }
 
-    /// Returns these counts: the workers that still serve, the open connections, and all connections so far. `role` is
-    /// only copied to the result. A connection that ends during this call can still count as open.
+    /// A connection that ends during this call can still count as open.
     fn role_counts(&self, role: Role) -> RoleCounts {
         let left = self.left.load(Ordering::SeqCst);
         let closed = self.closed.load(Ordering::SeqCst);
@@ -44,8 +41,8 @@ impl RoleCounters {
     }
 }
 
-/// Counts what comes to one worker, by the worker's pass. Each worker's counts are 128 bytes apart from the next one's,
-/// so that workers on several processors don't wait for one another when they count.
+/// What comes to one worker. Its counts are 128 bytes apart from the next worker's, so that workers on several
+/// processors don't wait for one another when they count.
 #[derive(Drop)]
 struct PassCounters {
     lines: AtomicU64,
@@ -63,7 +60,6 @@ impl PassCounters {
     }
 }
 
-/// A door: its address, whom it is for, and how many workers it has.
 #[derive(Drop)]
 struct NamedDoor {
     address: String,
@@ -72,7 +68,7 @@ struct NamedDoor {
 }
 
 impl NamedDoor {
-    /// Returns the counts of this door, whose workers have the counters `passes`.
+    /// `passes` are the counters of the door's workers.
     fn counts(&self, passes: &[PassCounters]) -> DoorCounts<'_> {
         let (mut lines, mut turned_away) = (0u64, 0u64);
         for pass in passes {
@@ -88,21 +84,20 @@ impl NamedDoor {
     }
 }
 
-/// Counts a site's workers and their connections, separately for tills, for dispensers and for the owner, and what comes
-/// in at each door. A worker with `Role::All` counts as one for the owner.
+/// Counts a site's workers and their connections by role, and what comes in at each door. A worker with `Role::All`
+/// counts for the owner.
 #[derive(Drop)]
 pub struct ConnectionCounts {
     tills: RoleCounters,
     dispensers: RoleCounters,
     owner: RoleCounters,
-    /// The doors, in the order of their workers' passes.
+    /// In the order of their workers' passes.
     doors: Vec<NamedDoor>,
-    /// The counters of each worker. The one whose pass has the number n is at place n - 1.
+    /// Those of the worker whose pass has the number n are at place n - 1.
     passes: Vec<PassCounters>,
 }
 
 impl ConnectionCounts {
-    /// Makes counts that are all 0, of a site without doors.
     pub fn new(alloc: Global) -> ConnectionCounts {
         ConnectionCounts {
             tills: RoleCounters::new(),
@@ -130,8 +125,7 @@ impl ConnectionCounts {
         counted.workers = counted.workers.saturating_add(workers);
     }
 
-    /// Adds a door with `workers` workers for `role`, which have the passes that follow those of the doors before. `who`
-    /// and `address` are shown. The error is that memory ran out; the door then counts in part.
+    /// Adds a door with `workers` workers, which have the next passes. `who` and `address` are shown.
     pub fn add_door(
         &mut self,
         role: Role,
@@ -151,26 +145,23 @@ impl ConnectionCounts {
         Ok(())
     }
 
-    /// Returns the counters of the worker whose pass has this number, or `None` if no door has such a worker.
     fn at_pass(&self, pass: u32) -> Option<&PassCounters> {
         self.passes.get((pass as usize).wrapping_sub(1))
     }
 
-    /// Counts that the worker with this pass read a line.
     pub fn line_read(&self, _role: Role, pass: u32) {
         if let Some(counters) = self.at_pass(pass) {
             counters.lines.fetch_add(1, Ordering::Relaxed);
         }
     }
 
-    /// Counts that the worker with this pass closed a connection that speaks another protocol.
+    /// Counts a connection that speaks another protocol.
     pub fn turned_away(&self, _role: Role, pass: u32) {
         if let Some(counters) = self.at_pass(pass) {
             counters.turned_away.fetch_add(1, Ordering::Relaxed);
         }
     }
 
-    /// Returns the counts of each door, in the order of their passes. The error is that memory ran out.
     pub(crate) fn door_counts(&self, alloc: Global) -> Result<Vec<DoorCounts<'_>>, AllocError> {
         let mut door_counts = Vec::new(alloc);
         let mut passes = self.passes.as_slice();
@@ -187,12 +178,10 @@ impl ConnectionCounts {
         self.counted(role).began.fetch_add(1, Ordering::SeqCst);
     }
 
-    /// Counts that a connection of a worker with this role was opened.
     pub fn connected(&self, role: Role) {
         self.counted(role).opened.fetch_add(1, Ordering::SeqCst);
     }
 
-    /// Counts that a connection of a worker with this role ended.
     pub fn disconnected(&self, role: Role) {
         self.counted(role).closed.fetch_add(1, Ordering::SeqCst);
     }
@@ -202,8 +191,7 @@ impl ConnectionCounts {
         self.counted(role).left.fetch_add(1, Ordering::SeqCst);
     }
 
-    /// Returns the counts for tills, for dispensers and for the owner, in this order. Leaves out a role for which no
-    /// worker was ever added. The error is that memory ran out.
+    /// For tills, for dispensers and for the owner, in this order, but for a role without a door.
     pub(crate) fn role_counts(&self, alloc: Global) -> Result<Vec<RoleCounts>, AllocError> {
         let mut role_counts = Vec::new(alloc);
         for role in [Role::Till, Role::Dispenser, Role::Owner] {

@@ -10,7 +10,6 @@ use http::{HeaderValue, StatusCode, header};
 use http_server::Response;
 use std::alloc::AllocError;
 
-/// The kind of an answer's text: a page of HTML, metrics or plain text.
 #[derive(Clone, Copy)]
 pub enum MediaType {
     Html,
@@ -19,7 +18,6 @@ pub enum MediaType {
 }
 
 impl MediaType {
-    /// Returns the value of the header field `content-type` for a text of this kind.
     fn content_type(self) -> HeaderValue
         ensures { result.bytes ≡ type_of self }
     {
@@ -33,7 +31,6 @@ impl MediaType {
     }
 }
 
-/// An answer to a request: its status, the kind of its text, and the text.
 #[derive(Drop)]
 pub struct PageAnswer {
     pub status: StatusCode,
@@ -42,7 +39,6 @@ pub struct PageAnswer {
 }
 
 impl PageAnswer {
-    /// Makes an answer of the kind `Plain` with this status and this text.
     pub fn plain_answer(status: StatusCode, text: &'static str) -> PageAnswer
         ensures status { result.status ≡ status }
         ensures kind { result.kind ≡ Plain }
@@ -55,9 +51,8 @@ impl PageAnswer {
         }
     }
 
-    /// Fills `response`, which must be blank, with this answer, and with the header fields for its kind of text. One of
-    /// these fields ends the connection after the answer, so that a waiting client can be served. The error is that
-    /// memory ran out.
+    /// Fills `response`, which must be blank. One header field ends the connection after the answer, so that a waiting
+    /// client can be served.
     pub fn fill_response(self, response: &mut Response) -> Result<(), AllocError>
         requires { IsBlank response.old }
         ensures { OnOk result (HasAnswer self response.new) }
@@ -69,8 +64,6 @@ impl PageAnswer {
     }
 }
 
-/// Adds to `response` the header fields of an answer of this kind. `response` must have no header field yet. The error
-/// is that memory ran out.
 fn add_fields(kind: MediaType, response: &mut Response) -> Result<(), AllocError>
     requires { fields_of response.old ≡ [] }
     ensures fields { OnOk result (fields_of response.new ≡ fields kind) }
@@ -90,8 +83,7 @@ fn add_fields(kind: MediaType, response: &mut Response) -> Result<(), AllocError
     response.add_header(header::CONNECTION, HeaderValue::from_static("close"))
 }
 
-/// If `refusal` is `OtherMethod`, adds the header field `allow`, which names GET and HEAD. `response` must have exactly
-/// the header fields of an answer of the kind `Plain`. The error is that memory ran out.
+/// Names GET and HEAD where the method is another. `response` must have exactly the fields of a plain answer.
 fn add_allowed(refusal: Refusal, response: &mut Response) -> Result<(), AllocError>
     requires { fields_of response.old ≡ fields Plain }
     ensures fields { OnOk result (fields_of response.new ≡ fields_refusing refusal) }
@@ -109,8 +101,6 @@ fn add_allowed(refusal: Refusal, response: &mut Response) -> Result<(), AllocErr
     }
 }
 
-/// Fills `response`, which must be blank, with the answer to a request that is refused for this reason. The error is
-/// that memory ran out.
 pub fn refuse(refusal: Refusal, response: &mut Response) -> Result<(), AllocError>
     requires { IsBlank response.old }
     ensures { OnOk result (Refuses refusal response.new) }

@@ -13,36 +13,29 @@ use bytes::Bytes;
 use http::{Request, StatusCode, header};
 use till_request::numbers::number_u32;
 
-/// What a request on the page port can ask for.
 #[derive(Clone, Copy)]
 pub enum Endpoint {
-    /// The station now, as a page of HTML.
     Page,
-    /// The station's numbers, for Prometheus.
+    /// For Prometheus.
     Metrics,
-    /// Whether all is well with the station.
     Health,
-    /// The journal's lines after the entry with this number. For 0 they begin with the first entry.
+    /// The journal's lines behind the entry with this number.
     Journal(u32),
 }
 
-/// Why a request is refused.
 #[derive(Clone, Copy)]
 pub enum Refusal {
-    /// The request names another host than this machine, so a page of another web site could have sent it.
+    /// Another host than this machine is named, so a page of another web site could have sent the request.
     OtherHost,
-    /// The request's target is a URI whose scheme isn't `http`, as in `https://localhost/`.
+    /// As in `https://localhost/`.
     OtherScheme,
-    /// The port has nothing at the request's path.
     NoSuchPath,
-    /// The request's method is neither GET nor HEAD.
     OtherMethod,
-    /// The query of `/journal` isn't `after=` and a number from 0 to 4,294,967,295 in plain digits.
+    /// The query of `/journal` isn't `after=` and a number below 2^32 in plain digits.
     BadQuery,
 }
 
 impl Refusal {
-    /// Returns the HTTP status of the answer to a request that is refused for this reason.
     pub fn status(self) -> StatusCode
         ensures { result ≡ status_of self }
     {
@@ -55,7 +48,6 @@ impl Refusal {
         }
     }
 
-    /// Returns the text of the answer to a request that is refused for this reason: one line with its LF.
     pub fn text(self) -> &'static str
         ensures { result.now ≡ text_refusing self }
     {
@@ -76,7 +68,7 @@ fn are_digits(digits: &[u8]) -> bool
     digits.iter().all(|byte| byte.is_ascii_digit())
 }
 
-/// Returns whether `rest`, which follows a host's name, is empty or a port: a colon and decimal digits, perhaps none.
+/// Whether `rest`, behind a host's name, is empty, or a colon and digits, perhaps none.
 fn is_empty_or_port(rest: &[u8]) -> bool
     ensures { result ≡ is_empty_or_port rest.now }
 {
@@ -86,7 +78,6 @@ fn is_empty_or_port(rest: &[u8]) -> bool
     }
 }
 
-/// Returns whether a host has this name, in upper or lower case, with any port or none.
 fn is_named(host: &[u8], name: &[u8]) -> bool
     ensures { result ≡ is_named host.now name.now }
 {
@@ -97,15 +88,13 @@ fn is_named(host: &[u8], name: &[u8]) -> bool
     front.eq_ignore_ascii_case(name) && is_empty_or_port(rest)
 }
 
-/// Returns whether a host is `localhost`, `127.0.0.1` or `[::1]`, in upper or lower case, with any port or none.
+/// Whether a host is this machine, in upper or lower case, with any port or none.
 fn is_loopback_host(host: &[u8]) -> bool
     ensures { result ≡ is_loopback_host host.now }
 {
     is_named(host, b"localhost") || is_named(host, b"127.0.0.1") || is_named(host, b"[::1]")
 }
 
-/// Returns the endpoint `Journal` for the entry number that `digits` spell. The error is `BadQuery` unless they are
-/// decimal digits, without leading zeros, of a number below 2^32.
 fn lines_after(digits: &[u8]) -> Result<Endpoint, Refusal>
     ensures { result ≡ lines_after (number 32 digits.now) }
 {
@@ -115,12 +104,7 @@ fn lines_after(digits: &[u8]) -> Result<Endpoint, Refusal>
     }
 }
 
-/// Returns the endpoint that a query of `/journal` asks for:
-///
-/// - `None`: the journal's lines from the first entry on
-/// - `after=` and a number below 2^32, in decimal digits without leading zeros: the lines after the entry with this
-///   number
-/// - any other query: the error `BadQuery`
+/// Where a query of `/journal` begins: at the first entry, or behind the one that `after=` names.
 fn journal_at(query: Option<&[u8]>) -> Result<Endpoint, Refusal>
     ensures { result ≡ journal_at (option_copied query.entry) }
 {
@@ -138,8 +122,6 @@ fn journal_at(query: Option<&[u8]>) -> Result<Endpoint, Refusal>
     }
 }
 
-/// Returns the endpoint at `path`. `query` matters only for the path `/journal`. The error is `NoSuchPath` if nothing
-/// is at `path`, and `BadQuery` for a wrong query of `/journal`.
 fn endpoint_at(path: &[u8], query: Option<&[u8]>) -> Result<Endpoint, Refusal>
     ensures { result ≡ endpoint_at path.now (option_copied query.entry) }
 {
@@ -158,15 +140,13 @@ fn endpoint_at(path: &[u8], query: Option<&[u8]>) -> Result<Endpoint, Refusal>
     Err(Refusal::NoSuchPath)
 }
 
-/// Returns whether a method is GET or HEAD.
 fn is_get_or_head(method: &[u8]) -> bool
     ensures { result ≡ is_get_or_head method.now }
 {
     method == b"GET".as_slice() || method == b"HEAD".as_slice()
 }
 
-/// Returns what stands before the path in a request's target: the host, and perhaps a port and a user's name. Returns
-/// `None` if the target is a path alone.
+/// What stands before the path in a request's target: the host, perhaps with a port and a user's name.
 fn target_host(request: &Request<Bytes>) -> Option<&[u8]>
     ensures { option_copied result ≡ uri_authority (head_of request.now).uri }
 {
@@ -176,7 +156,6 @@ fn target_host(request: &Request<Bytes>) -> Option<&[u8]>
     }
 }
 
-/// Returns the value of a request's field `Host`, or `None` if the request has no such field.
 fn field_host(request: &Request<Bytes>) -> Option<&[u8]>
     ensures { option_copied result ≡ field_host (head_of request.now) }
 {
@@ -186,14 +165,12 @@ fn field_host(request: &Request<Bytes>) -> Option<&[u8]>
     }
 }
 
-/// Returns whether each host that a request names, in its target and in its field `Host`, is this machine.
 fn is_for_this_machine(request: &Request<Bytes>) -> bool
     ensures { result ≡ is_for_this_machine (head_of request.now) }
 {
     is_allowed_host(target_host(request)) && is_allowed_host(field_host(request))
 }
 
-/// Returns whether a request's target has the scheme `http`, or none.
 fn is_of_http(request: &Request<Bytes>) -> bool
     ensures { result ≡ is_of_http (head_of request.now) }
 {
@@ -203,8 +180,7 @@ fn is_of_http(request: &Request<Bytes>) -> bool
     }
 }
 
-/// Returns whether a request that names this host is accepted: the host must be this machine. `None`, for a request
-/// that names no host, is accepted too.
+/// A request that names no host is accepted too.
 fn is_allowed_host(host: Option<&[u8]>) -> bool
     ensures { result ≡ is_allowed_host (option_copied host.entry) }
 {
@@ -214,7 +190,7 @@ fn is_allowed_host(host: Option<&[u8]>) -> bool
     }
 }
 
-/// Returns the query of a request's target, without its `?`, or `None` if the target has none.
+/// The query of a request's target, without its `?`.
 fn query_of(request: &Request<Bytes>) -> Option<&[u8]>
     ensures { option_copied result ≡ uri_query (head_of request.now).uri }
 {
@@ -224,8 +200,7 @@ fn query_of(request: &Request<Bytes>) -> Option<&[u8]>
     }
 }
 
-/// Returns the endpoint that a request asks for. The error is why the request is refused: the hosts that the request
-/// names are checked first, then its target's scheme, then its method, then its path, and last its query.
+/// What a request asks for. Its hosts are checked first, then its scheme, its method, its path, and last its query.
 pub fn requested_endpoint(request: &Request<Bytes>) -> Result<Endpoint, Refusal>
     ensures { result ≡ requested_endpoint (head_of request.now) }
 {

@@ -3,7 +3,6 @@ use pages::DurationSummary;
 use std::sync::atomic::{AtomicU64, Ordering};
 use std::time::Duration;
 
-/// Counts how often something was done, and how long it took in all.
 #[derive(Drop)]
 pub struct Timings {
     count: AtomicU64,
@@ -11,7 +10,6 @@ pub struct Timings {
 }
 
 impl Timings {
-    /// Makes a `Timings` for something that wasn't done yet: the count and the total time are 0.
     pub fn new() -> Timings {
         Timings {
             count: AtomicU64::new(0),
@@ -19,14 +17,12 @@ impl Timings {
         }
     }
 
-    /// Counts that the thing was done once more, and that it took the time `taken`.
     pub fn add(&self, taken: Duration) {
         let nanoseconds = u64::try_from(taken.as_nanos()).unwrap_or(u64::MAX);
         self.nanoseconds.fetch_add(nanoseconds, Ordering::SeqCst);
         self.count.fetch_add(1, Ordering::SeqCst);
     }
 
-    /// Returns how often the thing was done, and how many nanoseconds it took in all.
     pub fn times(&self) -> DurationSummary {
         DurationSummary {
             count: self.count.load(Ordering::SeqCst),
