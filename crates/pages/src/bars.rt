@@ -7,14 +7,13 @@ use crate::pictures::{COLUMNS_END, END, add_head, add_label, add_rect};
 use crate::texts::{Text, number, scaled};
 use day_report::{FIRST_REFUSAL, REFUSALS, Sum, Totals, Verdicts};
 
-/// The distance from the top of a bar to the top of the next, in units of the picture.
+/// From the top of a bar to the top of the next.
 const APART: usize = 28;
 
-/// The width, in units of the picture, that stays free to the right of the longest bar, for its value.
+/// What stays free to the right of the longest bar, for its value.
 const VALUE_WIDTH: usize = 140;
 
-/// Adds the start of a picture that has room for `bars` bars. `title` and `text` are the title and description that
-/// screen readers read.
+/// `title` and `text` are what screen readers read.
 fn add_bars_head(html: &mut TextBuilder, bars: usize, title: &'static str, text: &'static str) {
     add_head(
         html,
@@ -24,8 +23,7 @@ fn add_bars_head(html: &mut TextBuilder, bars: usize, title: &'static str, text:
     );
 }
 
-/// Adds the bar at `place`, counted from 0 at the top. It begins `left` from the left edge of the picture and is
-/// `width` wide. `name` is written to the left of it, and `value` to the right.
+/// Adds a bar with its name to the left and its value to the right.
 fn add_bar(
     html: &mut TextBuilder,
     place: usize,
@@ -45,10 +43,8 @@ fn add_bar(
     );
 }
 
-/// The distance, in units of the picture, from the left edge of the picture of sales by point to its bars.
 const POINT_BARS_LEFT: usize = 90;
 
-/// Returns the greatest number of cents in any of `sums`, or 0 if there are no sums.
 fn most_sold(sums: &[Sum]) -> u128 {
     let mut most = 0;
     for sum in sums {
@@ -57,8 +53,7 @@ fn most_sold(sums: &[Sum]) -> u128 {
     most
 }
 
-/// Adds the picture of sales by point: one bar for each fuelling point. `sums` has the sales of each point, point 1
-/// first.
+/// Adds the picture of sales by point, point 1 first.
 pub fn add_points(html: &mut TextBuilder, sums: &[Sum]) {
     add_bars_head(
         html,
@@ -82,11 +77,10 @@ pub fn add_points(html: &mut TextBuilder, sums: &[Sum]) {
     html.add(END);
 }
 
-/// The distance, in units of the picture, from the left edge of the picture of refusals to its bars. The refusals'
-/// names in words are to the left of the bars.
+/// The refusals' names are to the left of the bars.
 const REFUSAL_BARS_LEFT: usize = 440;
 
-/// Returns the greatest of `counts` (0 if there are none), and how many of `counts` aren't 0: each of these gets a bar.
+/// The greatest count, and how many aren't 0: each of these gets a bar.
 pub(crate) fn greatest_and_bars(counts: &[usize]) -> (usize, usize) {
     let (mut most, mut bars) = (0usize, 0usize);
     for count in counts {
@@ -98,8 +92,7 @@ pub(crate) fn greatest_and_bars(counts: &[usize]) -> (usize, usize) {
     (most, bars)
 }
 
-/// Adds the picture of refusals: one bar for each refusal that occurred. `counts` has how often each of the refusals
-/// S20 to S34 was the reply, S20 first.
+/// Adds the picture of refusals, by the counts of S20 to S34.
 pub(crate) fn add_refusals(html: &mut TextBuilder, counts: &[usize]) {
     let (most, bars) = greatest_and_bars(counts);
     add_bars_head(
@@ -129,8 +122,7 @@ pub(crate) fn add_refusals(html: &mut TextBuilder, counts: &[usize]) {
     html.add(END);
 }
 
-/// Adds the picture of sales by hour of the day: one column for each hour. `sums` has the sales of each hour, hour 0
-/// first.
+/// Adds the picture of sales by hour of the day, hour 0 first.
 pub(crate) fn add_hours(html: &mut TextBuilder, sums: &[Sum]) {
     add_head(
         html,
@@ -146,7 +138,6 @@ pub(crate) fn add_hours(html: &mut TextBuilder, sums: &[Sum]) {
     html.add(COLUMNS_END);
 }
 
-/// Adds the column of an hour (0 to 23), `height` high, with the hour's number below it.
 fn add_hour(html: &mut TextBuilder, hour: usize, height: usize) {
     let left = hour.saturating_mul(41).saturating_add(8);
     add_rect(
@@ -162,13 +153,10 @@ fn add_hour(html: &mut TextBuilder, hour: usize, height: usize) {
     html.add("\n");
 }
 
-/// The greatest number of columns that the picture of decisions by version can have. With n versions, a column shows
-/// n / 1,000 + 1 neighbouring versions (the quotient is rounded down). The last column can show fewer.
+/// With n versions, a column of decisions shows n / 1,000 + 1 neighbouring versions; the last can show fewer.
 const COLUMNS: usize = 1000;
 
-/// Adds the picture of decisions by version, in the order of the versions in `totals`. Each column has two parts,
-/// granted and denied. If there are fewer than 1,000 versions, each has its own column; else neighbouring versions
-/// share a column.
+/// Adds the picture of decisions by version: granted and denied.
 pub(crate) fn add_versions(html: &mut TextBuilder, totals: &Totals) {
     let together = (totals.versions.len() / COLUMNS).saturating_add(1);
     let words = if together == 1 {
@@ -184,8 +172,6 @@ pub(crate) fn add_versions(html: &mut TextBuilder, totals: &Totals) {
     html.add(COLUMNS_END);
 }
 
-/// Adds the columns of the picture of decisions by version. Each column shows `together` neighbouring versions; the
-/// last one can show fewer. `together` must not be 0.
 fn add_columns(html: &mut TextBuilder, totals: &Totals, together: usize)
     requires { 0 < together }
 {
@@ -202,8 +188,6 @@ fn add_columns(html: &mut TextBuilder, totals: &Totals, together: usize)
     }
 }
 
-/// Returns the greatest number of decisions that a column shows, or 0 if there are no columns. Each column shows
-/// `together` neighbouring versions; the last one can show fewer. `together` must not be 0.
 fn most_decided(verdicts: &[Verdicts], together: usize) -> u128
     requires { 0 < together }
 {
@@ -215,7 +199,7 @@ fn most_decided(verdicts: &[Verdicts], together: usize) -> u128
     most
 }
 
-/// Returns how many requests for releases, presets and prices these versions together granted, and how many they denied.
+/// How many requests were granted, and how many denied.
 fn decided(verdicts: &[Verdicts]) -> (u128, u128) {
     let (mut granted, mut denied) = (0u128, 0u128);
     for version in verdicts {
@@ -227,9 +211,9 @@ fn decided(verdicts: &[Verdicts]) -> (u128, u128) {
     (granted, denied)
 }
 
-/// Returns the left edge and the width of the column at `place`, counted from 0. There are `columns` columns in all.
+/// The left edge and the width of a column.
 fn column_at(place: usize, columns: usize) -> (usize, usize) {
-    // With fewer than 12 columns, part of the picture's width stays free, so that no column is too wide.
+    // Of fewer than 12 columns none is to be too wide.
     let room = 1000usize.min(scaled(columns as u128, 12, 1000));
     let left = scaled(place as u128, columns as u128, room);
     let next = scaled((place as u128).saturating_add(1), columns as u128, room);
@@ -238,8 +222,7 @@ fn column_at(place: usize, columns: usize) -> (usize, usize) {
     (left, width)
 }
 
-/// Adds the column at `place`, counted from 0. There are `columns` columns in all. `low` is the height of the column's
-/// lower part (granted), and `high` the height of its upper part (denied).
+/// `low` is the height of the lower part (granted), `high` of the upper one (denied).
 fn add_column(html: &mut TextBuilder, place: usize, columns: usize, low: usize, high: usize) {
     let (left, width) = column_at(place, columns);
     let top = 206usize.saturating_sub(low);
@@ -249,8 +232,7 @@ fn add_column(html: &mut TextBuilder, place: usize, columns: usize, low: usize, 
     html.add("/>");
 }
 
-/// Adds the number of a version below the column at `place`, counted from 0. There are `columns` columns in all. If
-/// there are more than 24 columns, nothing is added.
+/// Adds a version's number below its column, unless there are more than 24.
 fn add_name(html: &mut TextBuilder, place: usize, columns: usize, version: u32) {
     if columns <= 24 {
         let (left, width) = column_at(place, columns);

@@ -5,17 +5,14 @@ use crate::texts::{Date, Text, date_of};
 use std::alloc::{AllocError, Global};
 use std::fmt::Display;
 
-/// Builds a text, such as a page in HTML. If memory runs out, the functions that add to the text don't report it:
-/// `finish` returns the error.
+/// Builds a text, such as a page in HTML. That memory ran out is told by `finish` alone.
 #[derive(Drop)]
 pub struct TextBuilder {
     text: String,
-    /// Whether memory ran out when something was added to the text.
     ran_out_of_memory: bool,
 }
 
 impl TextBuilder {
-    /// Returns a builder whose text is empty.
     pub fn new(alloc: Global) -> TextBuilder {
         TextBuilder {
             text: String::new(alloc),
@@ -23,7 +20,6 @@ impl TextBuilder {
         }
     }
 
-    /// Returns the whole text. The error is that memory ran out when something was added to it.
     pub fn finish(self) -> Result<String, AllocError> {
         let TextBuilder {
             text,
@@ -36,29 +32,24 @@ impl TextBuilder {
         }
     }
 
-    /// Sets `ran_out_of_memory`, if `written` is an error.
     fn note(&mut self, written: Result<(), AllocError>) {
         if written.is_err() {
             self.ran_out_of_memory = true;
         }
     }
 
-    /// Adds a piece of text as it is.
     pub fn add(&mut self, piece: &str) {
         let written = self.text.push_str(piece);
         self.note(written);
     }
 
-    /// Adds a value as its `Display` writes it.
     pub fn write<D: Display>(&mut self, value: &D) {
         let written = write!(self.text, "{value}");
         self.note(written);
     }
 
-    /// Adds `form`, a template, in which `texts` replace the `{}`, in order.
-    ///
-    /// - If there are too few texts, the remaining `{}` are left out.
-    /// - If there are too many texts, the first that has no `{}` is added at the end, and the others are ignored.
+    /// Adds `form`, in which `texts` replace the `{}`, in order. Where texts are missing, nothing stands for `{}`; of
+    /// further texts the first is added at the end.
     pub fn fill(&mut self, form: &str, texts: &[Text]) {
         let mut texts = texts.iter();
         for piece in form.split("{}") {
@@ -69,7 +60,6 @@ impl TextBuilder {
         }
     }
 
-    /// Adds a text, written in the form that its variant of `Text` describes.
     pub fn put(&mut self, text: Text) {
         match text {
             Text::Number(number) => self.number(number),
@@ -96,7 +86,7 @@ impl TextBuilder {
         self.note(written);
     }
 
-    /// Adds `mark`, and then `number` with at least two digits: 7 becomes 07.
+    /// 7 becomes 07.
     fn two(&mut self, mark: &str, number: u64) {
         self.add(mark);
         if number < 10 {
@@ -105,7 +95,7 @@ impl TextBuilder {
         self.number(number);
     }
 
-    /// Adds `mark`, and then `number` with at least three digits: 7 becomes 007.
+    /// 7 becomes 007.
     fn three(&mut self, mark: &str, number: u64) {
         self.add(mark);
         if number < 100 {

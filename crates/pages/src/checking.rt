@@ -5,10 +5,8 @@ ghost use Rattle.pages.specs.Health.{health_of, without_worker};
 use crate::station::{Health, RoleCounts};
 use till_request::Role;
 
-/// A journal with at least this many entries counts as nearly full.
 const NEARLY_FULL: u32 = 1_000_000;
 
-/// Returns the first role in `role_counts` that no worker serves, or `None` if each has a worker.
 fn without_worker(role_counts: &[RoleCounts]) -> Option<Role>
     ensures { result ≡ without_worker role_counts.now }
 {
@@ -20,11 +18,6 @@ fn without_worker(role_counts: &[RoleCounts]) -> Option<Role>
     }
 }
 
-/// Returns the health of a station: the first of these problems that it has, or `Healthy` if it has none.
-///
-/// - Its journal failed: `has_failed` is true.
-/// - Its journal is nearly full: `entries`, the number of entries, is at least 1,000,000.
-/// - A role in `role_counts` has no worker left.
 pub fn health(has_failed: bool, entries: u32, role_counts: &[RoleCounts]) -> Health
     ensures { result ≡ health_of has_failed entries role_counts.now }
 {

@@ -7,13 +7,12 @@ use day_report::steps::step_of;
 use day_report::{Axis, Bands};
 use fuelling_point::State;
 
-/// The distance, in units of the picture, from the left edge of a picture to the drawing in it.
+/// From the left edge of a picture to its drawing.
 pub(crate) const LEFT: usize = 90;
 
 pub(crate) const WIDTH: usize = 900;
 
-/// Adds the axis below a drawing, with labels at its ends and at each quarter. `axis` says whether the labels are
-/// entries' numbers or times of day. The line of the axis is `top` below the upper edge of the picture.
+/// Adds the axis below a drawing, with labels at its ends and at each quarter: entries' numbers or times of day.
 pub(crate) fn add_axis(html: &mut TextBuilder, axis: Axis, top: usize) {
     html.fill(
         "<path class=\"axis\" d=\"M{} {}h{}\"/>\n",
@@ -24,8 +23,7 @@ pub(crate) fn add_axis(html: &mut TextBuilder, axis: Axis, top: usize) {
     }
 }
 
-/// Adds a label to an axis. `quarters` says where along the axis the label is, in quarters of the axis: 0 is its start,
-/// and 4 its end. The label's baseline is `foot` below the upper edge of the picture.
+/// Adds a label, so many `quarters` of the axis from its start.
 fn add_place(html: &mut TextBuilder, axis: Axis, quarters: usize, foot: usize) {
     let x = quarters.min(4) * (WIDTH / 4) + LEFT;
     let anchor = match quarters {
@@ -44,10 +42,8 @@ fn add_place(html: &mut TextBuilder, axis: Axis, quarters: usize, foot: usize) {
     );
 }
 
-/// Returns the label for a place along an axis. `quarters` is the place in quarters of the axis: 0 is its start, and 4
-/// its end. If the axis is time, the label is a time of day. If the axis is the entries, the label is the number of the
-/// entry that is drawn at this place; at the axis's end, it is the number of the last entry. If there is no entry, the
-/// number is 1.
+/// The label so many `quarters` from the start: a time of day, or the number of the entry that is drawn there; 1 if
+/// there is no entry.
 fn name_at(axis: Axis, quarters: usize) -> Text {
     match axis {
         Axis::Entries(count) => {
@@ -63,13 +59,11 @@ fn name_at(axis: Axis, quarters: usize) -> Text {
     }
 }
 
-/// The distance, in units of the picture, from the middle of a point's band down to the middle of the next point's
-/// band.
+/// From the middle of a point's band to the middle of the next.
 const APART: usize = 26;
 
-/// Adds the picture of the points' states: a band for each point, and the axis below the bands. The axis is divided
-/// into `bands.steps` equal steps. In each of them, a band has the colour of the state that `bands` has for the point.
-/// `axis` must be the axis for which `bands` was made.
+/// Adds a band for each point, which has the colour of the point's state in each step of the axis. `axis` must be the
+/// one for which `bands` was made.
 pub(crate) fn add_bands(html: &mut TextBuilder, bands: &Bands, axis: Axis) {
     let foot = bands.points.saturating_mul(APART).saturating_add(6);
     add_head(
@@ -86,7 +80,6 @@ pub(crate) fn add_bands(html: &mut TextBuilder, bands: &Bands, axis: Axis) {
     html.add(END);
 }
 
-/// Adds the band of the point at `place`, counted from 0, with the point's name to its left.
 fn add_point(html: &mut TextBuilder, bands: &Bands, place: usize) {
     let y = place.saturating_mul(APART).saturating_add(16);
     let name = Text::Point((place as u64).saturating_add(1));
@@ -101,24 +94,19 @@ fn add_point(html: &mut TextBuilder, bands: &Bands, place: usize) {
     html.add("</g>\n");
 }
 
-/// Returns whether `bands` shows the point at `place` in the state `state` at step `step` of the axis. Places and steps
-/// are counted from 0. Returns false if there is no such step. `place` must be below `bands.points`.
 fn is_at(bands: &Bands, place: usize, state: State, step: usize) -> bool {
     let at = step.saturating_mul(bands.points).saturating_add(place);
     step < bands.steps && bands.states.get(at) == Some(&state)
 }
 
-/// Adds a horizontal line to the path that `add_path_head` began. The line covers the steps `from..to` of the axis, `y`
-/// below the upper edge of the picture. The line's start and width are in 2,000ths of the drawing's width: `add_point`
-/// scales them.
+/// Adds a line over the steps `from..to` to a path, in 2,000ths of the drawing's width: `add_point` scales them.
 fn add_stretch(html: &mut TextBuilder, bands: &Bands, from: usize, to: usize, y: usize) {
     let left = scaled(from as u128, bands.steps as u128, 2000);
     let width = scaled(to as u128, bands.steps as u128, 2000).saturating_sub(left);
     html.fill("M{} {}h{}", &[number(left), number(y), number(width)]);
 }
 
-/// Adds the start of a path that marks the steps in which a point is shown in the state `state`. The path is thicker if
-/// a delivery is authorised or under way in this state.
+/// The path is thicker if a delivery is authorised or under way in this state.
 fn add_path_head(html: &mut TextBuilder, state: State) {
     let thick = if state.is_busy() { " busy" } else { "" };
     html.fill(
@@ -127,8 +115,7 @@ fn add_path_head(html: &mut TextBuilder, state: State) {
     );
 }
 
-/// Returns the first step of the axis, at or after `from`, in which `bands` doesn't show the point at `place` in the
-/// state `state`. Returns `bands.steps` if there is none. Places and steps are counted from 0.
+/// The first step, from `from` on, in which the point isn't in this state.
 fn end_of(bands: &Bands, place: usize, state: State, from: usize) -> usize {
     for step in from..bands.steps {
         if !is_at(bands, place, state, step) {
@@ -138,8 +125,7 @@ fn end_of(bands: &Bands, place: usize, state: State, from: usize) -> usize {
     bands.steps
 }
 
-/// Adds the path that marks the steps in which `bands` shows the point at `place`, counted from 0, in the state
-/// `state`. The path is `y` below the upper edge of the picture. If there is no such step, nothing is added.
+/// Adds the path of the steps in which the point is in this state, if there are any.
 fn add_state(html: &mut TextBuilder, bands: &Bands, place: usize, state: State, y: usize) {
     let mut is_begun = false;
     let mut is_before = false;
@@ -159,7 +145,6 @@ fn add_state(html: &mut TextBuilder, bands: &Bands, place: usize, state: State, 
     }
 }
 
-/// Adds the item of the legend for a state: its colour, number and name.
 fn add_name(html: &mut TextBuilder, state: State) {
     let digit = Text::Number(state.number() as u64);
     html.fill(
@@ -168,7 +153,6 @@ fn add_name(html: &mut TextBuilder, state: State) {
     );
 }
 
-/// Adds the legend of the states' colours.
 pub(crate) fn add_legend(html: &mut TextBuilder) {
     html.add("<ul class=\"legend\">\n");
     for state in &STATES {

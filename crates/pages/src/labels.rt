@@ -2,8 +2,8 @@
 use crate::escaped::PrintableChar;
 use std::fmt;
 
-/// The value of a label, as it is written between its quotes: a backslash and a quote have a backslash before them.
-/// Control characters are escaped as `Printable` does, and the backslash of such an escape is doubled too.
+/// A label's value between its quotes. Control characters are escaped as `Printable` does, and a backslash and a quote
+/// by one more backslash, also that of such an escape.
 #[derive(Clone, Copy)]
 pub(crate) struct LabelValue<'a>(pub(crate) &'a str);
 
@@ -33,7 +33,6 @@ impl fmt::Display for LabelValue<'_> {
     }
 }
 
-/// A character of a label's value.
 #[derive(Clone, Copy)]
 struct LabelChar(char);
 

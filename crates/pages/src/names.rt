@@ -1,7 +1,6 @@
 //! The names of a fuelling point's states and of refusals, in words.
 use fuelling_point::State;
 
-/// Returns the name of a state in words.
 pub fn state_name(state: State) -> &'static str {
     match state {
         State::Inoperative => "inoperative",
@@ -16,7 +15,7 @@ pub fn state_name(state: State) -> &'static str {
     }
 }
 
-/// All states, in the order of their numbers (1 to 9).
+/// In the order of their numbers.
 pub const STATES: [State; 9] = [
     State::Inoperative,
     State::Closed,
@@ -29,7 +28,7 @@ pub const STATES: [State; 9] = [
     State::SuspendedFuelling,
 ];
 
-/// Returns what a refusal of this number (20 to 34) means, in words; `another refusal` for any other number.
+/// What a refusal of this number means.
 pub(crate) fn refusal_name(number: u32) -> &'static str {
     match number {
         20 => "no such point",

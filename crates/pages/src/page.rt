@@ -12,15 +12,13 @@ use site_core::{Head, Replayed};
 use std::alloc::{AllocError, Global};
 use std::fmt;
 
-/// A page of HTML that shows a site's history. `Display` writes its text. The page refers to no other file and has no
-/// script.
+/// A page of HTML that shows a site's history. It refers to no other file and has no script.
 #[derive(Drop)]
 pub struct Page {
     text: String,
 }
 
 impl Page {
-    /// Makes the page of a replayed history. The error is that memory ran out.
     pub fn of(alloc: Global, replayed: &Replayed<DayWatch>) -> Result<Page, AllocError> {
         let day = Day::of(alloc, replayed)?;
         page_of(alloc, &day)
@@ -33,11 +31,10 @@ impl fmt::Display for Page {
     }
 }
 
-/// What the page shows of a site's history.
 #[derive(Drop)]
 struct Day {
     totals: Totals,
-    /// What the day took over from the day before, if there was one.
+    /// What the day took over from the day before.
     carried: Option<CarriedIn>,
     /// The value and the bound of each counter after the last entry.
     counters: [(u64, u64); 32],
@@ -47,7 +44,6 @@ struct Day {
     bands: Bands,
 }
 
-/// Returns the value and the bound of each of the 32 counters, counter 0 first.
 fn counters_of(head: &Head) -> [(u64, u64); 32] {
     let mut counters = [(0, 0); 32];
     for c in 0..32 {
@@ -76,7 +72,6 @@ impl Day {
     }
 }
 
-/// Makes the page that shows this day. The error is that memory ran out.
 fn page_of(alloc: Global, day: &Day) -> Result<Page, AllocError> {
     let mut html = TextBuilder::new(alloc);
     add_day(&mut html, day);
@@ -103,8 +98,7 @@ fn add_day(html: &mut TextBuilder, day: &Day) {
 
 const SECTION_END: &str = "</section>\n";
 
-/// Adds the number of entries, the title and the main totals. If `axis` is time, also adds the moments at which the
-/// axis begins and ends.
+/// If `axis` is time, its ends are shown too.
 fn add_headline(html: &mut TextBuilder, totals: &Totals, axis: Axis) {
     html.fill(
         "<p class=\"audited\">{} entries, audited</p>\n<h1>The day in a picture</h1>\n",
@@ -150,7 +144,6 @@ fn add_figures(html: &mut TextBuilder, totals: &Totals) {
     html.add("</ul>\n");
 }
 
-/// Adds a list item that shows a figure: its name and its value.
 pub fn add_figure(html: &mut TextBuilder, name: &'static str, value: Text) {
     html.fill(
         "<li><span>{}</span> <b>{}</b></li>\n",
@@ -158,7 +151,6 @@ pub fn add_figure(html: &mut TextBuilder, name: &'static str, value: Text) {
     );
 }
 
-/// Adds the section of what the day took over from the day before.
 fn add_carried(html: &mut TextBuilder, carried: CarriedIn) {
     html.add(
         "<section id=\"carried\"><h2>Carried in from the day before</h2>\n<ul class=\"figures\">\n",
@@ -196,8 +188,6 @@ fn add_sales(html: &mut TextBuilder, totals: &Totals) {
     html.add(SECTION_END);
 }
 
-/// Adds the table of sales by point, and the table of sales by the till that cleared them. If there are no sales, the
-/// second table is left out.
 fn add_sums(html: &mut TextBuilder, totals: &Totals) {
     html.add("<div class=\"side\"><div><h3>By point</h3>");
     tables::add_points(html, totals);
@@ -208,7 +198,6 @@ fn add_sums(html: &mut TextBuilder, totals: &Totals) {
     html.add("</div></div>\n");
 }
 
-/// Returns whether at least one of `sums` has a sale.
 fn has_sale(sums: &[Sum]) -> bool {
     for sum in sums {
         if sum.count > 0 {
@@ -218,8 +207,7 @@ fn has_sale(sums: &[Sum]) -> bool {
     false
 }
 
-/// Adds the picture and the table of sales by hour, or a note if no sale has a moment. `sums` has the sales of each hour,
-/// hour 0 first.
+/// Adds the sales by hour, hour 0 first, or a note if no sale has a moment.
 pub fn add_hours(html: &mut TextBuilder, sums: &[Sum]) {
     if !has_sale(sums) {
         return html.add("<p class=\"note\">No sale tells its moment, so there are no hours.</p>\n");
@@ -238,8 +226,6 @@ fn add_unpaid(html: &mut TextBuilder, unpaid: &[Unpaid]) {
     }
 }
 
-/// Returns whether at least one of `counters` has a bound that isn't 0. Each pair has the value and the bound of a
-/// counter.
 fn has_bound(counters: &[(u64, u64)]) -> bool {
     for counter in counters {
         if counter.1 > 0 {
@@ -263,7 +249,6 @@ fn add_rules(html: &mut TextBuilder, totals: &Totals, counters: &[(u64, u64)]) {
     html.add(SECTION_END);
 }
 
-/// The legend of the colours in the picture of decisions by version.
 const VERSIONS_LEGEND: &str = "<ul class=\"legend\"><li><i class=\"granted\">&#160;</i>granted</li>\
 <li><i class=\"denied\">&#160;</i>denied</li></ul>
 ";

@@ -2,7 +2,7 @@
 use crate::builder::TextBuilder;
 use crate::texts::{Text, number};
 
-/// Adds the start of a picture: its height, and the title and the description (`text`) that screen readers read.
+/// `title` and `text` are what screen readers read.
 pub(crate) fn add_head(
     html: &mut TextBuilder,
     height: usize,
@@ -15,14 +15,12 @@ pub(crate) fn add_head(
     );
 }
 
-/// The closing tags of a picture.
 pub(crate) const END: &str = "</svg></div>\n";
 
-/// The line below the columns of a picture, and the closing tags of this picture.
+/// The line below the columns, and the end of their picture.
 pub(crate) const COLUMNS_END: &str = "<path class=\"axis\" d=\"M0 206.5h1000\"/>\n</svg></div>\n";
 
-/// Adds a text to a picture. `anchor` says which part of the text is `x` from the left edge of the picture: `start`,
-/// `middle` or `end`. The text's baseline is `y` below the picture's upper edge.
+/// `anchor` says which part of the text is at `x`: `start`, `middle` or `end`.
 pub(crate) fn add_label(
     html: &mut TextBuilder,
     x: usize,
@@ -36,8 +34,7 @@ pub(crate) fn add_label(
     );
 }
 
-/// Adds a rectangle whose upper left corner is `x` from the left edge of the picture and `y` below its upper edge. The
-/// end of the rectangle's tag is left out, so that the caller can add attributes before it adds the end.
+/// Leaves the end of the tag to the caller, who can add attributes.
 pub(crate) fn add_rect(
     html: &mut TextBuilder,
     class: &'static str,

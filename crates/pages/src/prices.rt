@@ -5,17 +5,14 @@ use crate::pictures::{END, add_head, add_label};
 use crate::texts::{Text, number, scaled};
 use day_report::{Axis, PriceChange};
 
-/// The number of equal parts into which the drawing's width is divided. A product's line can rise or fall where a part
-/// begins or ends.
+/// A product's line can rise or fall at the ends of so many equal parts.
 const PLACES: usize = 225;
 
-/// The width of one of the `PLACES` parts, in units of the picture.
 const APART: usize = WIDTH / PLACES;
 
-/// The height of the drawing, in units of the picture.
 const HIGH: usize = 160;
 
-/// The least and the greatest price that the drawing shows, in thousandths of the currency per litre.
+/// The least and the greatest price of the drawing, in thousandths.
 #[derive(Clone, Copy)]
 struct Range {
     least: u64,
@@ -23,15 +20,13 @@ struct Range {
 }
 
 impl Range {
-    /// Returns how far below the top of the picture a price is drawn, in units of the picture. That is 170 for the
-    /// least price, and 10 for the greatest if it is above the least.
+    /// How far below the top a price is drawn: 170 for the least, 10 for a greater greatest.
     fn depth(&self, price: u64) -> usize {
         let above = price.saturating_sub(self.least) as u128;
         let span = self.greatest.saturating_sub(self.least).max(1) as u128;
         (HIGH + 10).saturating_sub(scaled(above, span, HIGH))
     }
 
-    /// Returns this range, extended to include `price`.
     fn with(self, price: u64) -> Range {
         Range {
             least: self.least.min(price),
@@ -56,8 +51,7 @@ fn range_of(opening: &[u32; 8], changes: &[PriceChange]) -> Range {
     range
 }
 
-/// Adds the picture of the prices: a line for each product that has a price. `opening` has the prices of products 1 to
-/// 8 before the first entry, 0 for none. `changes` has the changes since then, oldest first.
+/// Adds a line for each product that has a price. `opening` has the prices before the first entry, 0 for none.
 pub(crate) fn add_lines(
     html: &mut TextBuilder,
     opening: &[u32; 8],
@@ -81,14 +75,12 @@ pub(crate) fn add_lines(
     html.add(END);
 }
 
-/// Adds the labels beside the drawing: the greatest price at its top, the least at its foot.
 fn add_range(html: &mut TextBuilder, range: Range) {
     add_label(html, 80, 16, "end", Text::Thousandths(range.greatest));
     add_label(html, 80, 174, "end", Text::Thousandths(range.least));
     html.add("\n");
 }
 
-/// Returns how far from the left of the picture a change of a price is drawn, in units of the picture.
 fn x_of(change: &PriceChange, axis: Axis) -> usize {
     // As in the picture of the points (`drawn`), each entry, or each second, gets an equal share of the axis.
     let place = match axis {
@@ -105,10 +97,8 @@ fn x_of(change: &PriceChange, axis: Axis) -> usize {
     LEFT + place * APART
 }
 
-/// Adds the next part of a product's line: a horizontal part at `depth` that ends at `next`.
-///
-/// - If `is_begun`, the line first goes straight up or down from its end so far to `depth`.
-/// - Otherwise the line begins here, at `x`.
+/// Adds a horizontal part at `depth` up to `next`. A line that is begun first goes straight there; another begins at
+/// `x`.
 fn add_step(
     html: &mut TextBuilder,
     product: u32,
@@ -132,9 +122,7 @@ fn add_step(
     }
 }
 
-/// Adds the line of a product: level at each price, with a step where a new price was granted. `opening` is the price
-/// before the first entry, 0 for none. If `opening` is 0, the line begins at the product's first change, and nothing is
-/// added if the product has no change.
+/// Adds the line of a product. Without a price at the `opening`, it begins at the first change.
 fn add_line(
     html: &mut TextBuilder,
     product: u32,
@@ -164,9 +152,7 @@ fn add_line(
     }
 }
 
-/// Adds the legend of the lines' colours, with an item for each product that has a price at the start or at the end of
-/// the day. `opening` has the prices of products 1 to 8 before the first entry, 0 for none. `changes` has the changes
-/// since then, oldest first.
+/// Adds the colours of the products that have a price at the start or at the end of the day.
 pub(crate) fn add_legend(html: &mut TextBuilder, opening: &[u32; 8], changes: &[PriceChange]) {
     html.add("<ul class=\"legend\">\n");
     for (place, price) in opening.iter().enumerate() {
@@ -180,8 +166,7 @@ pub(crate) fn add_legend(html: &mut TextBuilder, opening: &[u32; 8], changes: &[
     html.add("</ul>\n");
 }
 
-/// Adds a product's item of the legend: colour, number, and the prices at the start (`opening`) and the end (`last`) of
-/// the day. If these are the same, only one is shown. A price of 0 means none, and is written as 0.000.
+/// Adds the prices at the start and the end of the day, or one if they are the same. No price is written as 0.000.
 fn add_product(html: &mut TextBuilder, product: u32, opening: u64, last: u64) {
     let product = Text::Number(product as u64);
     html.fill(
@@ -194,7 +179,6 @@ fn add_product(html: &mut TextBuilder, product: u32, opening: u64, last: u64) {
     html.fill("{}</li>\n", &[Text::Thousandths(last)]);
 }
 
-/// Returns the price of a product after all changes. That is `opening` if none of the changes is of this product.
 fn last_price(changes: &[PriceChange], product: u32, opening: u64) -> u64 {
     let mut price = opening;
     for change in changes {

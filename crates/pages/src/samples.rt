@@ -13,23 +13,21 @@ use program_slots::Version;
 use site_core::Opening;
 use std::alloc::{AllocError, Global};
 
-/// Makes the two lines that describe a metric: `# HELP`, which says what it means, and `# TYPE`, which says its type.
+/// The lines `# HELP` and `# TYPE` of a metric.
 macro_rules! head {
     ($name:literal is a $kind:literal: $help:literal) => {
         concat!("# HELP ", $name, " ", $help, "\n# TYPE ", $name, " ", $kind, "\n")
     };
 }
 
-/// Makes the lines of metrics that have one value each and no labels. The values replace the `{}` in these lines, in
-/// order.
+/// Metrics that have one value each and no labels.
 macro_rules! singles {
     ($($name:literal is a $kind:literal: $help:literal);+) => {
         concat!($("# HELP ", $name, " ", $help, "\n# TYPE ", $name, " ", $kind, "\n", $name, " {}\n"),+)
     };
 }
 
-/// Makes the lines of a metric that shows how often something was done, and how long it took in all. The time in
-/// seconds replaces the first `{}` in these lines, and the number of times the second.
+/// A metric of how long something took in all, in seconds, and how often it was done.
 macro_rules! summary {
     ($name:literal: $help:literal) => {
         concat!(
@@ -39,8 +37,7 @@ macro_rules! summary {
     };
 }
 
-/// Returns the metrics of a station at one moment, in the text format of Prometheus, version 0.0.4. The error is that
-/// memory ran out.
+/// Returns the metrics of a station at one moment.
 pub fn metrics(alloc: Global, station: &StationSnapshot<'_>) -> Result<String, AllocError> {
     let left = station.left;
     let mut text = TextBuilder::new(alloc);
@@ -63,8 +60,6 @@ pub fn metrics(alloc: Global, station: &StationSnapshot<'_>) -> Result<String, A
     text.finish()
 }
 
-/// Adds `form`, a line that shows a metric's value and ends with LF. `label` replaces the first `{}` in `form`, and
-/// `value` the second.
 fn add_sample(text: &mut TextBuilder, form: &str, label: Text, value: u64) {
     text.fill(form, &[label, Text::Number(value)]);
 }
@@ -89,7 +84,6 @@ const BYTES: &str =
 
 const SYNCS: &str = summary!("fc_journal_sync_seconds": "Syncs of the journal's file, in seconds.");
 
-/// Returns how many versions of rules were loaded by the entries that `tally` counts.
 fn loads(tally: &Tally) -> usize {
     tally
         .versions()
@@ -122,8 +116,6 @@ fn add_refusals(text: &mut TextBuilder, tally: &Tally) {
     }
 }
 
-/// Two lines of metrics for a version of a rule: how many requests it granted, and how many it denied. Each line also
-/// has the version's slot and number.
 const DECISIONS: &str = "fc_decisions_total{slot=\"{}\",version=\"{}\",answer=\"granted\"} {}\n\
     fc_decisions_total{slot=\"{}\",version=\"{}\",answer=\"denied\"} {}\n";
 
@@ -133,10 +125,7 @@ fn add_version(text: &mut TextBuilder, slot: Text, version: u32, decided: &Versi
     text.fill(DECISIONS, &[slot, version, granted, slot, version, denied]);
 }
 
-/// Adds how many requests each version of a rule granted and denied, for these versions:
-///
-/// - First the versions in `tally`: an entry loaded them, or they decided the request of an entry.
-/// - Then the versions in force that `tally` lacks. `rules` has, for each slot from 0 on, the version in force, if any.
+/// Adds what each version granted and denied: first those in `tally`, then those in force that it lacks.
 fn add_decisions(text: &mut TextBuilder, tally: &Tally, rules: &[Option<Version>]) {
     text.add(
         head!("fc_decisions_total" is a "counter": "Decisions of rules in this journal, by version."),
@@ -151,16 +140,14 @@ fn add_decisions(text: &mut TextBuilder, tally: &Tally, rules: &[Option<Version>
     }
 }
 
-/// Adds the lines of a version that is in force, with 0 grants and 0 denials. If `tally` has counts of the version,
-/// nothing is added.
+/// Adds a version in force with 0 grants and denials, unless `tally` has it.
 fn add_idle(text: &mut TextBuilder, slot: Text, version: u32, tally: &Tally) {
     if tally.versions().get(&version).is_none() {
         add_version(text, slot, version, &NO_DECISIONS);
     }
 }
 
-/// Adds a line for each state that a point can have. The line of the state `now`, which the point has, shows 1, and the
-/// other lines show 0. `place` is the point's position in the list of points, counted from 0.
+/// Adds a line for each state: 1 for the point's own, else 0.
 fn add_states(text: &mut TextBuilder, place: usize, now: State) {
     for state in &STATES {
         let is_now = u64::from(*state == now);
@@ -173,7 +160,7 @@ fn add_states(text: &mut TextBuilder, place: usize, now: State) {
     }
 }
 
-/// Returns the total of a point's unpaid transactions, in cents.
+/// In cents.
 fn unpaid_cents(point: &Point) -> u64 {
     let [first, second] = point.transactions();
     let first = first.map_or(0, |transaction| transaction.amount);
@@ -213,7 +200,6 @@ const CLEARED: &str = singles!(
     "fc_cleared_total" is a "counter": "Transactions that were ever cleared."
 );
 
-/// Adds how much money and how many transactions were ever cleared, and the price of each product that has a price.
 fn add_money(text: &mut TextBuilder, left: &Opening) {
     text.fill(
         CLEARED,
@@ -233,7 +219,6 @@ fn add_money(text: &mut TextBuilder, left: &Opening) {
     }
 }
 
-/// A number that is shown of some sales.
 #[derive(Clone, Copy)]
 enum Figure {
     Sales,
@@ -241,7 +226,7 @@ enum Figure {
     Centilitres,
 }
 
-/// Returns a number of a sum. A number above the greatest of 64 bits is given as the greatest.
+/// At most what 64 bits hold.
 fn figure_of(sum: &Sum, figure: Figure) -> u64 {
     let number = match figure {
         Figure::Sales => return sum.count,
@@ -251,8 +236,7 @@ fn figure_of(sum: &Sum, figure: Figure) -> u64 {
     number.min(u128::from(u64::MAX)) as u64
 }
 
-/// Adds a metric with a line for each of `sums`. `head` describes the metric, and `form` is a line of it. The first of
-/// `sums` has the number `first`.
+/// Adds a metric with a line for each sum, numbered from `first` on.
 fn add_figures(
     text: &mut TextBuilder,
     head: &str,
@@ -267,7 +251,6 @@ fn add_figures(
     }
 }
 
-/// Adds the three metrics of sales by point, by till or by hour: how many, their money and their volume.
 macro_rules! add_sums {
     ($text:ident, $name:literal by $label:literal: $sums:expr, $first:literal) => {
         add_figures(
@@ -306,7 +289,6 @@ macro_rules! add_sums {
     };
 }
 
-/// Returns the first `count` sums, or all of them if there are fewer.
 fn first_sums(sums: &[Sum], count: usize) -> &[Sum] {
     &sums[..count.min(sums.len())]
 }
@@ -375,7 +357,7 @@ fn add_peers(text: &mut TextBuilder, role_counts: &[RoleCounts]) {
     }
 }
 
-/// Adds a line that shows a count of a door. `start` is the line up to the value of the label `door`.
+/// `start` is the line up to the label's value.
 fn add_door(text: &mut TextBuilder, start: &str, door: &DoorCounts<'_>, value: u64) {
     text.add(start);
     text.write(&LabelValue(door.address));
@@ -397,8 +379,7 @@ fn add_doors(text: &mut TextBuilder, doors: &[DoorCounts<'_>]) {
     }
 }
 
-/// Adds a metric that shows how often something was done, and how long it took in all. `form` must be made by
-/// `summary!`.
+/// `form` must be made by `summary!`.
 fn add_times(text: &mut TextBuilder, form: &str, times: DurationSummary) {
     text.fill(
         form,
@@ -406,8 +387,6 @@ fn add_times(text: &mut TextBuilder, form: &str, times: DurationSummary) {
     );
 }
 
-/// Adds the length of the journal's file. If answers wait for syncs of the file, also adds how many syncs there were,
-/// and how long they took in all.
 fn add_file(text: &mut TextBuilder, journal: JournalFileStats) {
     text.fill(BYTES, &[Text::Number(journal.bytes)]);
     if let Some(syncs) = journal.syncs {

@@ -16,7 +16,6 @@ use program_slots::Version;
 use site_core::Opening;
 use std::alloc::{AllocError, Global};
 
-/// Makes the start of a section of the page: its id, its title, and the names of its table's columns.
 macro_rules! section {
     ($id:literal with title $title:literal and columns $($column:literal),+) => {
         concat!(
@@ -27,14 +26,12 @@ macro_rules! section {
     };
 }
 
-/// The closing tags of a section and its table.
 const END: &str = "</tbody></table></div></section>\n";
 
-/// The tags that follow `HEAD`: they make a browser load the page again after 5 seconds, and give the page its title.
+/// A browser loads the page again after 5 seconds.
 const TITLE: &str = "<meta http-equiv=\"refresh\" content=\"5\">\n<title>The station now</title>\n";
 
-/// Returns the page of HTML that shows a station at one moment. It has no script and refers to no other file, and a
-/// browser loads it again after 5 seconds. The error is that memory ran out.
+/// The page that shows a station at one moment. It has no script and refers to no other file.
 pub fn page(alloc: Global, station: &StationSnapshot<'_>) -> Result<String, AllocError> {
     let left = station.left;
     let mut html = TextBuilder::new(alloc);
@@ -56,7 +53,6 @@ pub fn page(alloc: Global, station: &StationSnapshot<'_>) -> Result<String, Allo
     html.finish()
 }
 
-/// Adds the moment at which the station is shown, the title, whether all is well, and the main figures.
 fn add_headline(html: &mut TextBuilder, station: &StationSnapshot<'_>) {
     html.fill(
         "<p class=\"audited\">{} UTC, renewed every 5 seconds</p>\n<h1>The station now</h1>\n",
@@ -84,13 +80,11 @@ fn add_headline(html: &mut TextBuilder, station: &StationSnapshot<'_>) {
     html.add("</ul>\n");
 }
 
-/// Returns cents as money, or the empty text for 0.
 fn money_or_none(cents: u64) -> Text {
     if cents == 0 { NONE } else { hundredths(cents) }
 }
 
-/// Returns two texts: the number `nozzle` of a nozzle, and the price of the product with the same number. If `nozzle`
-/// isn't 1 to 8, both texts are empty. A `nozzle` of 0 means that no nozzle is up.
+/// A nozzle's number, and the price of the product with the same number; nothing if it isn't 1 to 8.
 fn nozzle_texts(nozzle: u32, prices: &[u32; 8]) -> (Text, Text) {
     match prices.get((nozzle as usize).wrapping_sub(1)) {
         None => (NONE, NONE),
@@ -98,8 +92,6 @@ fn nozzle_texts(nozzle: u32, prices: &[u32; 8]) -> (Text, Text) {
     }
 }
 
-/// Adds the table row of `point`. `place` is its position in the list of points, counted from 0. `prices` are the
-/// prices of products 1 to 8.
 fn add_point(html: &mut TextBuilder, place: usize, point: &Point, prices: &[u32; 8]) {
     let (nozzle, price) = nozzle_texts(point.nozzle(), prices);
     let cells = [
@@ -124,8 +116,6 @@ fn add_points(html: &mut TextBuilder, left: &Opening) {
     html.add(END);
 }
 
-/// Adds the table row of an unpaid transaction, or nothing if `transaction` is `None`. `place` is the position of the
-/// transaction's point in the list of points, counted from 0.
 fn add_transaction(html: &mut TextBuilder, place: usize, transaction: Option<Transaction>) {
     let Some(unpaid) = transaction else {
         return;
@@ -154,7 +144,6 @@ fn add_unpaid(html: &mut TextBuilder, points: &[Point]) {
     html.add(END);
 }
 
-/// Adds what the day's sales come to: in all, by point, by till and by hour.
 fn add_sales(html: &mut TextBuilder, station: &StationSnapshot<'_>) {
     let (sums, left) = (station.sums, station.left);
     html.add("<section id=\"sales\"><h2>Sales of this day</h2>\n<ul class=\"figures\">\n");
@@ -188,8 +177,7 @@ fn add_prices(html: &mut TextBuilder, prices: &[u32; 8]) {
     html.add(END);
 }
 
-/// Adds the table row of the version that is in force in `slot`: its number, the entry that loaded it (or `from the day
-/// before`), and how many requests it granted and denied in this journal.
+/// Adds the version in force in `slot`, the entry that loaded it, and what it decided in this journal.
 fn add_rule(html: &mut TextBuilder, slot: usize, version: u32, tally: &Tally) {
     let decided = tally.decided_by(version);
     let since = match decided.since {
@@ -253,7 +241,6 @@ fn add_peers(html: &mut TextBuilder, role_counts: &[RoleCounts]) {
     html.add(END);
 }
 
-/// Adds the table row of a door: its address, whom it is for, and what was counted there.
 fn add_door(html: &mut TextBuilder, door: &DoorCounts<'_>) {
     html.add("<tr><th scope=\"row\">");
     html.words(door.address);
@@ -274,13 +261,12 @@ fn add_doors(html: &mut TextBuilder, doors: &[DoorCounts<'_>]) {
     html.add(END);
 }
 
-/// The start of the section that lists the last entries. Its columns of words are aligned to the left.
 const LAST: &str =
     "<section id=\"entries\"><h2>Last entries</h2>\n<div class=\"wide\"><table><thead><tr>\
 <th scope=\"col\">Entry</th><th scope=\"col\">Moment in UTC</th><th scope=\"col\" class=\"words\">Who</th>\
 <th scope=\"col\" class=\"words\">What</th><th scope=\"col\" class=\"words\">Reply</th></tr></thead><tbody>\n";
 
-/// Adds the section that lists the last entries, the newest first. `entries` has the oldest first.
+/// Adds the last entries, the newest first.
 fn add_entries(html: &mut TextBuilder, entries: &[Entry]) {
     html.add(LAST);
     for entry in entries.iter().rev() {

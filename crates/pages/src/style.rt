@@ -1,13 +1,12 @@
 //! The start of a page, with its style sheet.
 
-/// The first lines of a page's HTML. The page's title follows, and then `STYLE`.
+/// The title follows, and then `STYLE`.
 pub const HEAD: &str = "<!DOCTYPE html>
 <html lang=\"en\"><head><meta charset=\"utf-8\">
 <meta name=\"viewport\" content=\"width=device-width, initial-scale=1\">
 ";
 
-/// The style sheet of a page, and the start of its body. Most of its colours can be told apart by people who can't tell
-/// red from green.
+/// Most colours can be told apart by people who can't tell red from green.
 pub const STYLE: &str = "<style>\
 :root{--back:#fff;--text:#1d2733;--soft:#5b6875;--line:#d5dce3;--panel:#f5f7f9;\
 --sold:#0072b2;--granted:#0072b2;--denied:#e69f00;\

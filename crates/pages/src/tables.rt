@@ -5,10 +5,9 @@ use crate::texts::{Text, number, numbered};
 use day_report::{CarriedRule, Load, Outcome, PriceChange, Sum, Totals, Unpaid};
 use fuelling_point::Point;
 
-/// The most rows that a table of price changes, or of decisions by version and till, can have. Other rows are left out.
+/// The most rows of price changes, or of decisions by version and till. Others are left out.
 const ROWS: usize = 1000;
 
-/// Makes the start of a table: its id, and the names of its columns.
 macro_rules! head {
     ($id:literal; $($column:literal),+) => {
         concat!(
@@ -19,7 +18,6 @@ macro_rules! head {
     };
 }
 
-/// Adds a row of a table: its name, then its other cells.
 pub fn add_row(html: &mut TextBuilder, name: Text, cells: &[Text]) {
     html.fill("<tr><th scope=\"row\">{}</th>", &[name]);
     for cell in cells {
@@ -30,7 +28,6 @@ pub fn add_row(html: &mut TextBuilder, name: Text, cells: &[Text]) {
 
 const FOOT: &str = "</tbody></table></div>\n";
 
-/// Adds a row of sales: how many there are, their money and their litres.
 fn add_sum(html: &mut TextBuilder, name: Text, sum: &Sum) {
     let cells = [
         Text::Thousands(sum.count as u128),
@@ -40,8 +37,6 @@ fn add_sum(html: &mut TextBuilder, name: Text, sum: &Sum) {
     add_row(html, name, &cells);
 }
 
-/// Adds a row of the table of points: the sales, the number of unpaid transactions, and the state at the end of the
-/// history. The last row is for all points together, and has an empty `state`.
 fn add_point(html: &mut TextBuilder, name: Text, sum: &Sum, unpaid: usize, state: &'static str) {
     let cells = [
         Text::Thousands(sum.count as u128),
@@ -53,8 +48,6 @@ fn add_point(html: &mut TextBuilder, name: Text, sum: &Sum, unpaid: usize, state
     add_row(html, name, &cells);
 }
 
-/// Adds the row of `point`, which is at `place`, counted from 0, in `totals.points`. If there is no sum of this point,
-/// nothing is added.
 fn add_place(html: &mut TextBuilder, totals: &Totals, place: usize, point: &Point) {
     if let Some(sum) = totals.sums.points.get(place) {
         let state = state_name(point.state());
@@ -71,8 +64,6 @@ fn add_place(html: &mut TextBuilder, totals: &Totals, place: usize, point: &Poin
 const BY_POINT: &str =
     head!("by-point"; "Point", "Sales", "Money", "Litres", "Unpaid at the end", "State at the end");
 
-/// Adds the table of the points: each point's sales, and the number of its unpaid transactions and its state at the end
-/// of the history. A last row is for all points together.
 pub(crate) fn add_points(html: &mut TextBuilder, totals: &Totals) {
     html.add(BY_POINT);
     for (place, point) in totals.points.iter().enumerate() {
@@ -88,17 +79,14 @@ pub(crate) fn add_points(html: &mut TextBuilder, totals: &Totals) {
     html.add(FOOT);
 }
 
-/// The start of the table of sales by point, where the table shows nothing else of the points.
+/// Without anything else of the points.
 pub const POINT_SALES: &str = head!("by-point"; "Point", "Sales", "Money", "Litres");
 
-/// The start of the table of sales by till.
 pub const BY_TILL: &str = head!("by-till"; "Till", "Sales", "Money", "Litres");
 
-/// The start of the table of sales by hour.
 pub const BY_HOUR: &str = head!("by-hour"; "Hour", "Sales", "Money", "Litres");
 
-/// Adds a table of sales by point, by till or by hour, with a row for each that has a sale. `head` is `POINT_SALES`,
-/// `BY_TILL` or `BY_HOUR`. `first` is the number of the point, till or hour to which the first of `sums` belongs.
+/// Adds a row for each sum that has a sale. The first sum is that of the point, till or hour `first`.
 pub fn add_parts(html: &mut TextBuilder, head: &str, sums: &[Sum], first: u64) {
     html.add(head);
     for (place, sum) in sums.iter().enumerate() {
@@ -109,7 +97,6 @@ pub fn add_parts(html: &mut TextBuilder, head: &str, sums: &[Sum], first: u64) {
     html.add(FOOT);
 }
 
-/// Adds the row of an unpaid transaction.
 fn add_transaction(html: &mut TextBuilder, unpaid: &Unpaid) {
     let holder = match unpaid.holder {
         0 => Text::Words("nobody"),
@@ -126,7 +113,6 @@ fn add_transaction(html: &mut TextBuilder, unpaid: &Unpaid) {
 
 const UNPAID: &str = head!("unpaid"; "Point", "Transaction", "Money", "Litres", "Held by till");
 
-/// Adds the table of the transactions that are unpaid at the end of the history.
 pub(crate) fn add_unpaid(html: &mut TextBuilder, unpaid: &[Unpaid]) {
     html.add(UNPAID);
     for transaction in unpaid {
@@ -135,12 +121,7 @@ pub(crate) fn add_unpaid(html: &mut TextBuilder, unpaid: &[Unpaid]) {
     html.add(FOOT);
 }
 
-/// Adds the row of a version of a rule, with how many requests it granted and denied.
-///
-/// - `place` is the version's place in `totals.versions`, counted from 0.
-/// - `rule` has the version's slot and number.
-/// - `entry` is the number of the entry that loaded the version, and `loaded` the moment of the last earlier entry that
-///   has one. For a version from the day before, `entry` is `carried in`, and `loaded` is empty.
+/// Adds the version at `place` in `totals.versions`, which `entry` loaded after the moment `loaded`.
 fn add_version(
     html: &mut TextBuilder,
     totals: &Totals,
@@ -166,7 +147,6 @@ fn add_version(
     add_row(html, Text::Number(rule.version as u64), &cells);
 }
 
-/// Adds the row of the version that `load` loaded. `place` is the place of `load` in `totals.loads`, counted from 0.
 fn add_load(html: &mut TextBuilder, totals: &Totals, place: usize, load: &Load) {
     let rule = CarriedRule {
         slot: load.slot,
@@ -188,8 +168,7 @@ const VERSIONS: &str = head!(
     "Prices granted", "denied"
 );
 
-/// Adds the table of the versions of rules, with how many requests each granted and denied. First come those that were
-/// carried in from the day before, then those that were loaded.
+/// First come the versions that were carried in, then those that were loaded.
 pub(crate) fn add_versions(html: &mut TextBuilder, totals: &Totals) {
     html.add(VERSIONS);
     for (place, rule) in totals.carried.iter().enumerate() {
@@ -202,9 +181,8 @@ pub(crate) fn add_versions(html: &mut TextBuilder, totals: &Totals) {
     html.add(FOOT);
 }
 
-/// Adds the rows of one version of a rule: a row for each till that had a request decided by this version. `tills` has
-/// what the version decided for each till, till 1 first. `rows` is how many rows there were before, and the result is how
-/// many there are now. Rows beyond `ROWS` are counted, but left out.
+/// Adds a row for each till of which the version decided a request, and returns how many rows there are now. Those
+/// beyond `ROWS` are counted, but left out.
 fn add_tills(html: &mut TextBuilder, tills: &[Outcome], version: u32, rows: usize) -> usize {
     let mut rows = rows;
     for (place, outcome) in tills.iter().enumerate() {
@@ -225,8 +203,7 @@ fn add_tills(html: &mut TextBuilder, tills: &[Outcome], version: u32, rows: usiz
 
 const BY_VERSION_AND_TILL: &str = head!("versions-by-till"; "Version", "Till", "Granted", "Denied");
 
-/// Adds the table of decisions by version and till: how many requests of each till a version granted and denied. If
-/// there are more than `ROWS` rows, only the first `ROWS` are shown, and a note below says how many are left out.
+/// A note says how many rows are left out.
 pub(crate) fn add_versions_by_till(html: &mut TextBuilder, totals: &Totals) {
     html.add(BY_VERSION_AND_TILL);
     let mut rows = 0;
@@ -238,16 +215,13 @@ pub(crate) fn add_versions_by_till(html: &mut TextBuilder, totals: &Totals) {
     add_remark(html, remark, rows.saturating_sub(ROWS));
 }
 
-/// Adds the note `remark`, in which `ROWS` replaces the first `{}` and `left` the second. `left` is how many rows are
-/// left out. If it is 0, nothing is added.
+/// Adds `remark`, with `ROWS` and how many rows are left out, unless that is 0.
 fn add_remark(html: &mut TextBuilder, remark: &str, left: usize) {
     if left > 0 {
         html.fill(remark, &[number(ROWS), Text::Thousands(left as u128)]);
     }
 }
 
-/// Adds the row of counter number `place`, counted from 0. `counter` is its value and its bound. If the bound is 0,
-/// nothing is added.
 fn add_counter(html: &mut TextBuilder, place: usize, counter: &(u64, u64)) {
     let (value, bound) = *counter;
     if bound > 0 {
@@ -261,8 +235,7 @@ fn add_counter(html: &mut TextBuilder, place: usize, counter: &(u64, u64)) {
 
 const COUNTERS: &str = head!("counters"; "Counter", "Value at the end", "Bound");
 
-/// Adds the table of the counters whose bound isn't 0, with their bounds, and their values at the end of the history.
-/// `counters` has the value and the bound of each counter, counter 0 first.
+/// Adds the counters whose bound isn't 0: the pairs are value and bound.
 pub(crate) fn add_counters(html: &mut TextBuilder, counters: &[(u64, u64)]) {
     html.add(COUNTERS);
     for (place, counter) in counters.iter().enumerate() {
@@ -271,7 +244,6 @@ pub(crate) fn add_counters(html: &mut TextBuilder, counters: &[(u64, u64)]) {
     html.add(FOOT);
 }
 
-/// Adds the row of a changed price.
 fn add_change(html: &mut TextBuilder, change: &PriceChange) {
     let cells = [
         Text::Moment(change.moment),
@@ -288,8 +260,7 @@ const PRICES: &str = head!(
     "Entry", "Moment", "Product", "New price", "Asked by till", "Granted by version"
 );
 
-/// Adds the table of the price changes. If there are more than `ROWS` changes, only the last `ROWS` are shown, and a
-/// note below says how many are left out.
+/// Of more than `ROWS` changes the last are shown; a note says how many are left out.
 pub(crate) fn add_prices(html: &mut TextBuilder, changes: &[PriceChange]) {
     html.add(PRICES);
     let left = changes.len().saturating_sub(ROWS);

@@ -2,40 +2,34 @@
 
 ghost use Rattle.std.specs.Prelude.{◌≤◌};
 
-/// A text of a page, and the form in which it is written.
 #[derive(Clone, Copy)]
 pub enum Text {
-    /// A number in plain digits, as in 1234567.
+    /// As in 1234567.
     Number(u64),
-    /// A number with commas between groups of three digits, as in 1,234,567.
+    /// As in 1,234,567.
     Thousands(u128),
-    /// A number of hundredths with two decimals, as in 1,234.50: cents as money, or centilitres as litres.
+    /// Cents as money, or centilitres as litres, as in 1,234.50.
     Hundredths(u128),
-    /// A number of thousandths with three decimals, as in 1.799: a price.
+    /// A price, as in 1.799.
     Thousandths(u64),
-    /// Nanoseconds as seconds with nine decimals, as in 0.000012500.
+    /// Nanoseconds as seconds, as in 0.000012500.
     Seconds(u64),
-    /// A moment in seconds since the start of 1970, as a date and a time of day in UTC, as in 2026-11-28 14:42:43. For
-    /// 0, which means that there is no moment, `not told` is written.
+    /// Seconds since the start of 1970, in UTC, as in 2026-11-28 14:42:43. For 0 it is `not told`.
     Moment(u64),
-    /// A moment in seconds since the start of 1970, as a time of day in UTC with hours and minutes, as in 14:42.
+    /// The same as a time of day, as in 14:42.
     Clock(u64),
-    /// `Point` and the point's number.
     Point(u64),
-    /// `entry` and the entry's number.
     Entry(u64),
-    /// A refusal's number, as in S20, and what it means in words.
+    /// The number, as in S20, and what it means.
     Refusal(u32),
-    /// Words, written with the special characters of HTML escaped.
+    /// The special characters of HTML are escaped.
     Words(&'static str),
 }
 
-/// Returns a length, or any other `usize`, as a text in plain digits.
 pub fn number(length: usize) -> Text {
     Text::Number(length as u64)
 }
 
-/// Returns `first + place` as a text in plain digits.
 pub fn numbered(place: usize, first: u64) -> Text {
     Text::Number((place as u64).saturating_add(first))
 }
@@ -48,8 +42,7 @@ pub(crate) struct Date {
     pub day: u64,
 }
 
-/// Returns the date of `moment`, which is in seconds since the start of 1970. The code counts years from March on, so
-/// that a leap day is the last day of a year. Each 400 years have 146,097 days.
+/// Years are counted from March on, so that a leap day is the last day of a year. Each 400 years have 146,097 days.
 pub(crate) fn date_of(moment: u64) -> Date {
     let days = moment / 86_400 + 719_468;
     let cycle = days / 146_097;
@@ -71,8 +64,7 @@ pub(crate) fn date_of(moment: u64) -> Date {
     }
 }
 
-/// Returns `value * length / most`, rounded down, but at most `length`. Returns 0 if `most` is 0. A product above
-/// 2^128 - 1 counts as 2^128 - 1.
+/// `value * length / most`, rounded down, but at most `length`, and 0 if `most` is 0.
 pub(crate) fn scaled(value: u128, most: u128, length: usize) -> usize
     ensures { result ≤ length }
 {

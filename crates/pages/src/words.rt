@@ -8,39 +8,32 @@ use fuelling_point::{DispenserEvent, Order};
 use till_request::form::text_of;
 use till_request::{Act, AmountVerb, Form, Reply, Request, RequestByForm, Role};
 
-/// A template with at most three marks `{}`, and the texts that replace the first, the second and the third mark. If
-/// the template lacks a mark, the text for it is `NONE`, the empty text.
+/// A template with at most three marks `{}`, and the texts in place of them; the rest are `NONE`.
 #[derive(Clone, Copy)]
 struct Phrase(&'static str, Text, Text, Text);
 
-/// Returns the phrase in which `first` and `second` replace the two `{}` of `form`, in this order. The text for a `{}`
-/// that `form` lacks is `NONE`.
 fn of_texts(form: &'static str, first: Text, second: Text) -> Phrase {
     Phrase(form, first, second, NONE)
 }
 
-/// Returns the phrase in which `number` replaces the only `{}` of `form`.
 fn of_number(form: &'static str, number: u32) -> Phrase {
     of_texts(form, digits(number), NONE)
 }
 
-/// Returns the phrase in which `number` replaces the first `{}` of `form`, and `amount`, in cents, the second.
+/// `amount` is in cents.
 fn of_amount(form: &'static str, number: u32, amount: u64) -> Phrase {
     of_texts(form, digits(number), hundredths(amount))
 }
 
-/// Returns the phrase with the words `form`, which have no `{}`.
 fn plain(form: &'static str) -> Phrase {
     of_texts(form, NONE, NONE)
 }
 
-/// Adds the words of a phrase, with its texts in place of the marks `{}`.
 fn add_phrase(html: &mut TextBuilder, phrase: Phrase) {
     let Phrase(form, first, second, third) = phrase;
     html.fill(form, &[first, second, third]);
 }
 
-/// Returns the name of a peer with this role: `till`, `dispenser` or `owner`.
 pub(crate) fn role_name(role: Role) -> &'static str {
     match role {
         Role::Till | Role::OneTill(_) => "till",
@@ -49,13 +42,11 @@ pub(crate) fn role_name(role: Role) -> &'static str {
     }
 }
 
-/// Returns the verb of a form, such as `release`, as a text.
 fn verb_text(form: Form) -> Text {
     Text::Words(text_of(form))
 }
 
-/// Returns the words for what a till asks for by a request with an amount in cents, or with a price in thousandths of
-/// the currency per litre. `subject` is the request's point or, for a price, its product.
+/// `amount` is in cents, and `subject` a point; or they are a price in thousandths, and a product.
 fn amount_words(verb: AmountVerb, subject: u32, amount: u64) -> Phrase {
     match verb {
         AmountVerb::Release => of_amount("release point {} up to {}", subject, amount),
@@ -68,7 +59,6 @@ fn amount_words(verb: AmountVerb, subject: u32, amount: u64) -> Phrase {
     }
 }
 
-/// Returns the words for what a till's request asks for.
 fn request_words(request: &Request) -> Phrase {
     match request.by_form() {
         RequestByForm::Amount(verb, subject, amount) => amount_words(verb, subject, amount),
@@ -86,7 +76,6 @@ fn request_words(request: &Request) -> Phrase {
     }
 }
 
-/// Returns the words for what a dispenser reports.
 fn event_words(event: &DispenserEvent) -> Phrase {
     match *event {
         DispenserEvent::Up(nozzle) => of_number("nozzle {} is up", nozzle),
@@ -103,8 +92,7 @@ fn event_words(event: &DispenserEvent) -> Phrase {
     }
 }
 
-/// Returns two phrases: one for who sent `act`, and one for `act` itself, which is a till's request, a dispenser's
-/// report or a load of a rule.
+/// Who sent the act, and the act itself.
 fn act_words(act: &Act) -> (Phrase, Phrase) {
     match act {
         Act::Till { till, request } => (of_number("till {}", *till), request_words(request)),
@@ -116,7 +104,6 @@ fn act_words(act: &Act) -> (Phrase, Phrase) {
     }
 }
 
-/// Returns the words for the order that a dispenser got.
 fn order_words(order: Order) -> Phrase {
     match order {
         Order::Authorise(amount) => of_texts("order: deliver up to {}", hundredths(amount), NONE),
@@ -126,7 +113,6 @@ fn order_words(order: Order) -> Phrase {
     }
 }
 
-/// Returns the name of the order that is pending at a point, or an empty string if there is none.
 pub(crate) fn order_name(order: Option<Order>) -> &'static str {
     match order {
         None => "",
@@ -137,8 +123,7 @@ pub(crate) fn order_name(order: Option<Order>) -> &'static str {
     }
 }
 
-/// Returns the name of a point's state with this number, 1 to 9. Returns `unknown` for a greater number, and the name
-/// of state 1 for 0.
+/// `unknown` for a number over 9.
 fn state_numbered(number: u32) -> &'static str {
     match STATES.get((number as usize).saturating_sub(1)) {
         None => "unknown",
@@ -146,7 +131,6 @@ fn state_numbered(number: u32) -> &'static str {
     }
 }
 
-/// Returns whether an act is a till's request to change a price.
 fn asks_price(act: &Act) -> bool {
     matches!(
         act,
@@ -157,8 +141,7 @@ fn asks_price(act: &Act) -> bool {
     )
 }
 
-/// Returns the words for a request that was granted. `version` is the version of the rule that granted it. `value` is a
-/// price in thousandths of the currency per litre if `is_price` is true, or else an amount in cents.
+/// `value` is a price in thousandths, or else an amount in cents.
 fn grant_words(is_price: bool, value: u64, version: u32) -> Phrase {
     let granted = if is_price {
         Text::Thousandths(value)
@@ -168,9 +151,7 @@ fn grant_words(is_price: bool, value: u64, version: u32) -> Phrase {
     of_texts("granted {} by version {}", granted, digits(version))
 }
 
-/// Returns the words for a refusal with the number `number`. `value` is what the refusal names: the number of a state
-/// for S22 (wrong state), of a slot for S23 (no program there), or of a version for S24 (a denial by its program). It
-/// is `None` if the refusal names nothing.
+/// `value` is what the refusal names: a state for S22, a slot for S23, a version for S24.
 fn refusal_words(number: u32, value: Option<u32>) -> Phrase {
     let refusal = Text::Refusal(number);
     let Some(value) = value else {
@@ -184,7 +165,6 @@ fn refusal_words(number: u32, value: Option<u32>) -> Phrase {
     }
 }
 
-/// Returns the words for the reply of an entry.
 fn reply_words(entry: &Entry) -> Phrase {
     match entry.reply {
         Reply::Done => plain("done"),
@@ -200,7 +180,6 @@ fn reply_words(entry: &Entry) -> Phrase {
     }
 }
 
-/// Adds the table row of an entry: its number, its moment, who sent its act, what the act is, and the reply.
 pub(crate) fn add_entry(html: &mut TextBuilder, entry: &Entry) {
     let (who, what) = act_words(&entry.act);
     html.fill(
