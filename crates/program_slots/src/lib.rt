@@ -1,6 +1,5 @@
-//! The slots that programs are installed in. Each installed program becomes a new version, with a number that is never
-//! used again. Slots can begin with versions that were made earlier. The version in a slot is the one that was
-//! installed there last, else the one that the slot began with. The programs of replaced versions are kept.
+//! The slots that programs are installed in. Each installed program becomes a version, whose number is never used
+//! again. The programs of replaced versions are kept.
 #![tactic(auto)]
 
 ghost use Rattle.std.specs.Prelude.{◌≡◌, ℕ, ◌+◌, ◌≤◌, length, map, All, slice_index_or, Some, None};
@@ -19,13 +18,12 @@ use std::marker::Model;
 use std::sync::Arc;
 pub use version::Version;
 
-/// How many versions can be installed at most, in all slots together. Versions that the slots begin with don't count.
+/// The most versions that can be installed in all slots together, besides those that the slots begin with.
 pub const VERSIONS: usize = 4096;
 
-/// The number of slots. They are numbered from 0.
 pub const SLOTS: u32 = 16;
 
-/// Why a program wasn't installed in a slot.
+/// Why a program wasn't installed in a slot, and nothing has changed.
 #[derive(Clone, Copy)]
 pub enum SlotFault {
     /// S32: there is no such slot; the slots are 0 to 15.
@@ -36,13 +34,12 @@ pub enum SlotFault {
     OutOfMemory,
 }
 
-/// The 16 slots, the versions that they began with, and the programs of all versions that were installed since.
 #[derive(Drop)]
 pub struct Slots {
     /// How many versions there were before these slots were made.
     before: u32,
     opened: Vec<Option<Version>>,
-    /// For each slot, the number of the version that was installed there last; `None` if none was.
+    /// For each slot, the number of the version that was installed there last.
     installed: [Option<u32>; 16],
     programs: Vec<Arc<Program>>,
 }
@@ -60,17 +57,14 @@ impl Model for Slots {
 }
 
 impl Slots {
-    /// Makes 16 empty slots, with no version yet. Allocates no memory.
+    /// Allocates no memory.
     pub fn new(alloc: Global) -> Self
         ensures { result ≡ no_versions }
     {
         Self::opened(alloc, 0, Vec::new(alloc))
     }
 
-    /// Makes 16 slots. Slot k begins with the version `opened[k]`, or empty if `opened` has no version there. `before`
-    /// is how many versions there were before these slots were made, and must be at most 4,290,000,000. `opened` must
-    /// have at most 16 places, and its versions must have numbers from 1 to `before` and programs that the verifier
-    /// accepts. Allocates no memory.
+    /// Makes slots that begin with these versions, after `before` versions that were made earlier. Allocates no memory.
     pub fn opened(alloc: Global, before: u32, opened: Vec<Option<Version>>) -> Self
         requires few { before ≤ 4290000000 }
         requires rules { All (IsRule before) opened.items }
@@ -85,12 +79,7 @@ impl Slots {
         }
     }
 
-    /// Installs a program in a slot as a new version, and returns the version's number. The n-th version that is
-    /// installed in these slots has the number `before` + n, where `before` is how many versions there were before
-    /// these slots were made. No other slot changes.
-    ///
-    /// The error is `NoSuchSlot` for a slot over 15, else `VersionsFull` if 4,096 versions were installed, else
-    /// `OutOfMemory` if memory ran out. After an error nothing has changed, and the program is dropped.
+    /// Installs a program as a new version, and returns its number. After an error the program is dropped.
     pub fn install(&mut self, slot: u32, program: Arc<Program>) -> Result<u32, SlotFault>
         ensures step { IfOk result (λ number. Installs self.old slot (arc_value program) number self.new) }
         ensures refusal { Refuses self.old slot result }
@@ -110,8 +99,8 @@ impl Slots {
         Ok(number)
     }
 
-    /// Returns the number and the program of the version in a slot: the one that was installed last, else the one that
-    /// the slot began with. `None` for an empty slot and for a slot over 15.
+    /// Returns the number and the program of the version in a slot: the one installed last, else the one of the
+    /// beginning.
     pub fn in_slot(&self, slot: u32) -> Option<(u32, &Arc<Program>)>
         ensures { MatchOption result (version_in self.now slot ≡ None)
             (λ v. version_in self.now slot ≡ Some (record { number = v.0; program = arc_value v.1.now })) }
@@ -123,7 +112,6 @@ impl Slots {
         Some((number, program))
     }
 
-    /// Returns the number of the version in a slot; `None` for an empty slot and for a slot over 15.
     pub fn installed(&self, slot: u32) -> Option<u32>
         ensures { result ≡ number_in self.now slot }
     {
@@ -131,8 +119,7 @@ impl Slots {
         Some(number)
     }
 
-    /// Returns the program of version `number`, if that version was installed in these slots or a slot began with it;
-    /// else `None`.
+    /// Returns the program of a version that was installed in these slots, or that a slot began with.
     pub fn version(&self, number: u32) -> Option<&Arc<Program>>
         ensures { MatchOption result (program_of self.now number ≡ None)
             (λ program. program_of self.now number ≡ Some (arc_value program.now)) }
@@ -144,16 +131,14 @@ impl Slots {
         }
     }
 
-    /// Returns how many versions there have been: those before these slots were made, and those installed since.
+    /// Returns how many versions there have been, with those before these slots were made.
     pub fn versions(&self) -> u32
         ensures { result ≡ self.now.before + length self.now.programs }
     {
         self.before + self.programs.len() as u32
     }
 
-    /// Returns a list of the versions in slots 0 to 15, with `None` for an empty slot. `Slots::opened` can make new
-    /// slots from this list. The programs are shared, not copied. The error is that memory ran out, or that a program's
-    /// `Arc` has too many owners.
+    /// Returns the versions in slots 0 to 15, from which `Slots::opened` can make new slots. Programs are shared.
     pub fn rules(&self, alloc: Global) -> Result<Vec<Option<Version>>, AllocError>
         ensures each { IfOk result
             (λ rules. rules.items ≡ map (λ slot. version_in self.now slot) (range_with_len 0 16)) }
@@ -166,27 +151,23 @@ impl Slots {
         Ok(rules)
     }
 
-    // Returns a copy of the version in a slot; `None` for an empty slot and for a slot over 15. The copy shares the
-    // program. The error is that the program's `Arc` has too many owners; for an empty slot there is no error.
     fn rule(&self, slot: u32) -> Result<Option<Version>, AllocError>
         ensures empty { version_in self.now slot ≡ None → IsOk result }
         ensures same { IfOk result (λ rule. rule ≡ version_in self.now slot) }
         ensures good { IfOk result (λ rule. IsRule (self.now.before + length self.now.programs) rule) }
     {
-        // Reading a field tells the prover that the invariant of `Slots` holds.
+        // So the prover knows that the invariant of `Slots` holds.
         let _before = &self.before;
         let Some((number, program)) = self.in_slot(slot) else {
             return Ok(None);
         };
-        // The contract of this call tells the prover that the verifier accepts the program, and that the program is
-        // good: it can be decoded, and each run of it ends and changes only declared counters.
+        // So the prover knows that the program is good, and that the verifier accepts it.
         let _bytes = program.bytes();
         let program = Arc::try_clone(program)?;
         Ok(Some(Version { number, program }))
     }
 }
 
-// Returns the number and the program of the version that `opened` has at index `slot`; `None` if it has none there.
 fn opened_in(opened: &[Option<Version>], slot: u32) -> Option<(u32, &Arc<Program>)>
     ensures { MatchOption result (slice_index_or opened.now slot None ≡ None)
         (λ v. slice_index_or opened.now slot None ≡ Some (record { number = v.0; program = arc_value v.1.now })) }
@@ -197,7 +178,6 @@ fn opened_in(opened: &[Option<Version>], slot: u32) -> Option<(u32, &Arc<Program
     }
 }
 
-// Returns the program of the first version in the list that has this number, or `None` if no version has it.
 fn program_numbered(versions: &[Option<Version>], number: u32) -> Option<&Arc<Program>>
     ensures { MatchOption result (program_among versions.now number ≡ None)
         (λ program. program_among versions.now number ≡ Some (arc_value program.now)) }

@@ -1,4 +1,3 @@
-//! A version: a program that was installed in a slot, with its number.
 
 ghost use Rattle.std.specs.Prelude.{◌≡◌, IfOk};
 
@@ -7,7 +6,7 @@ use std::alloc::AllocError;
 use std::marker::Model;
 use std::sync::Arc;
 
-/// A version: its number, counted from 1, and its program.
+/// A program that was installed in a slot, and its number, counted from 1.
 #[derive(Drop)]
 pub struct Version {
     pub number: u32,
@@ -24,8 +23,7 @@ impl Model for Version {
 }
 
 impl Version {
-    /// Returns a copy of this version. The two share the program. The error is that the program's `Arc` has too many
-    /// owners.
+    /// Returns a copy, which shares the program. The error is that the program's `Arc` has too many owners.
     pub fn copied(&self) -> Result<Version, AllocError>
         ensures { IfOk result (λ v. v ≡ self.now) }
     {

@@ -17,14 +17,12 @@ use program_slots::Slots;
 use reg_types::Program;
 use std::sync::Arc;
 
-/// Returns the place, counted from 0, of the first byte in which `a` and `b` differ; `None` if no byte differs. Both
-/// must have the same length, below 2^32.
 pub fn first_byte(a: &[u8], b: &[u8]) -> Option<u32>
     requires many { length a.now ≡ length b.now }
     requires small { length a.now < 2 ^ 32 }
     ensures { MatchOption result (a.now ≡ b.now) (FirstDiffers a.now b.now) }
 {
-    // For equal slices, `==` is faster than the loop below: it compares several bytes at once.
+    // `==` compares several bytes at once.
     if a == b {
         return None;
     }
@@ -36,16 +34,13 @@ pub fn first_byte(a: &[u8], b: &[u8]) -> Option<u32>
     None
 }
 
-/// Returns the greater of two numbers: how many points `a` has, and how many `b` has.
 pub fn greater_point_count(a: &View, b: &View) -> u32
     ensures { result ≡ max a.now.count b.now.count }
 {
     if a.count < b.count { b.count } else { a.count }
 }
 
-/// Returns the place, counted from 0, of the first point in which `a` and `b` differ; `None` if no point differs.
-/// Compares only the first `count` points. `count` must be at most 32, and all other points must be the same in `a` and
-/// in `b`.
+/// Returns the first of `count` points that differs, counted from 0. All others must be the same.
 pub fn first_point(count: u32, a: &[PointView; 32], b: &[PointView; 32]) -> Option<u32>
     requires count { count ≤ POINTS }
     requires others { drop count a.now ≡ drop count b.now }
@@ -60,12 +55,11 @@ pub fn first_point(count: u32, a: &[PointView; 32], b: &[PointView; 32]) -> Opti
     None
 }
 
-/// Returns the place, counted from 0, of the first price in which `a` and `b` differ; `None` if no price differs.
 pub fn first_price(a: &[u32; 8], b: &[u32; 8]) -> Option<u32>
     ensures within { IfSome result (λ place. place < 8) }
     ensures first { MatchOption result (a.now ≡ b.now) (FirstDiffers a.now b.now) }
 {
-    // For equal arrays, `==` is faster than the loop below: it compares several prices at once.
+    // `==` compares several prices at once.
     if a == b {
         return None;
     }
@@ -77,8 +71,6 @@ pub fn first_price(a: &[u32; 8], b: &[u32; 8]) -> Option<u32>
     None
 }
 
-/// Returns whether counter `c`, which must be 0 to 31, has the same value and bound in `a` and `b`. Also true if bit
-/// `c` of the mask `declared` isn't set.
 fn is_same_counter(declared: u32, a: &Counters, b: &Counters, c: u32) -> bool
     requires { c < COUNTERS }
     ensures { IsTrue result ↔ (IsTrue (is_declared declared c) → counter a.now c ≡ counter b.now c) }
@@ -89,15 +81,13 @@ fn is_same_counter(declared: u32, a: &Counters, b: &Counters, c: u32) -> bool
     a.get(c) == b.get(c) && a.bound(c) == b.bound(c)
 }
 
-/// Returns the number of the first declared counter whose value or bound differs in `a` and `b`; `None` if no declared
-/// counter differs. Bit c of the mask `declared` declares counter c.
 pub fn first_counter(declared: u32, a: &Counters, b: &Counters) -> Option<u32>
     ensures { MatchOption result (Agrees declared b.now a.now) (CounterDiffers declared a.now b.now) }
 {
     if declared == 0 {
         return None;
     }
-    // These reads tell the prover that `a` and `b` have 32 counters each.
+    // So the prover knows that there are 32 counters each.
     let _counters = (a.get(0), b.get(0));
     for c in 0..32 {
         if !is_same_counter(declared, a, b, c) {
@@ -113,8 +103,7 @@ pub fn is_same_program(a: &Program, b: &Program) -> bool
     a.declared() == b.declared() && a.layout() == b.layout() && a.bytes() == b.bytes()
 }
 
-/// Returns `Ok` if the version in the slot has this number and this program. Else the error is the number of the
-/// version in the slot, or `None` for an empty slot and for a slot over 15.
+/// Returns whether the slot has this version. The error is the number of the version that it has, if any.
 pub fn is_version(
     slots: &Slots,
     slot: u32,

@@ -13,20 +13,11 @@ use std::alloc::{AllocError, Global};
 use std::marker::Model;
 use std::sync::Arc;
 
-/// The greatest bound of a counter: the greatest number that the text of a configuration can contain.
+/// The greatest bound of a counter: the greatest number that a configuration's text can have.
 const MOST_COUNTER: u64 = 9_223_372_036_854_775_807;
 
-/// The configuration that a site is started from:
-/// - `tills`: how many tills there are
-/// - `price_slot`: the slot whose program decides price changes
-/// - `prices`: the prices of products 1 to 8 in thousandths of the currency per litre
-/// - `points`: for each fuelling point the slot whose program decides its releases, and the slot whose program decides
-///   its presets
-/// - `counters`: for each counter its value and its bound
-/// - `opening`: what the day before left, if anything
-///
-/// Each value is in the range that `Config::new` names. If there is an opening, the site begins with the opening's
-/// prices and counters in place of these, and with the opening's points, versions and totals of cleared transactions.
+/// The configuration that a site is started from. Each value is in the range that `Config::new` names. With an opening
+/// the site begins with the opening's prices and counters, and with its points, versions and totals.
 #[derive(Drop)]
 pub struct Config {
     tills: u32,
@@ -63,8 +54,6 @@ impl Model for Config {
     }) };
 }
 
-/// Returns whether a configuration can have these prices, points and counters: each number is in the range that
-/// `Config::new` names, and there are 1 to 32 points.
 fn are_in_range(prices: &[u32; 8], points: &[(u32, u32)], counters: &[(u64, u64); 32]) -> bool
     ensures { IsTrue result ↔ All (λ price. price ≤ 9999999) prices.now × (1 ≤ length points.now)
         × (length points.now ≤ 32) × All (λ p. (p.0 ≤ 15) × (p.1 ≤ 15)) points.now × All IsCounter counters.now }
@@ -80,11 +69,10 @@ fn are_in_range(prices: &[u32; 8], points: &[(u32, u32)], counters: &[(u64, u64)
 }
 
 impl Config {
-    /// Makes a configuration without an opening. `points` has for each fuelling point the slot whose program decides
-    /// its releases, and the slot whose program decides its presets. `counters` has for each counter its value and its
-    /// bound. Returns `None` if a value is out of its range: there are 1 to 64 tills and 1 to 32 points, slots are 0 to
-    /// 15, a price is at most 9,999,999 thousandths (0 for none), a counter's value is at most its bound, and a bound
-    /// is at most 2^63 - 1. Allocates no memory.
+    /// Makes a configuration without an opening: for each point the slots of the programs that decide its releases and
+    /// its presets, for each counter its value and its bound. Returns `None` if a value is out of its range: 1 to 64
+    /// tills, 1 to 32 points, slots 0 to 15, prices up to 9,999,999 thousandths of the currency per litre (0 for none),
+    /// counters' values up to their bounds, and bounds up to 2^63 - 1.
     pub fn new(
         tills: u32,
         price_slot: u32,
@@ -127,8 +115,7 @@ impl Config {
         })
     }
 
-    /// Returns a copy of the configuration, which shares the opening with the original. The error is that memory ran
-    /// out, or that the opening's `Arc` has too many owners.
+    /// Returns a copy, which shares the opening. The opening's `Arc` may have too many owners for that.
     pub fn copied(&self, alloc: Global) -> Result<Config, AllocError>
         ensures { IfOk result (λ config. config ≡ self.now) }
     {
@@ -147,10 +134,7 @@ impl Config {
         })
     }
 
-    /// Returns this configuration with this opening (what the day before left), in place of any opening that it had.
-    /// The error is the first fault that the opening has for a site with the configuration's number of points, in the
-    /// order of `OpeningFault`. If the opening has no fault, the only possible error is that memory ran out. After an
-    /// error the configuration and the opening are dropped.
+    /// Returns this configuration with this opening. The error is the opening's first fault, or that memory ran out.
     pub fn opened(self, alloc: Global, opening: Opening) -> Result<Config, OpeningFault>
         ensures value { IfOk result (λ config. config ≡ record self { opening = Some opening }) }
         ensures fits { OnOk result (IsOpening (length self.points) opening) }
@@ -175,7 +159,6 @@ impl Config {
         })
     }
 
-    /// Returns the opening that the site begins with, or `None` if there is none.
     pub fn opening(&self) -> Option<&Opening>
         ensures there { MatchOption result (self.now.opening ≡ None) (λ opening. self.now.opening ≡ Some opening.now) }
         ensures good { IfSome result (λ opening. IsOpening (length self.now.points) opening.now) }
@@ -187,7 +170,6 @@ impl Config {
         }
     }
 
-    /// Returns whether the two configurations are the same in every part.
     pub fn is_same(&self, other: &Config) -> bool
         ensures { IsTrue result ↔ (self.now ≡ other.now) }
     {
@@ -202,14 +184,12 @@ impl Config {
             && is_same_opening(&self.opening, &other.opening)
     }
 
-    /// Returns the number of tills.
     pub fn tills(&self) -> u32
         ensures { result ≡ self.now.tills }
     {
         self.tills
     }
 
-    /// Returns whether the site has a till of this number.
     pub(crate) fn has_till(&self, till: u32) -> bool
         ensures there { result ≡ is_till self.now till }
         ensures numbered { OnTrue result (0 < till) }
@@ -223,32 +203,28 @@ impl Config {
         self.price_slot
     }
 
-    /// Returns the prices of products 1 to 8 in thousandths, 0 for none. If there is an opening, the site begins with
-    /// the opening's prices instead.
+    /// Returns the prices in thousandths, 0 for none. A site with an opening begins with the opening's instead.
     pub fn prices(&self) -> [u32; 8]
         ensures { result ≡ self.now.prices }
     {
         self.prices
     }
 
-    /// Returns for each of counters 0 to 31 its value and its bound. If there is an opening, the site begins with the
-    /// opening's counters instead.
+    /// Returns each counter's value and bound. A site with an opening begins with the opening's instead.
     pub fn counters(&self) -> [(u64, u64); 32]
         ensures { result ≡ self.now.counters }
     {
         self.counters
     }
 
-    /// Returns the slot whose program decides the releases of point `n`, or 0 if the site has fewer than `n` points.
-    /// For `n` = 0 returns the slot of point 1.
+    /// Returns 0 for a point that the site doesn't have, and for point 0 the slot of point 1.
     pub(crate) fn release_slot(&self, n: u32) -> u32
         ensures { result ≡ (slots_of self.now n).0 }
     {
         self.slots_of(n).0
     }
 
-    /// Returns the slot whose program decides the presets of point `n`, or 0 if the site has fewer than `n` points. For
-    /// `n` = 0 returns the slot of point 1.
+    /// Returns 0 for a point that the site doesn't have, and for point 0 the slot of point 1.
     pub(crate) fn preset_slot(&self, n: u32) -> u32
         ensures { result ≡ (slots_of self.now n).1 }
     {
@@ -266,7 +242,7 @@ impl Config {
         }
     }
 
-    /// Returns for each point the slots whose programs decide its releases and its presets: 1 to 32 pairs.
+    /// Returns for each point the slots whose programs decide its releases and its presets.
     pub fn points(&self) -> &[(u32, u32)]
         ensures points { result.now ≡ self.now.points }
         ensures range { IsConfig self.now }
@@ -285,8 +261,7 @@ fn is_same_opening(a: &Option<Arc<Opening>>, b: &Option<Arc<Opening>>) -> bool
     }
 }
 
-// The contracts of `is_same_points` and `is_same_counters` tell the prover that `==` decides whether two lists of pairs
-// are equal.
+// These contracts tell the prover that `==` decides whether two lists of pairs are equal.
 fn is_same_points(a: &[(u32, u32)], b: &[(u32, u32)]) -> bool
     ensures { IsTrue result ↔ (a.now ≡ b.now) }
 {

@@ -1,4 +1,4 @@
-//! The context of a decision: the bytes that a program is run on, made of fields of four or eight bytes.
+//! The bytes that a program is run on, made of fields of four or eight bytes.
 
 ghost use Rattle.std.specs.Prelude.{◌≡◌, length};
 ghost use Rattle.site_core.specs.Context.{kind_number, size_of, field_bytes, laid};
@@ -6,7 +6,6 @@ ghost use Rattle.site_core.specs.Context.{kind_number, size_of, field_bytes, lai
 use crate::question::Kind;
 use byteorder::{ByteOrder, LittleEndian};
 
-/// A field of a context, of four or eight bytes.
 #[derive(Clone, Copy)]
 pub enum Field {
     Four(u32),
@@ -14,7 +13,6 @@ pub enum Field {
 }
 
 impl Field {
-    /// Returns the number of bytes of the field: 4 or 8.
     fn size(self) -> usize
         ensures { result ≡ size_of self }
     {
@@ -24,7 +22,6 @@ impl Field {
         }
     }
 
-    /// Writes the field's bytes, the least significant first, into `bytes`, which must have exactly the field's size.
     fn put(self, bytes: &mut [u8])
         requires { length bytes.old ≡ size_of self }
         ensures { bytes.new ≡ field_bytes self }
@@ -36,8 +33,6 @@ impl Field {
     }
 }
 
-/// Returns the number by which a context names this kind of request: 1 for a release, 2 for a preset, 3 for a price
-/// change.
 pub fn kind_number(kind: Kind) -> u32
     ensures { result ≡ kind_number kind }
 {
@@ -48,7 +43,6 @@ pub fn kind_number(kind: Kind) -> u32
     }
 }
 
-/// Writes the fields, one after another, into `bytes`, which must have exactly the size of all fields together.
 pub fn lay(fields: &[Field], bytes: &mut [u8])
     requires { length bytes.old ≡ length (laid fields.now) }
     ensures { bytes.new ≡ laid fields.now }

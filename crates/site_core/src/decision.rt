@@ -1,5 +1,4 @@
-//! The parts of a decision: the checks before a program is run, what is granted, and the declared counters before and
-//! after the run.
+//! The parts of a decision: the checks before a run, what is granted, and the declared counters before and after.
 
 ghost use Rattle.std.specs.Prelude.{◌≡◌, ◌<◌, ◌≤◌, IfOk, IsOk};
 ghost use Rattle.site_core.specs.Decide.{has_room, asked_at, price_at, granted_amount, command_of, counts, count_of};
@@ -13,17 +12,14 @@ use fuelling_point::{Command, Point, State};
 use std::alloc::{AllocError, Global};
 use till_request::Reply;
 
-/// The greatest amount that a release or a preset is allowed to ask for, in cents.
+/// The greatest amount of a release or a preset, in cents.
 const GREATEST_AMOUNT: u64 = 999_999_999;
 
-/// How many products a site has.
 const PRODUCTS: u32 = 8;
 
 /// The greatest price of a litre, in thousandths of the currency.
 const GREATEST_PRICE: u64 = 9_999_999;
 
-/// For a release, returns whether fewer than two transactions of the point are unpaid. For other kinds of request,
-/// returns true.
 fn has_room(kind: Kind, point: &Point) -> bool
     ensures { result ≡ has_room kind point.now }
 {
@@ -33,9 +29,7 @@ fn has_room(kind: Kind, point: &Point) -> bool
     }
 }
 
-/// Checks the `question` of a release or a preset at its point, and returns it as it is. The error is the reply that
-/// refuses the question before a program is run: S25 if the amount isn't 1 to 999,999,999 cents, else S22 if the
-/// point's state is neither `Idle` nor `Calling`, else S26 for a release at a point with two unpaid transactions.
+/// Returns the question of a release or a preset, or its refusal before a program is run.
 pub fn asked_at(point: &Point, question: Question) -> Result<Question, Reply>
     ensures question { result ≡ asked_at point.now question }
     ensures same { IfOk result (λ q. q ≡ question) }
@@ -53,10 +47,8 @@ pub fn asked_at(point: &Point, question: Question) -> Result<Question, Reply>
     Ok(question)
 }
 
-/// Checks the `question` of a price change, and returns it as it is. `busy` is the state of the first point that has a
-/// delivery authorised or under way, or `None` if no point has one. The error is the reply that refuses the question
-/// before a program is run: S25 if the product isn't 1 to 8 or the price isn't 1 to 9,999,999 thousandths, else S22 if
-/// `busy` isn't `None`.
+/// Returns the question of a price change, or its refusal before a program is run. `busy` is the state of the first
+/// point that has a delivery authorised or under way.
 pub fn price_at(busy: Option<State>, question: Question) -> Result<Question, Reply>
     ensures question { result ≡ price_at busy question }
     ensures fits { IfOk result (λ q. (1 ≤ q.product) × (q.product ≤ PRODUCTS) × (q.asked ≤ GREATEST_PRICE)) }
@@ -71,9 +63,7 @@ pub fn price_at(busy: Option<State>, question: Question) -> Result<Question, Rep
     }
 }
 
-/// Returns what is granted if the program answered `r0`. For a preset it is the amount `asked` in cents, but at most
-/// `r0`. For a release it is the same, but also at most the point's `preset`; a `preset` of 0 means that there is none.
-/// For a price it is the price `asked` in thousandths, whatever `r0` is.
+/// Returns what is granted if the program answered `r0`: cents, or thousandths for a price. A `preset` of 0 is none.
 pub fn granted_amount(kind: Kind, asked: u64, r0: u64, preset: u64) -> u64
     ensures { result ≡ granted_amount kind asked r0 preset }
 {
@@ -85,8 +75,7 @@ pub fn granted_amount(kind: Kind, asked: u64, r0: u64, preset: u64) -> u64
     }
 }
 
-/// Returns the command that carries out a granted release or preset at its point. `granted` is in cents. For a price
-/// the result has no meaning.
+/// Returns the command of a granted release or preset. For a price it has no meaning.
 pub fn command_of(kind: Kind, granted: u64) -> Command
     ensures { result ≡ command_of kind granted }
 {
@@ -96,8 +85,6 @@ pub fn command_of(kind: Kind, granted: u64) -> Command
     }
 }
 
-/// Returns two values of counter `c`: the one before a run and the one after it. Returns `None` if the counter isn't
-/// declared, which is so if bit `c` of the mask isn't set. `c` must be 0 to 31.
 fn count_of(mask: u32, before: &Counters, after: &Counters, c: u32) -> Option<(u64, u64)>
     requires { c < COUNTERS }
     ensures { result ≡ count_of mask before.now after.now c }
@@ -109,8 +96,6 @@ fn count_of(mask: u32, before: &Counters, after: &Counters, c: u32) -> Option<(u
     }
 }
 
-/// Returns for each declared counter two values: the one before a run and the one after it. Bit c of the mask declares
-/// counter c. The error is that memory ran out; if no counter is declared, there is no error.
 pub fn note_counts(
     alloc: Global,
     mask: u32,

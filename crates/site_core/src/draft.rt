@@ -1,5 +1,4 @@
-//! Decisions whose program is run on a draft, while the site can change. A draft is made while the site's lock is held,
-//! run while it isn't, and committed while it is held again.
+//! Drafts: each is made with the site's lock, run without it, and committed with it.
 
 ghost use Rattle.std.specs.Prelude.{◌≡◌, ◌≤◌, IfOk, IsOk, OnErr, None, length};
 ghost use Rattle.std.specs.Arc.{arc_value};
@@ -28,16 +27,14 @@ use std::marker::Model;
 use std::sync::Arc;
 use till_request::{Act, Request};
 
-/// What a run reads: the context, and the view (a copy of the points and prices that helpers look up).
 #[derive(Clone, Copy)]
 struct Input {
     context: Context,
     view: View,
 }
 
-/// All that a program's run for a till's request needs of a site, copied when the decision begins. A draft is made only
-/// if the site would run a program for the request at that time. The largest parts are kept behind pointers, as a draft
-/// is moved often.
+/// All that a program's run for a till's request needs of a site. The largest parts are behind pointers, as a draft is
+/// moved often.
 #[derive(Drop)]
 pub struct Draft {
     till: u32,
@@ -84,10 +81,7 @@ impl Station {
     ghost use Rattle.site_core.specs.Decide.{asked_question};
     ghost use Rattle.site_core.specs.Outside.{drafted};
 
-    /// Makes the draft for a request in this state, or returns `Direct` if no program would be run for it. The
-    /// draft is put into the memory in `draft_memory`, or into new memory if `draft_memory` is `None`. Afterwards
-    /// `draft_memory` is `None`, also after an error; only `Direct` leaves it unchanged. The error is that memory ran
-    /// out, or that the program's `Arc` has too many owners.
+    /// Makes the draft of a request, in the memory of `draft_memory` if there is some. Only `Direct` leaves that there.
     pub(crate) fn draft(
         &self,
         config: &Config,
@@ -133,8 +127,7 @@ impl Station {
 impl Draft {
     ghost use Rattle.site_core.specs.Asked.{Compares};
 
-    /// Runs the draft's program on the context, view and counters that the draft has. Returns the draft with the
-    /// program's answer and the counters after the run. Allocates no memory.
+    /// Allocates no memory.
     pub fn run(self) -> Ready
         ensures { result.draft ≡ self }
     {
@@ -149,10 +142,7 @@ impl Draft {
         }
     }
 
-    /// Compares the site as it is now with the draft, in all that the draft's run depends on: the version, the context,
-    /// the view and the declared counters. If nothing differs, returns the question of the draft's request: what is
-    /// asked, and the slot of the program that is asked. Else the error is the first difference. The station must have
-    /// as many points as the configuration.
+    /// Returns the question of the draft's request, if nothing that the run depends on differs at the site now.
     fn compare(&self, config: &Config, station: &Station, slots: &Slots) -> Result<Question, Why>
         requires { length station.now.points ≡ length config.now.points }
         ensures { Compares config.now station.now slots.now self.now result }
@@ -186,9 +176,8 @@ impl Draft {
     }
 }
 
-/// The memory of a run that has ended, and the run's program, to be used for another draft. With this memory a draft is
-/// made without an allocation. If that draft is of the same program, the count of owners of the program's `Arc` doesn't
-/// change either. If each draft changed this count, the threads would have to wait for one another.
+/// The memory of an ended run, and its program. The next draft then needs no allocation, nor a new owner of the same
+/// program's `Arc`: if each draft changed their count, the threads would have to wait for one another.
 #[derive(Drop)]
 pub struct DraftMemory {
     program: Arc<Program>,
@@ -197,9 +186,6 @@ pub struct DraftMemory {
 }
 
 impl DraftMemory {
-    /// Returns the memory for a draft of this program, with this context, and with the current view and counters. It is
-    /// the memory in `draft_memory`, or new memory if `draft_memory` is `None`. Afterwards `draft_memory` is `None`.
-    /// The error is that memory ran out, or that the program's `Arc` has too many owners.
     fn made(
         draft_memory: &mut Option<DraftMemory>,
         program: &Arc<Program>,
@@ -218,8 +204,6 @@ impl DraftMemory {
         }
     }
 
-    /// Allocates memory for a draft of this program, with this context, and with the current view and counters. The
-    /// error is that memory ran out, or that the program's `Arc` has too many owners.
     fn new(
         program: &Arc<Program>,
         context: Context,
@@ -249,8 +233,6 @@ impl DraftMemory {
         }
     }
 
-    /// Returns this memory, filled for a draft of this program, with this context, and with the current view and
-    /// counters. The error is that the program's `Arc` has too many owners.
     fn filled(
         self,
         program: &Arc<Program>,
@@ -285,7 +267,6 @@ impl DraftMemory {
     }
 }
 
-/// A draft that was run, with the program's answer `r0` and the counters after the run.
 #[derive(Drop)]
 pub struct Ready {
     draft: Draft,
@@ -314,14 +295,12 @@ impl Ready {
     ghost use Rattle.site_core.specs.Outside.{IsRunOf};
     ghost use Rattle.site_core.specs.Steps.{point_asked};
 
-    /// Returns the number of the point that the till's request names, or 0 if it names none.
     pub fn point(&self) -> u32
         ensures { result ≡ point_asked self.now.draft.request }
     {
         point_asked(&self.draft.request)
     }
 
-    /// Returns the memory and the program of the run, for another draft.
     pub fn into_draft_memory(self) -> DraftMemory {
         let Ready { draft, .. } = self;
         let Draft {
@@ -337,14 +316,9 @@ impl Ready {
         }
     }
 
-    /// Carries out the program's answer and returns the decision's entry, with this number and pass, if nothing that
-    /// the run depends on differs now from the draft. Counters that the program doesn't declare keep their current
-    /// values. If the till asked to release fuel and an amount is preset at the point now, at most this amount is
-    /// granted. The station must have as many points as the configuration, and the site's history must have room for
-    /// the entry.
-    ///
-    /// The error is `Stale` with the first difference, or, if nothing differs, `OutOfMemory`. After an error the
-    /// station is unchanged.
+    /// Carries out the program's answer and returns the decision's entry, unless something that the run depends on
+    /// differs. Counters that the program doesn't declare keep their values, and a preset bounds a release as it is
+    /// now. After an error the station is unchanged.
     pub(crate) fn apply_answer(
         &self,
         config: &Config,
@@ -401,16 +375,14 @@ impl Ready {
     }
 }
 
-/// How a decision begins: `Run` with a draft to run without the site's lock, or `Direct` where no draft is made,
-/// because no program would be run or the history is full.
+/// `Direct`: no draft is made, because no program would be run or the history is full.
 #[derive(Drop)]
 pub enum Begin {
     Direct,
     Run(Draft),
 }
 
-/// The result of a commit. `Done`: the decision was entered. `Stale`: the site now differs from the draft in something
-/// that the run depends on, and nothing was entered.
+/// `Stale`: something that the run depends on differs now, and nothing was entered.
 #[derive(Clone, Copy)]
 pub enum Commit {
     Done(Answered),

@@ -4,37 +4,33 @@ use decision_journal::Entry;
 use fuelling_point::Point;
 use std::alloc::AllocError;
 
-/// What an entry changed at its site.
 #[derive(Clone, Copy)]
 pub struct Change {
-    /// The number of the point that the entry's act names, or 0 if it names none.
+    /// The point that the act names, or 0.
     pub point: u32,
-    /// This point before the entry. `None` if there is no such point.
     pub before: Option<Point>,
-    /// The same point after the entry.
     pub after: Option<Point>,
-    /// The prices of products 1 to 8 before the entry, in thousandths of the currency per litre. 0 means no price.
+    /// The prices before the entry, in thousandths of the currency per litre, 0 for none.
     pub prices: [u32; 8],
 }
 
-/// Is shown what each entry of a history did, while the history is replayed.
+/// Is shown what each entry did while a history is replayed.
 pub trait Observer {
     ghost use Rattle.std.specs.Prelude.{List, [], ◌∷◌, ◌++◌, OnOk};
     ghost use Rattle.decision_journal.specs.Journal.{IsEntry};
     ghost use Rattle.site_core.specs.Steps.{StepValue};
 
-    /// For proofs: the observer has seen these steps, in order, and no others.
+    /// It has seen these steps, in order, and no others.
     ghost has_seen: { Self → List StepValue → Type 0 };
 
-    /// For proofs: the observer has memory for one more step.
+    /// It has memory for one more step.
     ghost is_ready: { Self → Type 0 };
 
-    /// Makes room for what the next step may show. The error is that memory ran out.
     fn make_ready(&mut self) -> Result<(), AllocError>
         ensures kept { (steps : List StepValue) → has_seen self.old steps → has_seen self.new steps }
         ensures ready { OnOk result (is_ready self.new) };
 
-    /// Sees a step: an entry, the text of its line without LF, and what the entry changed. Takes no memory.
+    /// Sees an entry, the text of its line without LF, and what the entry changed. Takes no memory.
     fn see(&mut self, line: &[u8], entry: &Entry, change: &Change)
         requires text { IsEntry line.now entry.now }
         requires ready { is_ready self.old }

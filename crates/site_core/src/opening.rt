@@ -12,18 +12,16 @@ use program_slots::Version;
 use std::fmt;
 use std::marker::Model;
 
-/// The greatest number that a point's newest transaction is allowed to have in an opening. A day has 1,048,576 entries
-/// at most, so the numbers of its transactions stay below 2^32.
+/// The greatest number of a point's newest transaction. A day has 1,048,576 entries at most, so the numbers of its
+/// transactions stay below 2^32.
 const MOST_TRANSACTIONS: u32 = 4_290_000_000;
 
-/// The greatest total of cleared amounts in an opening, in cents, and the greatest number of cleared transactions.
+/// The greatest total of cleared amounts, in cents, and of cleared transactions.
 const MOST_CLEARED: u64 = 1_000_000_000_000_000_000;
 
-/// The greatest count of versions that an opening is allowed to have.
 const MOST_VERSIONS: u32 = 4_290_000_000;
 
-/// Why a site can't begin with an opening: the first fault that the opening has, in the order of these cases, or that
-/// memory ran out. The text that `fmt` writes for a case explains it.
+/// Why a site can't begin with an opening: its first fault in the order of these cases, or that memory ran out.
 #[derive(Clone, Copy)]
 pub enum OpeningFault {
     Points,
@@ -71,18 +69,15 @@ impl fmt::Display for OpeningFault {
 /// What a site keeps from one day to the next.
 #[derive(Drop)]
 pub struct Opening {
-    /// The points in the order of their numbers, point 1 first.
     pub points: Vec<Point>,
     /// The prices of products 1 to 8 in thousandths of the currency per litre, 0 for none.
     pub prices: [u32; 8],
     pub counters: Counters,
-    /// The total of all amounts that were ever cleared, in cents.
+    /// The total of all amounts ever cleared, in cents.
     pub cleared: u64,
-    /// How many transactions were ever cleared.
     pub clears: u64,
-    /// How many versions were ever loaded.
     pub versions: u32,
-    /// For each of slots 0 to 15 the version in force, if there is one.
+    /// For each of slots 0 to 15 the version in force.
     pub rules: Vec<Option<Version>>,
 }
 
@@ -103,9 +98,7 @@ impl Model for Opening {
 }
 
 impl Opening {
-    /// Returns why a site with `count` points can't begin with the opening, or `None` if it can. An opening can have
-    /// more than one fault; the first one is returned, in the order of `OpeningFault`. The result is never
-    /// `OutOfMemory`.
+    /// Returns the first fault with which a site of `count` points can't begin, and never `OutOfMemory`.
     pub(crate) fn fault(&self, count: usize) -> Option<OpeningFault>
         ensures first { MatchOption result (IsOpening count self.now) (λ fault. Misfits count self.now fault) }
         ensures memory { IfSome result (λ fault. fault ≢ OpeningFault.OutOfMemory) }
@@ -134,19 +127,18 @@ impl Opening {
         if !have_own_numbers(&self.rules) {
             return Some(OpeningFault::DuplicateVersion);
         }
-        // This read tells the prover that there are 32 counters, each within its bound.
+        // So the prover knows that there are 32 counters, each within its bound.
         let _counter = self.counters.get(0);
         None
     }
 
-    // Returns the prices. A call of this function tells the prover that there are eight of them.
+    // So the prover knows that there are eight prices.
     pub(crate) fn prices(&self) -> [u32; 8]
         ensures { result ≡ self.now.prices }
     {
         self.prices
     }
 
-    /// Returns whether the two openings are the same in every part.
     pub(crate) fn is_same(&self, other: &Opening) -> bool
         ensures { IsTrue result ↔ (self.now ≡ other.now) }
     {
@@ -162,8 +154,6 @@ impl Opening {
         are_same_rules(&self.rules, &other.rules)
     }
 
-    /// Returns the prices, the total of all cleared amounts, how many transactions were cleared, and how many versions
-    /// were loaded.
     fn numbers(&self) -> ([u32; 8], u64, u64, u32)
         ensures { result ≡ (self.now.prices, self.now.cleared, self.now.clears, self.now.versions) }
     {
@@ -171,9 +161,7 @@ impl Opening {
     }
 }
 
-/// Checks whether these numbers are small enough for an opening, in this order: the number of each point's newest
-/// transaction, the total of cleared amounts in cents, the count of cleared transactions, and the count of versions.
-/// Returns the fault of the first number that is too great, or `None` if none is. Allocates no memory.
+/// Returns the fault of the first number that is too great for an opening.
 pub(crate) fn first_limit_fault(
     points: &[Point],
     cleared: u64,
@@ -197,16 +185,12 @@ pub(crate) fn first_limit_fault(
     None
 }
 
-/// Returns whether the number of each point's newest transaction is small enough for an opening: at most
-/// `MOST_TRANSACTIONS`.
 fn are_last_numbers_within_limit(points: &[Point]) -> bool
     ensures { IsTrue result ↔ AreLastNumbersWithinLimit points.now }
 {
     points.iter().all(|point| point.last() <= MOST_TRANSACTIONS)
 }
 
-/// Returns whether each version in the slots is one of the first `versions` versions: its number is from 1 to
-/// `versions`.
 fn are_rules(versions: u32, rules: &[Option<Version>]) -> bool
     ensures { IsTrue result ↔ All (IsRule versions) rules.now }
 {
@@ -219,14 +203,13 @@ fn is_rule(versions: u32, rule: &Option<Version>) -> bool
     match rule {
         None => true,
         Some(version) => {
-            // This call tells the prover that the program is good (`IsGood`), and that the verifier accepts it.
+            // So the prover knows that the program is good, and that the verifier accepts it.
             let _bytes = version.program.bytes();
             version.number >= 1 && version.number <= versions
         }
     }
 }
 
-/// Returns whether no two slots have versions with the same number.
 fn have_own_numbers(rules: &[Option<Version>]) -> bool
     ensures { IsTrue result ↔ HaveOwnNumbers rules.now }
 {
@@ -239,7 +222,6 @@ fn have_own_numbers(rules: &[Option<Version>]) -> bool
     }
 }
 
-/// Returns whether no slot has a version of this number.
 pub fn is_new_number(rules: &[Option<Version>], number: u32) -> bool
     ensures { IsTrue result ↔ IsNewNumber rules.now number }
 {

@@ -1,5 +1,4 @@
-//! The effects of an event: a load installs a program as a new version; a dispenser's event and a till's request change
-//! the station.
+//! The effects of an event on the station and the slots.
 
 ghost use Rattle.std.specs.Prelude.{◌≡◌, ℕ, ◌+◌, ◌<◌, IfOk, IsOk, OnErr, length, List, None, Ok, Some};
 ghost use Rattle.std.specs.Arc.{arc_value};
@@ -29,9 +28,7 @@ use std::alloc::{AllocError, Global};
 use std::sync::Arc;
 use till_request::{Act, Bytes, Reply, Request};
 
-/// Carries out an event, and returns its entry, which has the given number. The station must have as many points as the
-/// configuration, and the site's history must have room for the entry. The error is that memory ran out; then the
-/// station and the slots are unchanged.
+/// Carries out an event, and returns its entry. After an error the station and the slots are unchanged.
 pub fn perform(
     alloc: Global,
     config: &Config,
@@ -84,7 +81,7 @@ pub fn perform(
     }
 }
 
-/// Makes the entry of an act for which no program is run. The entry's moment is 0.
+/// Makes the entry of an act without a run, of moment 0.
 pub fn entry_without_run(number: u32, pass: u32, act: Act, reply: Reply) -> Entry
     ensures { result ≡ record {
       number = number;
@@ -105,9 +102,6 @@ pub fn entry_without_run(number: u32, pass: u32, act: Act, reply: Reply) -> Entr
     }
 }
 
-/// Installs a program in a slot as a new version. Returns the reply to the load: S32 for a slot over 15, else S30 if
-/// 4,096 versions were installed already, else the version's number. The error is that memory ran out. After a refusal
-/// or an error the slots are unchanged.
 fn load(slots: &mut Slots, slot: u32, program: Arc<Program>) -> Result<Reply, AllocError>
     ensures reply { IfOk result (λ reply. (config : ConfigValue) (past : List Entry) → Agrees config slots.old past
         → Loads config slot (arc_value program) past reply slots.new) }
@@ -122,9 +116,6 @@ fn load(slots: &mut Slots, slot: u32, program: Arc<Program>) -> Result<Reply, Al
     }
 }
 
-/// Carries out a till's request. Returns the reply, and also the run if a program is run. The station must have as many
-/// points as the configuration. The site's history must have room for the request's entry, which is added later. The
-/// error is that memory ran out; then the station is unchanged.
 fn ask(
     config: &Config,
     station: &mut Station,
@@ -156,8 +147,7 @@ fn ask(
     }
 }
 
-/// Returns the question that a request asks a program (see `Question`); `None` if the request is refused before a
-/// program is looked for, or if it is of a kind that no program decides.
+/// Returns the question that a request asks a program; `None` if it is refused before, or asks none.
 pub fn asked_question(
     config: &Config,
     station: &Station,
@@ -176,9 +166,7 @@ pub fn asked_question(
     }
 }
 
-/// Returns the question that a request asks a program (see `Question`), without checking whether the current state
-/// refuses the question. Returns `None` if there is no such till or point, or if the request is of a kind that no
-/// program decides.
+/// Returns the question that a request asks a program, even if the current state refuses it.
 pub fn routed(config: &Config, station: &Station, till: u32, request: &Request) -> Option<Question>
     ensures { result ≡ routed config.now station.now till request.now }
 {
@@ -191,9 +179,6 @@ pub fn routed(config: &Config, station: &Station, till: u32, request: &Request) 
     }
 }
 
-/// Decides the `question` of a till's request: checks it, runs the program in the question's slot, and carries out what
-/// the program answers. `till` must be at least 1, and the site's history must have room for the entry. Returns the
-/// reply, and the run if there is one. The error is that memory ran out; then the station is unchanged.
 fn decide(
     station: &mut Station,
     slots: &Slots,

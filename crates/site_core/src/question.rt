@@ -1,5 +1,4 @@
-//! What a till's request leads to: a question to a program, a command to a fuelling point, or a reply that shows a
-//! fuelling point.
+//! What a till's request leads to.
 
 ghost use Rattle.std.specs.Prelude.{◌≡◌};
 ghost use Rattle.site_core.specs.Decide.{request_action};
@@ -8,7 +7,6 @@ use crate::config::Config;
 use fuelling_point::Command;
 use till_request::Request;
 
-/// The kind of request that a program decides: a release of fuel, a preset amount, or a new price.
 #[derive(Clone, Copy)]
 pub enum Kind {
     Release,
@@ -16,9 +14,8 @@ pub enum Kind {
     Price,
 }
 
-/// The question that a request asks a program, and the slot of that program. `asked` is an amount in cents, or a price
-/// in thousandths of the currency per litre. Points and products are counted from 1. A price change has point 0;
-/// releases and presets have product 0.
+/// What a request asks the program in this slot. `asked` is in cents, or a price in thousandths per litre. A price
+/// change has point 0; releases and presets have product 0.
 #[derive(Clone, Copy)]
 pub struct Question {
     pub kind: Kind,
@@ -28,8 +25,7 @@ pub struct Question {
     pub slot: u32,
 }
 
-/// What a till's request leads to: a question to a program, a command to a fuelling point, or a reply that shows a
-/// fuelling point. The number in `Command` and in `Show` is the number of the point.
+/// What a till's request leads to. `Command` and `Show` begin with the number of a point.
 #[derive(Clone, Copy)]
 pub enum RequestAction {
     Decision(Question),
@@ -37,8 +33,7 @@ pub enum RequestAction {
     Show(u32),
 }
 
-/// Returns what a till's request leads to at a site of this configuration. Doesn't check whether the request's point or
-/// product exists.
+/// Doesn't check whether the request's point or product exists.
 pub fn request_action(config: &Config, request: &Request) -> RequestAction
     ensures { result ≡ request_action config.now request.now }
 {

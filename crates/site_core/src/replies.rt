@@ -37,29 +37,27 @@ const NO_ORDER: Reply = Reply::Refused(33, None);
 /// S34: the dispenser's event, or a number in it, doesn't fit the point as it is now.
 const UNEXPECTED: Reply = Reply::Refused(34, None);
 
-/// Returns S22 with the number of this state, 1 to 9: the request isn't possible now, because of a point in this state.
+/// S22: the request isn't possible, because of a point in this state.
 pub fn wrong_state(state: State) -> Reply
     ensures { result ≡ wrong_state state }
 {
     Reply::Refused(22, Some(state.number()))
 }
 
-/// Returns S23 with the number of the slot: no program is installed in this slot.
+/// S23: no program is installed in this slot.
 pub fn no_program(slot: u32) -> Reply
     ensures { result ≡ no_program slot }
 {
     Reply::Refused(23, Some(slot))
 }
 
-/// Returns S24 with the number of the version: the program of this version denied the request.
+/// S24: the program of this version denied the request.
 pub fn denied(version: u32) -> Reply
     ensures { result ≡ denied version }
 {
     Reply::Refused(24, Some(version))
 }
 
-/// Returns the reply to a dispenser, from what the point returned for the dispenser's event: the `Order`, `Done` if the
-/// point returned no order, or the refusal.
 pub fn event_reply(outcome: Result<Option<Order>, PointFault>) -> Reply
     ensures { result ≡ event_reply outcome }
 {
@@ -70,8 +68,6 @@ pub fn event_reply(outcome: Result<Option<Order>, PointFault>) -> Reply
     }
 }
 
-/// Returns the refusal S22, S26, S27, S28, S33 or S34 for `fault`, which is the reason why a point refused a till's
-/// command or a dispenser's event.
 pub fn fault_reply(fault: PointFault) -> Reply
     ensures { result ≡ fault_reply fault }
 {

@@ -35,8 +35,6 @@ fn is_same_point(a: &Point, b: &Point) -> bool
     are_same_unpaid(a.unpaid, b.unpaid)
 }
 
-/// Returns a point's nozzle, preset, limit, amount and volume, the number of its newest transaction, and whether the
-/// dispenser has taken the order `Authorise` of the current delivery.
 fn numbers_of(point: &Snapshot) -> (u32, u64, u64, u64, u64, u32, bool)
     ensures { result ≡ (
       point.now.nozzle,
@@ -59,8 +57,7 @@ fn numbers_of(point: &Snapshot) -> (u32, u64, u64, u64, u64, u32, bool)
     )
 }
 
-// The contracts of `is_same_state` and `is_same_order` tell the prover that `==` decides whether two states or two
-// orders are equal.
+// These contracts tell the prover that `==` decides whether two states or two orders are equal.
 fn is_same_state(a: State, b: State) -> bool
     ensures { IsTrue result ↔ (a ≡ b) }
 {
@@ -97,7 +94,7 @@ fn is_same_place(a: Option<Transaction>, b: Option<Transaction>) -> bool
 pub fn are_same_counters(a: &Counters, b: &Counters) -> bool
     ensures { IsTrue result ↔ (a.now ≡ b.now) }
 {
-    // These reads tell the prover that `a` and `b` have 32 counters each.
+    // So the prover knows that there are 32 counters each.
     let _counters = (a.get(0), b.get(0));
     for c in 0..32 {
         if a.get(c) != b.get(c) || a.bound(c) != b.bound(c) {

@@ -1,5 +1,4 @@
-//! What programs can see of a fuelling point: the number of its state, its lifted nozzle, and the amount of its
-//! delivery.
+//! What programs can see of a fuelling point.
 
 ghost use Rattle.std.specs.Prelude.{◌≡◌, ◌≤◌, length};
 ghost use Rattle.site_core.specs.State.{seen, seen_points};
@@ -8,8 +7,6 @@ ghost use Rattle.bpf_model.specs.declared.limits.TheConstants.{POINTS};
 use fuelling_point::Point;
 use helpers::PointView;
 
-/// Returns what programs can see of a fuelling point: the number of its state, its lifted nozzle (0 for none), and the
-/// amount of its delivery in cents.
 pub fn seen(point: &Point) -> PointView
     ensures { result ≡ seen point.now }
 {
@@ -20,7 +17,7 @@ pub fn seen(point: &Point) -> PointView
     }
 }
 
-/// Sets `place` to `now`. Writes nothing if both are the same, so that other cores keep their cached copies of `place`.
+/// Writes nothing if both are the same, so that other cores keep their cached copies.
 pub fn set_if_changed(place: &mut PointView, now: PointView)
     ensures { place.new ≡ now }
 {
@@ -29,8 +26,6 @@ pub fn set_if_changed(place: &mut PointView, now: PointView)
     }
 }
 
-/// Returns what programs can see of these points, of which there must be at most 32. The places after the last point
-/// have zeros.
 pub fn seen_points(points: &[Point]) -> [PointView; 32]
     requires { length points.now ≤ POINTS }
     ensures { result ≡ seen_points points.now }

@@ -38,13 +38,12 @@ use std::alloc::{AllocError, Global};
 use std::marker::Model;
 use till_request::Reply;
 
-/// The state of a site: its points, prices and counters, the total of all cleared amounts in cents, and the number of
-/// cleared transactions.
+/// The state of a site. `cleared` is the total of all cleared amounts in cents, `clears` the number of these clears.
 #[derive(Drop)]
 pub struct Station {
     alloc: Global,
     points: Vec<Point>,
-    /// What helpers can look up: the points, updated whenever a point changes, and the prices.
+    /// The points, updated whenever one changes, and the prices.
     view: View,
     counters: Counters,
     cleared: u64,
@@ -71,7 +70,6 @@ impl Model for Station {
 }
 
 impl Station {
-    /// Makes the state of a new site of this configuration. The error is that memory ran out.
     pub fn start(alloc: Global, config: &Config) -> Result<Station, AllocError>
         ensures { IfOk result (λ s. s ≡ opening_state config.now) }
     {
@@ -81,7 +79,6 @@ impl Station {
         }
     }
 
-    /// Makes the state of a new site that begins without an opening. The error is that memory ran out.
     fn fresh(alloc: Global, config: &Config) -> Result<Station, AllocError>
         ensures { IfOk result (λ s. s ≡ fresh_state config.now) }
     {
@@ -104,8 +101,6 @@ impl Station {
         })
     }
 
-    /// Makes the state of a new site that begins with this opening, which must have at most 32 points. The error is
-    /// that memory ran out.
     fn opened(alloc: Global, opening: &Opening) -> Result<Station, AllocError>
         requires { length opening.now.points ≤ POINTS }
         ensures { IfOk result (λ s. s ≡ opened_state opening.now) }
@@ -126,12 +121,10 @@ impl Station {
         })
     }
 
-    /// Returns the station's allocator.
     pub(crate) fn alloc(&self) -> Global {
         self.alloc
     }
 
-    /// Returns whether the site has a point of this number.
     fn has_point(&self, n: u32) -> bool
         ensures there { OnTrue result ((1 ≤ n) × (n ≤ length self.now.points)) }
         ensures none { OnFalse result (at_number self.now.points n ≡ None) }
@@ -139,11 +132,8 @@ impl Station {
         n >= 1 && n as usize <= self.points.len()
     }
 
-    /// Carries out a till's command at fuelling point `n`, counted from 1. Returns `Done`, or the refusal: S20 if there
-    /// is no such point, else the point's own refusal. A `Clear` adds the amount of the cleared transaction to the
-    /// total of all cleared amounts, and 1 to the number of cleared transactions. A refused command changes nothing.
-    /// `till` must be at least 1; whether the site has such a till isn't checked. The site's history must have room for
-    /// the command's entry.
+    /// Carries out a till's command at point `n`, counted from 1. A refused command changes nothing. Whether the site
+    /// has such a till isn't checked.
     pub fn command(&mut self, till: u32, n: u32, command: Command) -> Reply
         requires bounded { HasRoom self.old }
         requires till { 0 < till }
@@ -168,9 +158,7 @@ impl Station {
         }
     }
 
-    /// Carries out a dispenser's event at point `n`, counted from 1. Returns the pending order for `TakeOrder`, `Done`
-    /// for any other event, or the refusal: S20 if there is no such point, else the point's own refusal. A refused
-    /// event changes nothing. The site's history must have room for the event's entry.
+    /// Carries out a dispenser's event at point `n`, counted from 1. A refused event changes nothing.
     pub fn report(&mut self, n: u32, event: DispenserEvent) -> Reply
         requires { HasRoom self.old }
         ensures effect { dispenser_effect self.old n event ≡ replied result self.new }
@@ -186,8 +174,6 @@ impl Station {
         event_reply(outcome)
     }
 
-    /// Returns the reply to a till's request to show point `n`, counted from 1: the point as it is, or S20 if there is
-    /// no such point.
     pub fn show(&self, n: u32) -> Reply
         ensures { result ≡ show_reply self.now n }
     {
@@ -206,7 +192,6 @@ impl Station {
         }
     }
 
-    /// Returns the point of this number, counted from 1, or `None` if there is no such point.
     pub fn point(&self, n: u32) -> Option<&Point>
         ensures { option_copied result ≡ at_number self.now.points n }
     {
@@ -216,12 +201,7 @@ impl Station {
         self.points.get(n as usize - 1)
     }
 
-    /// Returns `question` as it is, if the current state doesn't refuse it. Otherwise the error is the refusal:
-    /// - For a price change: S25 if the product isn't 1 to 8 or the price isn't 1 to 9,999,999 thousandths, else S22 if
-    ///   any point has a delivery authorised or under way.
-    /// - For a release or a preset: S20 if there is no such point, else S25 if the amount isn't 1 to 999,999,999 cents,
-    ///   else S22 if the point is neither `Idle` nor `Calling`, else S26 for a release at a point with two unpaid
-    ///   transactions.
+    /// Returns the question, or its refusal in the current state.
     pub fn admitted(&self, question: Question) -> Result<Question, Reply>
         ensures question { result ≡ admitted self.now question }
         ensures asked { IfOk result (λ q. HasPointOrValidPrice self.now q) }
@@ -232,9 +212,6 @@ impl Station {
         }
     }
 
-    /// Checks the `question` of a release or a preset in the current state, and returns it as it is. The error is the
-    /// refusal: S20 if there is no such point, else S25 for an amount out of range, else S22 if the point is neither
-    /// `Idle` nor `Calling`, else S26 for a release at a point with two unpaid transactions.
     fn asked_at_point(&self, question: Question) -> Result<Question, Reply>
         ensures question { result ≡ asked_at_point self.now question }
         ensures asked { IfOk result (λ q. HasPointOrValidPrice self.now q) }
@@ -245,8 +222,7 @@ impl Station {
         }
     }
 
-    /// Returns `question` as it is, without checking whether the current state refuses it. Returns `None` for a release
-    /// or a preset at a point that the site doesn't have.
+    /// Returns the question, even if the current state refuses it; `None` for a point that the site doesn't have.
     #[tactic(auto, unfolding(crate::specs::Draft::at_point))]
     pub fn routed(&self, question: Question) -> Option<Question>
         ensures { result ≡ routed_to self.now (RequestAction.Decision question) }
@@ -260,7 +236,7 @@ impl Station {
         }
     }
 
-    /// Returns the state of the first point that has a delivery authorised or under way, or `None` if no point has one.
+    /// Returns the state of the first point that has a delivery authorised or under way.
     #[tactic(auto, unfolding(crate::specs::State::first_busy))]
     fn first_busy(&self) -> Option<State>
         ensures { result ≡ first_busy self.now }
@@ -310,7 +286,6 @@ impl Station {
         }
     }
 
-    /// Returns what a program's helpers can look up: the points and the prices.
     pub fn view(&self) -> &View
         ensures view { result.now ≡ view_of self.now }
         ensures within_point_limit { length self.now.points ≤ POINTS }
@@ -318,7 +293,6 @@ impl Station {
         &self.view
     }
 
-    /// Returns the value and the bound of counter `c`, or `None` if `c` is over 31.
     pub fn counter(&self, c: u32) -> Option<(u64, u64)>
         ensures { result ≡ counter_of self.now c }
     {
@@ -329,7 +303,6 @@ impl Station {
         }
     }
 
-    /// Returns the points in the order of their numbers, point 1 first.
     pub fn points(&self) -> &[Point]
         ensures { result.now ≡ self.now.points }
     {
@@ -349,8 +322,7 @@ impl Station {
         &self.counters
     }
 
-    /// Makes the context (the bytes that a program is run on) for a question, in this layout: 64 bytes in layout one,
-    /// 80 bytes in layout two.
+    /// Makes the context that a program is run on for a question.
     #[inline(always)]
     pub fn context(&self, layout: Layout, till: u32, moment: u64, question: &Question) -> Context
         ensures context { result ≡ context layout self.now till moment question.now }
@@ -372,8 +344,7 @@ impl Station {
         }
     }
 
-    /// Returns the fields of a context in their order: first the 13 that both layouts have, then the three that only
-    /// the second layout has.
+    /// Returns the fields of a context in their order. Both layouts have the first 13.
     fn fields(&self, till: u32, moment: u64, question: &Question) -> [Field; 16]
         ensures fields { result ≡ fields Layout.Two self.now till moment question.now }
         ensures fits { FitsContext self.now question.now }
@@ -400,8 +371,7 @@ impl Station {
         ]
     }
 
-    /// Returns the product of a question: for a price change the product whose price is to change, else the product of
-    /// the point's lifted nozzle, or 0 if none is lifted or there is no such point.
+    /// Returns the product whose price is to change, else that of the point's lifted nozzle, or 0.
     fn product_of(&self, question: &Question) -> u32
         ensures { result ≡ product_of self.now question.now }
     {
@@ -411,10 +381,8 @@ impl Station {
         }
     }
 
-    /// Runs a program on the context `given`, which must have the program's layout, and on the current view and
-    /// counters. Only the counters that the program declares can change. Returns the program's answer, and the values
-    /// of each declared counter before and after the run. The error is that memory for these values ran out; then the
-    /// station is unchanged. For a program that declares no counter there is no error.
+    /// Runs a program, and returns its answer with the counts of the counters that it declares. After an error the
+    /// station is unchanged.
     pub fn run(&mut self, program: &Program, given: &Context) -> Result<(u64, Counts), AllocError>
         requires { layout_of given.now ≡ program.now.layout }
         ensures run_result { IfOk result (λ r. outcome program.now (bytes_of given.now) (view_of self.old)
@@ -427,7 +395,7 @@ impl Station {
     {
         let mask = program.declared();
         if mask == 0 {
-            // No counter is declared, so nothing can fail after the run, and the run needs no copy of the counters.
+            // Nothing can fail after such a run, so it needs no copy of the counters.
             let counts = note_counts(self.alloc, mask, &self.counters, &self.counters)?;
             let r0 = run(program, given, &self.view, &mut self.counters);
             return Ok((r0, counts));
@@ -443,11 +411,8 @@ impl Station {
         }
     }
 
-    /// Takes over the counters from a run that was made on a draft: sets each counter that the program declares to its
-    /// value in `after`. Returns for each declared counter its value before this change and its value after it.
-    /// `before` and `after` are the counters before and after that run. `given` is the context that the run was made
-    /// on, which must have the program's layout. The run must have been made on the current values of the declared
-    /// counters and on the current view. The error is that memory ran out; then the station is unchanged.
+    /// Takes over the declared counters from a run on a draft, which had `before` and `after`, the current view and the
+    /// current values of these counters. After an error the station is unchanged.
     pub fn adopt(
         &mut self,
         program: &Program,
@@ -476,11 +441,7 @@ impl Station {
         Ok(counts)
     }
 
-    /// Carries out the answer `r0` of a program to a question, and returns the reply. The answer 0 is a denial: the
-    /// reply is S24, and nothing changes. For any other answer `grant` is called, and the reply is `Granted` with what
-    /// was granted. `version` is the number of the program's version, which both replies name. The question's point
-    /// must exist, or its product must be 1 to 8 and its price at most 9,999,999 thousandths. `till` must be at least
-    /// 1. The site's history must have room for the request's entry.
+    /// Carries out a program's answer `r0`, where 0 is a denial, and returns the reply.
     pub fn apply_answer(&mut self, till: u32, question: &Question, version: u32, r0: u64) -> Reply
         requires bounded { HasRoom self.old }
         requires till { 0 < till }
@@ -495,16 +456,8 @@ impl Station {
         Reply::Granted(self.grant(till, question, r0), version)
     }
 
-    /// Grants all that a question asks, or a part of it. `r0` is the program's answer. Returns what was granted: cents,
-    /// or thousandths for a price.
-    /// - If the question's point exists, gives it the command to release or to preset the granted amount. This is the
-    ///   amount that is asked, but at most `r0`, and for a release also at most the point's preset, if the point has
-    ///   one.
-    /// - If it doesn't exist, as in a question about a price, sets the price of the question's product to the price
-    ///   that is asked.
-    ///
-    /// The question's point must exist, or its product must be 1 to 8 and its price at most 9,999,999 thousandths.
-    /// `till` must be at least 1. The site's history must have room for the request's entry.
+    /// Gives the question's point the command for the granted amount, or sets the price if there is no such point.
+    /// Returns what was granted: cents, or thousandths for a price.
     fn grant(&mut self, till: u32, question: &Question, r0: u64) -> u64
         requires bounded { HasRoom self.old }
         requires till { 0 < till }
@@ -525,8 +478,8 @@ impl Station {
         granted
     }
 
-    /// Returns three numbers of point `n`, counted from 1: the number of its state, its lifted nozzle (0 for none), and
-    /// how many of its transactions are unpaid. All three are 0 if there is no such point.
+    /// Returns the number of a point's state, its lifted nozzle and how many transactions are unpaid; all 0 for no
+    /// point.
     fn point_fields(&self, n: u32) -> (u32, u32, u32)
         ensures state { result.0 ≡ field_or_zero (at_number self.now.points n) (λ p. state_number p.state) }
         ensures nozzle { result.1 ≡ field_or_zero (at_number self.now.points n) (λ p. p.nozzle) }
