@@ -11,7 +11,7 @@ use Rattle.fuelling_point.specs.declared.kinds.Transaction.{Transaction}
 use Rattle.day_report.specs.declared.adding.Unpaid.{Unpaid}
 use Rattle.std.proofs.lemmas.List.Sums.{fold_push}
 use Rattle.day_report.specs.Totals.{unpaid_transaction, unpaid_from, unpaid_of}
-use Rattle.program_slots.specs.Value.{Version}
+use Rattle.site_core.specs.SlotsValue.{Version}
 use Rattle.day_report.specs.Carried.{carried_at, carried_from}
 use Rattle.fuelling_point.specs.Table.{PointState, fresh_point}
 use Rattle.decision_journal.specs.declared.entries.Entry.{Entry}

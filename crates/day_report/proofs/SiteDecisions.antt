@@ -26,8 +26,8 @@ use Rattle.bpf_model.specs.Machine.{Counters}
 use Rattle.bpf_model.specs.Program.{ProgramText, outcome}
 use Rattle.bpf_model.specs.Layouts.{bytes_of}
 use Rattle.bpf_model.specs.declared.context.Layout.{Layout}
-use Rattle.program_slots.specs.Value.{Version}
-use Rattle.program_slots.specs.Slots.{IsRule}
+use Rattle.site_core.specs.SlotsValue.{Version}
+use Rattle.site_core.specs.Slots.{IsRule}
 use Rattle.site_core.specs.Opening.{OpeningValue, IsOpening, rule_numbers}
 use Rattle.site_core.specs.declared.question.Question.{Question}
 use Rattle.site_core.specs.declared.question.RequestAction.{RequestAction}

@@ -1,7 +1,7 @@
 -- Definitions: which rules a site carries in from the day before.
 use Rattle.std.specs.Prelude.{◌≡◌, ℕ, ◌+◌, List, [], ◌∷◌, length, Option, Some, None}
 use Rattle.std.specs.List.{cons_option}
-use Rattle.program_slots.specs.Value.{Version}
+use Rattle.site_core.specs.SlotsValue.{Version}
 use Rattle.site_core.specs.Opening.{OpeningValue, IsOpening}
 use Rattle.site_core.specs.Limits.{ConfigValue}
 use Rattle.day_report.specs.declared.opening.CarriedRule.{CarriedRule}

@@ -7,7 +7,7 @@ ghost use Rattle.day_report.specs.Carried.{carried_at, carried_from, carried_rul
 
 use crate::pushing::push_some;
 use fuelling_point::Point;
-use program_slots::Version;
+use site_core::Version;
 use site_core::{Config, Opening};
 use std::alloc::{AllocError, Global};
 

@@ -12,8 +12,8 @@ use Rattle.bpf_model.specs.Program.{as_loaded}
 use Rattle.fuelling_point.specs.declared.kinds.Transaction.{Transaction}
 use Rattle.fuelling_point.specs.Snapshot.{IsPointState, IsUnpaid}
 use Rattle.fuelling_point.specs.Table.{PointState, fresh_point}
-use Rattle.program_slots.specs.Slots.{IsRule}
-use Rattle.program_slots.specs.Value.{Version}
+use Rattle.site_core.specs.Slots.{IsRule}
+use Rattle.site_core.specs.SlotsValue.{Version}
 use Rattle.site_core.specs.Opening.{IsNewNumber, HaveOwnNumbers}
 use Rattle.site_core.proofs.Numbers.{flipped, own_head, own_none, own_set, own_tail}
 use Rattle.till_request.specs.declared.act.LineFault.{LineFault}

@@ -5,7 +5,7 @@ use Rattle.fuelling_point.specs.declared.kinds.Order.{Order}
 use Rattle.fuelling_point.specs.declared.kinds.Order.TheVariants as orders
 use Rattle.fuelling_point.specs.declared.kinds.Transaction.{Transaction}
 use Rattle.fuelling_point.specs.Table.{PointState}
-use Rattle.program_slots.specs.Value.{Version}
+use Rattle.site_core.specs.SlotsValue.{Version}
 use Rattle.days.specs.declared.file.OpeningFile.{OpeningFile}
 
 -- If the pending order has an amount, this amount is below 2^64.

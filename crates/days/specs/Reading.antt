@@ -8,8 +8,8 @@ use Rattle.bpf_model.specs.Program.{ProgramText, as_loaded, IsGood}
 use Rattle.fuelling_point.specs.declared.kinds.Transaction.{Transaction}
 use Rattle.fuelling_point.specs.Snapshot.{IsPointState, IsSnapshot, snapshot_state}
 use Rattle.fuelling_point.specs.Table.{PointState, fresh_point}
-use Rattle.program_slots.specs.Slots.{IsRule}
-use Rattle.program_slots.specs.Value.{Version}
+use Rattle.site_core.specs.Slots.{IsRule}
+use Rattle.site_core.specs.SlotsValue.{Version}
 use Rattle.reg_types.specs.RefusedPrograms.{refusal_of}
 use Rattle.site_core.specs.Opening.{OpeningValue, IsNewNumber}
 use Rattle.till_request.specs.declared.act.LineFault.{LineFault}

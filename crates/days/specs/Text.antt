@@ -8,7 +8,7 @@ use Rattle.fuelling_point.specs.declared.kinds.Order.{Order}
 use Rattle.fuelling_point.specs.declared.snapshot.Snapshot.{Snapshot}
 use Rattle.fuelling_point.specs.States.{state_number}
 use Rattle.fuelling_point.specs.Table.{PointState}
-use Rattle.program_slots.specs.Value.{Version}
+use Rattle.site_core.specs.SlotsValue.{Version}
 use Rattle.till_request.specs.Answer.{order_words}
 use Rattle.till_request.specs.Spelling.{load_word}
 use Rattle.days.specs.declared.file.OpeningFile.{OpeningFile}

@@ -6,7 +6,7 @@ ghost use Rattle.days.specs.Ranges.{FileFits, OrderFits, PointFits, VersionFits}
 
 use crate::file::OpeningFile;
 use fuelling_point::{Order, Point, Transaction};
-use program_slots::Version;
+use site_core::Version;
 
 fn bytes_in_range(bytes: &[u8])
     ensures { IsBytes bytes.now }

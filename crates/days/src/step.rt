@@ -11,7 +11,7 @@ use crate::line::Line;
 use bpf_model::context::Layout;
 use counters::Counters;
 use fuelling_point::{Point, Snapshot, Transaction};
-use program_slots::Version;
+use site_core::Version;
 use reg_types::Refusal;
 use reg_types::verifier::verify;
 use site_core::Opening;

@@ -9,7 +9,7 @@ ghost use Rattle.days.specs.Text.{price_lines, version_lines, yes_or_no};
 use crate::file::OpeningFile;
 use counters::Counters;
 use fuelling_point::{Order, Point, Snapshot, Transaction};
-use program_slots::Version;
+use site_core::Version;
 use std::alloc::{AllocError, Global};
 use std::fmt;
 use till_request::spelling::load_word;

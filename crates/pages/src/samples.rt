@@ -9,7 +9,7 @@ use crate::words::role_name;
 use day_report::Sum;
 use decision_journal::{FIRST_REFUSAL, NO_DECISIONS, REFUSALS, Tally, VersionTally};
 use fuelling_point::{Point, State};
-use program_slots::Version;
+use site_core::Version;
 use site_core::Opening;
 use std::alloc::{AllocError, Global};
 

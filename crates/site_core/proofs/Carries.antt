@@ -17,8 +17,8 @@ use Rattle.till_request.specs.declared.act.Act.TheVariants as act
 use Rattle.till_request.specs.declared.act.Reply.{Reply}
 use Rattle.till_request.specs.declared.act.Reply.TheVariants as reply
 use Rattle.decision_journal.specs.declared.entries.Entry.{Entry}
-use Rattle.program_slots.specs.Slots.{IsRule}
-use Rattle.program_slots.specs.Value.{SlotsValue, Version}
+use Rattle.site_core.specs.Slots.{IsRule}
+use Rattle.site_core.specs.SlotsValue.{SlotsValue, Version}
 use Rattle.site_core.specs.declared.opening.OpeningFault.{OpeningFault}
 use Rattle.site_core.specs.declared.opening.OpeningFault.TheVariants as fault
 use Rattle.site_core.specs.Opening.{IsOpening, OpeningValue}

@@ -13,7 +13,7 @@ use Rattle.till_request.specs.declared.act.Act.{Act}
 use Rattle.till_request.specs.declared.act.Act.TheVariants as act
 use Rattle.till_request.specs.declared.act.Reply.{Reply}
 use Rattle.bpf_model.specs.Program.{ProgramText}
-use Rattle.program_slots.specs.Value.{Version}
+use Rattle.site_core.specs.SlotsValue.{Version}
 use Rattle.fuelling_point.specs.Table.{PointState}
 use Rattle.fuelling_point.specs.States.{is_ready}
 use Rattle.fuelling_point.specs.declared.kinds.State.{State}

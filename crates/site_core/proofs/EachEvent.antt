@@ -16,7 +16,7 @@ use Rattle.bpf_model.specs.Machine.{Counters}
 use Rattle.bpf_model.specs.declared.machine.View.{View}
 use Rattle.bpf_model.specs.Program.{ProgramText, outcome}
 use Rattle.bpf_model.specs.Layouts.{bytes_of}
-use Rattle.program_slots.specs.Value.{Version}
+use Rattle.site_core.specs.SlotsValue.{Version}
 use Rattle.site_core.specs.declared.question.Question.{Question}
 use Rattle.site_core.specs.declared.question.RequestAction.{RequestAction}
 use Rattle.site_core.specs.declared.question.RequestAction.TheVariants as action

@@ -16,7 +16,7 @@ use Rattle.fuelling_point.specs.Promises.{FollowsTable}
 use Rattle.fuelling_point.specs.declared.kinds.PointFault.{PointFault}
 use Rattle.till_request.specs.declared.act.Reply.TheVariants as reply
 use Rattle.bpf_model.specs.Machine.{Counters}
-use Rattle.program_slots.specs.Value.{Version}
+use Rattle.site_core.specs.SlotsValue.{Version}
 use Rattle.site_core.specs.declared.question.Question.{Question}
 use Rattle.site_core.specs.State.{SiteState, at_number, with_point}
 use Rattle.site_core.specs.Bounds.{Bounded}

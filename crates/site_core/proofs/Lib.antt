@@ -1,3 +1,4 @@
+pub mod Installs
 pub mod Points
 pub mod Decisions
 pub mod Undecided

@@ -6,8 +6,8 @@ use Rattle.std.specs.List.{range_with_len, IsDistinct}
 use Rattle.std.proofs.lemmas.Bool.Decides.{nat_tests}
 use Rattle.bpf_model.specs.Program.{ProgramText}
 use Rattle.decision_journal.specs.declared.entries.Entry.{Entry}
-use Rattle.program_slots.specs.Slots.{IsRule}
-use Rattle.program_slots.specs.Value.{Version}
+use Rattle.site_core.specs.Slots.{IsRule}
+use Rattle.site_core.specs.SlotsValue.{Version}
 use Rattle.site_core.specs.Opening.{OpeningValue, IsOpening, IsNewNumber, HaveOwnNumbers}
 use Rattle.site_core.specs.Limits.{ConfigValue, IsConfig}
 use Rattle.site_core.specs.History.{in_force, loaded, opening_rule, versions, versions_before}

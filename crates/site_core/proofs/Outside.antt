@@ -15,8 +15,8 @@ use Rattle.till_request.specs.declared.act.Act.TheVariants as act
 use Rattle.bpf_model.specs.Machine.{Counters, counter}
 use Rattle.bpf_model.specs.Runs.{Ended}
 use Rattle.bpf_model.specs.Program.{outcome}
-use Rattle.program_slots.specs.Value.{SlotsValue}
-use Rattle.program_slots.specs.Value.{Version}
+use Rattle.site_core.specs.SlotsValue.{SlotsValue}
+use Rattle.site_core.specs.SlotsValue.{Version}
 use Rattle.bpf_model.specs.Layouts.{bytes_of}
 use Rattle.site_core.specs.declared.question.Question.{Question}
 use Rattle.site_core.specs.declared.question.RequestAction.{RequestAction}

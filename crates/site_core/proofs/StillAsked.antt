@@ -4,8 +4,8 @@
 -- - If a declared counter differs, then the first such counter is the first difference (`Differs`).
 use Rattle.std.proofs.Common.{◌≡◌, ℕ, Some, ap, ◌∙◌}
 use Rattle.bpf_model.specs.Machine.{counter}
-use Rattle.program_slots.specs.Value.{SlotsValue}
-use Rattle.program_slots.specs.Slots.{version_in}
+use Rattle.site_core.specs.SlotsValue.{SlotsValue}
+use Rattle.site_core.specs.Slots.{version_in}
 use Rattle.interp.specs.Depends.{Agrees}
 use Rattle.site_core.specs.declared.question.Question.{Question}
 use Rattle.site_core.specs.declared.why.Why.TheVariants as why

@@ -17,7 +17,7 @@ use Rattle.till_request.specs.declared.act.Reply.{Reply}
 use Rattle.till_request.specs.declared.act.Reply.TheVariants as reply
 use Rattle.bpf_model.specs.Machine.{Counters}
 use Rattle.bpf_model.specs.Program.{outcome}
-use Rattle.program_slots.specs.Value.{Version}
+use Rattle.site_core.specs.SlotsValue.{Version}
 use Rattle.bpf_model.specs.Layouts.{bytes_of}
 use Rattle.site_core.specs.declared.question.Kind.{Kind}
 use Rattle.site_core.specs.declared.question.Kind.TheVariants.{Release, Preset, Price}

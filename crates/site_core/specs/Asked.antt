@@ -7,8 +7,8 @@ use Rattle.till_request.specs.declared.act.Act.{Act}
 use Rattle.till_request.specs.declared.act.Act.TheVariants as act
 use Rattle.till_request.specs.declared.act.Request.{Request}
 use Rattle.bpf_model.specs.Layouts.{bytes_of}
-use Rattle.program_slots.specs.Value.{SlotsValue, Version}
-use Rattle.program_slots.specs.Slots.{version_in}
+use Rattle.site_core.specs.SlotsValue.{SlotsValue, Version}
+use Rattle.site_core.specs.Slots.{version_in}
 use Rattle.site_core.specs.declared.question.Question.{Question}
 use Rattle.site_core.specs.declared.why.Why.{Why}
 use Rattle.site_core.specs.declared.why.CommitFault.{CommitFault}

@@ -27,7 +27,7 @@ use Rattle.site_core.specs.declared.question.Kind.TheVariants.{Release, Preset, 
 use Rattle.site_core.specs.declared.question.Question.{Question}
 use Rattle.site_core.specs.declared.question.RequestAction.{RequestAction}
 use Rattle.site_core.specs.declared.question.RequestAction.TheVariants as action
-use Rattle.program_slots.specs.Value.{Version}
+use Rattle.site_core.specs.SlotsValue.{Version}
 use Rattle.site_core.specs.History.{in_force}
 
 -- The effect of an event: the reply, the run if a program was run, and the site's state after the event.

@@ -1,7 +1,7 @@
 -- Definitions: how a site differs from the state on which a draft was made.
 use Rattle.std.specs.Prelude.{◌≡◌, ◌≢◌, ℕ, ◌-◌, ◌<◌, ◌≤◌, IsTrue, List, length, slice_get, Some, option_map}
 use Rattle.bpf_model.specs.Machine.{Counters, counter}
-use Rattle.program_slots.specs.Value.{Version}
+use Rattle.site_core.specs.SlotsValue.{Version}
 use Rattle.interp.specs.Depends.{Agrees}
 use Rattle.site_core.specs.Decide.{is_declared}
 use Rattle.site_core.specs.Draft.{DraftValue, Basis}

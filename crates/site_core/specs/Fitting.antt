@@ -2,7 +2,7 @@
 use Rattle.std.specs.Prelude.{◌≡◌, ℕ, ◌≤◌, List, [], ◌∷◌, length, Option, Some, None, All}
 use Rattle.std.specs.List.{AllByRecursion}
 use Rattle.fuelling_point.specs.Table.{PointState}
-use Rattle.program_slots.specs.Slots.{IsRule}
+use Rattle.site_core.specs.Slots.{IsRule}
 use Rattle.site_core.specs.Opening.{OpeningValue, HaveOwnNumbers}
 use Rattle.site_core.specs.declared.opening.OpeningFault.{OpeningFault}
 use Rattle.site_core.specs.declared.opening.OpeningFault.TheVariants as fault

@@ -1,3 +1,7 @@
+pub mod SlotsValue
+pub mod Slots
+pub mod Installing
+pub mod SlotsView
 pub mod Opening
 pub mod Fitting
 pub mod Words

@@ -4,8 +4,8 @@ use Rattle.std.specs.List.{AllByRecursion, IsDistinct}
 use Rattle.fuelling_point.specs.Table.{PointState}
 use Rattle.bpf_model.specs.Machine.{Counters}
 use Rattle.bpf_model.specs.Runs.{AreCounters}
-use Rattle.program_slots.specs.Value.{Version}
-use Rattle.program_slots.specs.Slots.{IsRule}
+use Rattle.site_core.specs.SlotsValue.{Version}
+use Rattle.site_core.specs.Slots.{IsRule}
 
 -- The state in which a day begins: the points, prices in thousandths of the currency per litre, counters with their
 -- bounds, the total in cents of all amounts that were ever cleared, and how many transactions were ever cleared.

@@ -9,8 +9,8 @@ use Rattle.till_request.specs.declared.act.Reply.TheVariants as reply
 use Rattle.bpf_model.specs.Machine.{Counters}
 use Rattle.site_core.specs.declared.question.Question.{Question}
 use Rattle.site_core.specs.Decide.{denied, grant}
-use Rattle.program_slots.specs.Value.{SlotsValue}
-use Rattle.program_slots.specs.Slots.{version_in, no_versions, opened_slots}
+use Rattle.site_core.specs.SlotsValue.{SlotsValue}
+use Rattle.site_core.specs.Slots.{version_in, no_versions, opened_slots}
 use Rattle.bpf_model.specs.Program.{ProgramText}
 use Rattle.site_core.specs.Limits.{ConfigValue}
 use Rattle.site_core.specs.State.{SiteState}

@@ -4,8 +4,8 @@ ghost use Rattle.std.specs.Prelude.{◌≡◌, ◌≢◌, ◌↔◌, ◌<◌, Is
 ghost use Rattle.std.specs.Prelude.{option_map, IfSome, ◌≤◌, drop, max};
 ghost use Rattle.std.specs.Arc.{arc_value};
 ghost use Rattle.interp.specs.Depends.{Agrees};
-ghost use Rattle.program_slots.specs.Value.{Version};
-ghost use Rattle.program_slots.specs.Slots.{version_in};
+ghost use Rattle.site_core.specs.SlotsValue.{Version};
+ghost use Rattle.site_core.specs.Slots.{version_in};
 ghost use Rattle.bpf_model.specs.Machine.{counter};
 ghost use Rattle.site_core.specs.Decide.{is_declared};
 ghost use Rattle.site_core.specs.Differences.{FirstDiffers, CounterDiffers};
@@ -13,7 +13,7 @@ ghost use Rattle.bpf_model.specs.declared.limits.TheConstants.{COUNTERS, POINTS}
 
 use counters::Counters;
 use helpers::{PointView, View};
-use program_slots::Slots;
+use crate::slots::Slots;
 use reg_types::Program;
 use std::sync::Arc;
 

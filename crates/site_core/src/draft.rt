@@ -20,7 +20,7 @@ use counters::Counters;
 use decision_journal::{Entry, Run};
 use helpers::View;
 use interp::run;
-use program_slots::Slots;
+use crate::slots::Slots;
 use reg_types::Program;
 use std::alloc::AllocError;
 use std::marker::Model;

@@ -21,7 +21,9 @@ mod replies;
 mod same;
 mod seeing;
 mod site;
+pub mod slots;
 mod station;
+mod version;
 mod watched;
 mod why;
 
@@ -36,5 +38,7 @@ pub use head::Head;
 pub use observer::{Both, Change, Observer, Unwatched};
 pub use opening::{Opening, OpeningFault};
 pub use site::Site;
+pub use slots::{SlotFault, Slots};
+pub use version::Version;
 pub use watched::{Replayed, Watched};
 pub use why::Why;

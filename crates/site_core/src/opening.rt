@@ -1,14 +1,14 @@
 //! The opening: what a site keeps from one day to the next.
 
 ghost use Rattle.std.specs.Prelude.{◌≡◌, ◌≢◌, ◌↔◌, ◌≤◌, All, IfSome, IsTrue, MatchOption};
-ghost use Rattle.program_slots.specs.Slots.{IsRule};
+ghost use Rattle.site_core.specs.Slots.{IsRule};
 ghost use Rattle.site_core.specs.Opening.{HaveOwnNumbers, IsNewNumber, IsOpening};
 ghost use Rattle.site_core.specs.Fitting.{AreLastNumbersWithinLimit, IsFirstLimitFault, Misfits};
 
 use crate::same::{are_same_counters, are_same_points, are_same_rules};
 use counters::Counters;
 use fuelling_point::Point;
-use program_slots::Version;
+use crate::version::Version;
 use std::fmt;
 use std::marker::Model;
 

@@ -5,7 +5,7 @@ ghost use Rattle.std.specs.Prelude.{◌≡◌, ◌↔◌, IsTrue};
 use crate::comparing::is_same_program;
 use counters::Counters;
 use fuelling_point::{Order, Point, Snapshot, State, Transaction};
-use program_slots::Version;
+use crate::version::Version;
 
 pub fn are_same_points(a: &[Point], b: &[Point]) -> bool
     ensures { IsTrue result ↔ (a.now ≡ b.now) }

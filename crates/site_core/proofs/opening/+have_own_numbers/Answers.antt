@@ -1,7 +1,7 @@
 use Rattle.std.proofs.Common.{◌≡◌, ◌∷◌, Some, ap, subst, rules}
 use Rattle.std.specs.Prelude.{◌↔◌, IsTrue}
 use Rattle.std.proofs.lemmas.Grind.{common_steps}
-use Rattle.program_slots.specs.Value.{Version}
+use Rattle.site_core.specs.SlotsValue.{Version}
 use Rattle.site_core.specs.Opening.{IsNewNumber}
 use Rattle.site_core.proofs.Numbers.{own_end, own_both, own_not}
 use Rattle.site_core.proofs.opening.+have_own_numbers.Goals as goal

@@ -5,7 +5,7 @@ use Rattle.std.specs.Arc.{arc_value}
 use Rattle.bpf_model.specs.Runs.{Ended}
 use Rattle.bpf_model.specs.Program.{ProgramText, outcome}
 use Rattle.bpf_model.specs.Layouts.{bytes_of}
-use Rattle.program_slots.specs.Value.{Version}
+use Rattle.site_core.specs.SlotsValue.{Version}
 use Rattle.site_core.specs.State.{view_of}
 use Rattle.site_core.specs.Context.{context}
 use Rattle.site_core.specs.History.{in_force}

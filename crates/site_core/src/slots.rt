@@ -1,22 +1,19 @@
 //! The slots that programs are installed in. Each installed program becomes a version, whose number is never used
 //! again. The programs of replaced versions are kept.
-#![tactic(auto)]
 
 ghost use Rattle.std.specs.Prelude.{◌≡◌, ℕ, ◌+◌, ◌≤◌, length, map, All, slice_index_or, Some, None};
 ghost use Rattle.std.specs.Prelude.{MatchOption, OnErr, IfOk, IsOk};
 ghost use Rattle.std.specs.List.{range_with_len};
 ghost use Rattle.std.specs.Arc.{arc_value};
-ghost use Rattle.program_slots.specs.Slots.{IsRule, no_versions, opened_slots, version_in, number_in, program_of};
-ghost use Rattle.program_slots.specs.Slots.{program_among};
-ghost use Rattle.program_slots.specs.Promises.{Installs, Refuses};
+ghost use Rattle.site_core.specs.Slots.{IsRule, no_versions, opened_slots, version_in, number_in, program_of};
+ghost use Rattle.site_core.specs.Slots.{program_among};
+ghost use Rattle.site_core.specs.Installing.{Installs, Refuses};
 
-mod version;
-
+use crate::version::Version;
 use reg_types::Program;
 use std::alloc::{AllocError, Global};
 use std::marker::Model;
 use std::sync::Arc;
-pub use version::Version;
 
 /// The most versions that can be installed in all slots together, besides those that the slots begin with.
 pub const VERSIONS: usize = 4096;
@@ -45,11 +42,11 @@ pub struct Slots {
 }
 
 impl Model for Slots {
-    ghost use Rattle.program_slots.specs.Value.{SlotsValue};
+    ghost use Rattle.site_core.specs.SlotsValue.{SlotsValue};
 
     ghost Value = { SlotsValue };
 
-    ghost use Rattle.program_slots.specs.Views.{slots_view, AreSlots};
+    ghost use Rattle.site_core.specs.SlotsView.{slots_view, AreSlots};
 
     ghost view = { slots_view };
 

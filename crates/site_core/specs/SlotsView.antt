@@ -1,9 +1,9 @@
 -- Representation: what the fields of `Slots` mean, and its invariant.
 use Rattle.std.specs.Prelude.{◌≡◌, ℕ, ◌+◌, ◌≤◌, ◌<◌, length, map, Option, Some, None, All}
 use Rattle.std.specs.Arc.{arc_value}
-use Rattle.program_slots.specs.Value.{SlotsValue}
-use Rattle.program_slots.specs.Slots.{IsRule}
-use Rattle.program_slots.specs.declared.Slots.TheInside.{Inside}
+use Rattle.site_core.specs.SlotsValue.{SlotsValue}
+use Rattle.site_core.specs.Slots.{IsRule}
+use Rattle.site_core.specs.declared.slots.Slots.TheInside.{Inside}
 
 abbrev pub slots_view : Inside → SlotsValue
 slots_view s = record {

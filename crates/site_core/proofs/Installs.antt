@@ -5,9 +5,9 @@ use Rattle.std.specs.List.{slice_get}
 use Rattle.std.specs.Prelude.{All}
 use Rattle.std.proofs.lemmas.List.{get_or-set_same, get_or-set_other}
 use Rattle.bpf_model.specs.Program.{ProgramText}
-use Rattle.program_slots.specs.Value.{Version}
-use Rattle.program_slots.specs.Views.{IsVersion}
-use Rattle.program_slots.specs.Promises.{Installs}
+use Rattle.site_core.specs.SlotsValue.{Version}
+use Rattle.site_core.specs.SlotsView.{IsVersion}
+use Rattle.site_core.specs.Installing.{Installs}
 
 slice_get-last : {A : Type 0} → (xs : List A) (x : A) → slice_get (xs ++ x ∷ []) (length xs) ≡ Some x
 slice_get-last [] x = refl

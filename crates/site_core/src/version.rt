@@ -15,7 +15,7 @@ pub struct Version {
 
 impl Model for Version {
     ghost use Rattle.std.specs.Arc.{arc_value};
-    ghost use Rattle.program_slots.specs.Value.{Version as VersionValue};
+    ghost use Rattle.site_core.specs.SlotsValue.{Version as VersionValue};
 
     ghost Value = { VersionValue };
 

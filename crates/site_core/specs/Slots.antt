@@ -4,7 +4,7 @@ use Rattle.std.specs.Prelude.{◌≡◌, ◌≤◌, ℕ, ◌-◌, ◌==◌, nat_
 use Rattle.std.specs.List.{repeat}
 use Rattle.bpf_model.specs.Program.{ProgramText, IsGood}
 use Rattle.reg_types.specs.RefusedPrograms.{refusal_of}
-use Rattle.program_slots.specs.Value.{SlotsValue, Version}
+use Rattle.site_core.specs.SlotsValue.{SlotsValue, Version}
 
 -- Either there is no version, or the version's number is from 1 to `versions`, the verifier accepts its program, and
 -- the program is good: it can be decoded, and each run of it ends and changes only declared counters.

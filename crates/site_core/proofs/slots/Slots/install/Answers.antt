@@ -2,8 +2,8 @@ use Rattle.std.proofs.Common.{◌≡◌, ◌+◌, ◌<◌, length, map, [], ◌�
 use Rattle.std.specs.Arc.{arc_value}
 use Rattle.std.proofs.lemmas.List.{map-append, length-map}
 use Rattle.std.proofs.lemmas.Grind.{common_steps}
-use Rattle.program_slots.proofs.Installs.{installs}
-use Rattle.program_slots.proofs.Slots.install.Goals as goal
+use Rattle.site_core.proofs.Installs.{installs}
+use Rattle.site_core.proofs.slots.Slots.install.Goals as goal
 
 pub returns-clause-step : goal.returns-clause-step
 returns-clause-step c =

@@ -1,10 +1,10 @@
 -- Promises: what the installation of a new version changes, and when each error is returned.
 use Rattle.std.specs.Prelude.{◌≡◌, ◌≢◌, ℕ, ◌+◌, ◌<◌, ◌≤◌, [], ◌∷◌, ◌++◌, length, slice_set, Some, Result, Ok, Err}
 use Rattle.bpf_model.specs.Program.{ProgramText}
-use Rattle.program_slots.specs.Value.{SlotsValue}
-use Rattle.program_slots.specs.Slots.{version_in}
-use Rattle.program_slots.specs.declared.SlotFault.{SlotFault}
-use Rattle.program_slots.specs.declared.SlotFault.TheVariants.{NoSuchSlot, VersionsFull, OutOfMemory}
+use Rattle.site_core.specs.SlotsValue.{SlotsValue}
+use Rattle.site_core.specs.Slots.{version_in}
+use Rattle.site_core.specs.declared.slots.SlotFault.{SlotFault}
+use Rattle.site_core.specs.declared.slots.SlotFault.TheVariants.{NoSuchSlot, VersionsFull, OutOfMemory}
 
 -- The program was installed in `slot` as a new version, with the next number. Each other slot keeps its version, and
 -- the versions that the slots began with stay the same.

@@ -2,8 +2,8 @@ use Rattle.std.proofs.Common.{◌≡◌, ℕ, ◌+◌, List, [], ◌∷◌, ◌+
 use Rattle.std.specs.List.{range_with_len}
 use Rattle.std.proofs.lemmas.Grind.{common_steps}
 use Rattle.std.proofs.lemmas.List.FromFn.{map-range_with_len_more}
-use Rattle.program_slots.specs.Slots.{version_in}
-use Rattle.program_slots.proofs.Slots.rules.Goals as goal
+use Rattle.site_core.specs.Slots.{version_in}
+use Rattle.site_core.proofs.slots.Slots.rules.Goals as goal
 
 one-more : {X : Type 0} (f : ℕ → X) (n : ℕ) (items pushed : List X) (x : X) → items ≡ map f (range_with_len 0 n) → x ≡ f n → pushed ≡ items ++ x ∷ []
     → pushed ≡ map f (range_with_len 0 (n + 1))

@@ -1,7 +1,7 @@
 use Rattle.std.proofs.Common.{◌≡◌, ◌+◌, length, map, All}
 use Rattle.std.specs.List.{range_with_len}
-use Rattle.program_slots.specs.Slots.{IsRule, version_in}
-use Rattle.program_slots.proofs.Slots.rules.Given as goal
+use Rattle.site_core.specs.Slots.{IsRule, version_in}
+use Rattle.site_core.proofs.slots.Slots.rules.Given as goal
 
 abbrev pub invariant-loop-slot : goal.invariant-loop-slot
 invariant-loop-slot l =

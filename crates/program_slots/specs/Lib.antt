@@ -1,4 +1,0 @@
-pub mod Value
-pub mod Slots
-pub mod Promises
-pub mod Views
