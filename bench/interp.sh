@@ -15,8 +15,8 @@ rounds=${1:-20}
 
 # shellcheck source=bench/driver.sh
 . "$here/driver.sh"
-driver_workspace 'bpf_model bpf_decode flow_check operations stack_map counters helpers reg_types interp' \
-    'drive: interp reg_types helpers counters hex' interp_driver.txt
+driver_workspace 'bpf_model verifier interp' \
+    'drive: interp verifier hex' interp_driver.txt
 (cd "$work/crates/drive" && rt run -- 1 1 /dev/null </dev/null >"$work/log" 2>&1) || true
 drive=$work/crates/drive/out/drive
 [ -x "$drive" ] || { tail -n 20 "$work/log" >&2; exit 1; }

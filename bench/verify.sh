@@ -14,9 +14,9 @@ programs=${1:-20000}
 
 # shellcheck source=bench/driver.sh
 . "$here/driver.sh"
-driver_workspace "bpf_model bpf_decode flow_check operations stack_map counters helpers reg_types interp \
+driver_workspace "bpf_model verifier interp \
 fuelling_point till_request decision_journal line_session site_core site_lock" \
-    'drive may_wait=4: site_lock reg_types hex' verify_driver.txt
+    'drive may_wait=4: site_lock verifier hex' verify_driver.txt
 (cd "$work/crates/drive" && rt run -- time 1 /dev/null </dev/null >"$work/log" 2>&1) ||
     { tail -n 20 "$work/log" >&2; exit 1; }
 drive=$work/crates/drive/out/drive

@@ -1,14 +1,14 @@
 //! Tests of decisions that are optimistic transactions: a rule is run on a draft (a copy of what the rule reads of the
 //! site), other events follow, and then the commit enters the decision or finds that the decision is stale.
 use fuelling_point::DispenserEvent;
-use reg_types::Layout;
-use reg_types::verifier::verify;
 use site_core::laws::{fresh_differs_nowhere, one_difference_is_first, programs_alone_decide};
 use site_core::{Begin, Commit, Config, Event, Ready, Site, What, Why};
 use std::alloc::Global;
 use std::sync::Arc;
 use std::test::Fail;
 use till_request::{Reply, Request};
+use verifier::Layout;
+use verifier::verifying::verify;
 
 /// A program: its bytes, the mask of the counters that it declares, and its layout.
 #[derive(Clone, Copy)]

@@ -4,8 +4,6 @@ ghost use Rattle.std.specs.Prelude.{◌≡◌, [], None};
 
 use crate::programs::ASKED;
 use fuelling_point::DispenserEvent;
-use reg_types::Layout;
-use reg_types::verifier::verify;
 use site_core::{Answered, CallFault, Config, Draft, Ready};
 use site_lock::{CloseFault, CloseRefusal, Forecourt, Gate, Pass, SiteLedger, Straight};
 use std::alloc::Global;
@@ -16,6 +14,8 @@ use std::sync::{Arc, Wait};
 use std::test::Fail;
 use std::thread::{Threads, join, yield_now};
 use till_request::{Reply, Request};
+use verifier::Layout;
+use verifier::verifying::verify;
 
 /// Makes a configuration with two tills and two fuelling points. Releases are decided by slot 0, presets by slot 1, and
 /// prices by slot 2.

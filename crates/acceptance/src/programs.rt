@@ -1,11 +1,11 @@
 //! A test that many programs are verified at once.
 ghost use Rattle.std.specs.Prelude.{◌<◌, ◌≤◌};
 
-use reg_types::Layout;
 use site_lock::programs::verify_all;
 use std::alloc::{AllocError, Global};
 use std::test::Fail;
 use std::thread::Threads;
+use verifier::Layout;
 
 /// A program that grants what is asked: its answer is the asked amount, which it reads from its context.
 pub const ASKED: [u8; 16] = [0x79, 0x10, 0x18, 0, 0, 0, 0, 0, 0x95, 0, 0, 0, 0, 0, 0, 0];

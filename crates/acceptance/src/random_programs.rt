@@ -1,10 +1,9 @@
 //! Tests of random programs from a fixed seed: each must be refused with a number, or run to an answer.
-use counters::Counters;
-use helpers::{PointView, View};
 use interp::{Context, Layout, run};
-use reg_types::verifier::verify;
 use std::alloc::{AllocError, Global};
 use std::test::Fail;
+use verifier::verifying::verify;
+use verifier::{Counters, PointView, View};
 
 /// A generator of random numbers from a seed (xorshift64*).
 #[derive(Drop)]

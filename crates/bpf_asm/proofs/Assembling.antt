@@ -26,7 +26,7 @@ use Rattle.bpf_model.specs.declared.instruction.Unit.TheVariants.{First, Second}
 use Rattle.bpf_model.specs.declared.instruction.UnitFault.{UnitFault}
 use Rattle.bpf_model.specs.declared.instruction.UnitFault.TheVariants.{Field, Register as BadRegister}
 use Rattle.bpf_model.specs.Reading.{form_of, first_fault, has_valid_fields, has_valid_registers, half_wide, is_wide}
-use Rattle.bpf_decode.specs.Making.{IsInstruction, AreUnits}
+use Rattle.bpf_model.specs.Making.{IsInstruction, AreUnits}
 use Rattle.bpf_asm.specs.declared.AsmFault.{AsmFault}
 use Rattle.bpf_asm.specs.declared.AsmFault.TheVariants.{BadLine, BadLabel, OutOfRange, Length, OutOfMemory}
 use Rattle.bpf_asm.specs.declared.grammar.Value.{Value}

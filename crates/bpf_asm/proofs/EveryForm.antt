@@ -35,9 +35,9 @@ use Rattle.bpf_model.specs.declared.instruction.UnitFault.{UnitFault}
 use Rattle.bpf_model.specs.declared.instruction.UnitFault.TheVariants.{Field, Register as BadRegister}
 use Rattle.bpf_model.specs.Reading.{form_of, first_fault, half_wide}
 use Rattle.bpf_model.proofs.Reading.{count_of_units}
-use Rattle.bpf_decode.specs.Faults.{IsProgram}
-use Rattle.bpf_decode.specs.Making.{IsInstruction, AreUnits}
-use Rattle.bpf_decode.proofs.Making.{units_of_program}
+use Rattle.bpf_model.specs.DecodeFaults.{IsProgram}
+use Rattle.bpf_model.specs.Making.{IsInstruction, AreUnits}
+use Rattle.bpf_model.proofs.Making.{units_of_program}
 use Rattle.bpf_asm.specs.declared.AsmFault.{AsmFault}
 use Rattle.bpf_asm.specs.Text.{canonical_text, high_of}
 use Rattle.bpf_asm.specs.Program.{cut, fault_of, assembled_with, assembled, IsFault}

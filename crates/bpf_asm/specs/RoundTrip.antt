@@ -1,7 +1,7 @@
 -- Promises: the text of a program, as `disassemble` writes it, assembles to the program.
 use Rattle.std.specs.Prelude.{◌≡◌, List}
 use Rattle.bpf_model.specs.declared.instruction.Unit.{Unit as ProgramUnit}
-use Rattle.bpf_decode.specs.Faults.{IsProgram}
+use Rattle.bpf_model.specs.DecodeFaults.{IsProgram}
 use Rattle.bpf_asm.specs.Program.{AssemblesTo}
 use Rattle.bpf_asm.specs.Text.{canonical_text}
 

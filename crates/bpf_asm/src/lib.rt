@@ -12,7 +12,8 @@ ghost use Rattle.bpf_asm.specs.Sound.{AreSound};
 ghost use Rattle.bpf_asm.specs.Text.{canonical_text, high_of, instruction_text};
 ghost use Rattle.bpf_model.specs.declared.limits.TheConstants.{UNITS};
 
-use bpf_decode::{Code, Inst, Unit};
+use bpf_model::Code;
+use bpf_model::instruction::{Inst, Unit};
 use grammar::Line;
 use std::alloc::{AllocError, Global};
 use std::fmt::Write;

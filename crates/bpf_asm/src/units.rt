@@ -6,8 +6,7 @@ ghost use Rattle.bpf_model.specs.declared.limits.TheConstants.{UNITS};
 
 use crate::grammar::{Fields, Line, Statement, Target, Value};
 use crate::label::{len_of, place_of};
-use bpf_decode::{Inst, Unit};
-use bpf_model::instruction::{Condition, Form, Operator, Size, Source, Width};
+use bpf_model::instruction::{Condition, Form, Inst, Operator, Size, Source, Unit, Width};
 use std::alloc::{AllocError, Global};
 
 fn source_bit(source: Source) -> u8

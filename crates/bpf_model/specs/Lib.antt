@@ -5,3 +5,7 @@ pub mod Machine
 pub mod Runs
 pub mod Flow
 pub mod Program
+pub mod DecodeFaults
+pub mod Encoded
+pub mod Making
+pub mod DecodeWords

@@ -1,8 +1,8 @@
 -- Promises: that no two openings have the same text, and why a text isn't that of an opening.
 use Rattle.std.specs.Prelude.{◌≡◌, ◌≢◌, ℕ, ◌+◌, ◌<◌, min, List, [], ◌∷◌, ◌++◌, length, Some, Result, Ok}
 use Rattle.bpf_model.specs.Program.{as_loaded}
-use Rattle.reg_types.specs.RefusedPrograms.{refusal_of}
-use Rattle.reg_types.specs.declared.refusal.Refusal.{Refusal}
+use Rattle.verifier.specs.RefusedPrograms.{refusal_of}
+use Rattle.verifier.specs.declared.refusal.Refusal.{Refusal}
 use Rattle.till_request.specs.declared.act.LineFault.{LineFault}
 use Rattle.days.specs.declared.file.OpeningFile.{OpeningFile}
 use Rattle.days.specs.declared.file.OpeningFlaw.{OpeningFlaw}

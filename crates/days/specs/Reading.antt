@@ -10,7 +10,7 @@ use Rattle.fuelling_point.specs.Snapshot.{IsPointState, IsSnapshot, snapshot_sta
 use Rattle.fuelling_point.specs.Table.{PointState, fresh_point}
 use Rattle.site_core.specs.Slots.{IsRule}
 use Rattle.site_core.specs.SlotsValue.{Version}
-use Rattle.reg_types.specs.RefusedPrograms.{refusal_of}
+use Rattle.verifier.specs.RefusedPrograms.{refusal_of}
 use Rattle.site_core.specs.Opening.{OpeningValue, IsNewNumber}
 use Rattle.till_request.specs.declared.act.LineFault.{LineFault}
 use Rattle.days.specs.declared.file.OpeningFile.{OpeningFile}

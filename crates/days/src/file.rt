@@ -1,8 +1,8 @@
 //! The values of an opening, why a text isn't one, and why a day leaves none.
 
-use reg_types::Refusal;
 use site_core::{Opening, OpeningFault};
 use std::fmt;
+use verifier::Refusal;
 
 /// What a day leaves for the next.
 #[derive(Drop)]

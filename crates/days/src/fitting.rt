@@ -5,10 +5,10 @@ ghost use Rattle.bpf_model.specs.Machine.{counter};
 ghost use Rattle.days.specs.Fitting.{AreBounded, AreWithin, Fits, HasTill, HaveTills};
 ghost use Rattle.days.specs.Misfits.{IsHeldOver, IsOver, Misfits, first_held};
 
-use counters::Counters;
 use fuelling_point::{Point, Transaction};
 use site_core::{Config, Opening};
 use std::fmt::{self, Display};
+use verifier::Counters;
 
 /// Why an opening doesn't fit a configuration: the first case that applies.
 #[derive(Clone, Copy)]

@@ -2,7 +2,7 @@
 
 ghost use Rattle.std.specs.Prelude.{◌≡◌, ◌↔◌, ◌<◌, ◌∷◌, ℕ, Ok, IfErr, IfOk, IsTrue, MatchOption, OnOk};
 ghost use Rattle.bpf_model.specs.Program.{as_loaded};
-ghost use Rattle.reg_types.specs.RefusedPrograms.{IsRefusal, refusal_of};
+ghost use Rattle.verifier.specs.RefusedPrograms.{IsRefusal, refusal_of};
 ghost use Rattle.days.specs.File.{IsOpeningFile};
 ghost use Rattle.days.specs.Flaws.{Differs, IsFlaw, IsLineFlaw, IsOnly, LacksLine};
 ghost use Rattle.days.specs.Parsing.{line_read};
@@ -17,11 +17,11 @@ use crate::ranges::file_in_range;
 use crate::step::Reading;
 use crate::writing::opening_text;
 use bpf_model::context::Layout;
-use reg_types::Refusal;
-use reg_types::verifier::verify;
 use std::alloc::{AllocError, Global};
 use till_request::LineFault;
 use till_request::parts::first_part;
+use verifier::Refusal;
+use verifier::verifying::verify;
 
 pub(crate) fn is_same(text: &[u8], other: &[u8]) -> bool
     ensures { IsTrue result ↔ (text.now ≡ other.now) }

@@ -9,16 +9,14 @@ ghost use Rattle.days.specs.Reading.{Takes, TakesMemory, Verified, blank_file, w
 use crate::file::OpeningFile;
 use crate::line::Line;
 use bpf_model::context::Layout;
-use counters::Counters;
 use fuelling_point::{Point, Snapshot, Transaction};
-use site_core::Version;
-use reg_types::Refusal;
-use reg_types::verifier::verify;
-use site_core::Opening;
 use site_core::opening::is_new_number;
+use site_core::{Opening, Version};
 use std::alloc::{AllocError, Global};
 use std::marker::Model;
 use std::sync::Arc;
+use verifier::verifying::verify;
+use verifier::{Counters, Refusal};
 
 /// The greatest number of a point's newest transaction, and of versions.
 const MOST: u32 = 4_290_000_000;

@@ -7,12 +7,12 @@ ghost use Rattle.days.specs.Text.{AddsLines, counter_lines, head_lines, numbered
 ghost use Rattle.days.specs.Text.{price_lines, version_lines, yes_or_no};
 
 use crate::file::OpeningFile;
-use counters::Counters;
 use fuelling_point::{Order, Point, Snapshot, Transaction};
 use site_core::Version;
 use std::alloc::{AllocError, Global};
 use std::fmt;
 use till_request::spelling::load_word;
+use verifier::Counters;
 
 /// A pending order as one word, `none` for none.
 #[derive(Clone, Copy)]

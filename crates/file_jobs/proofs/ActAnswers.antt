@@ -4,9 +4,9 @@ use Rattle.std.proofs.Common.{◌≡◌, ℕ, List, inl}
 use Rattle.std.specs.Prelude.{Option, None}
 use Rattle.bpf_model.specs.Program.{ProgramText, as_loaded}
 use Rattle.bpf_model.specs.declared.context.Layout.{Layout}
-use Rattle.reg_types.specs.declared.refusal.Refusal.{Refusal}
-use Rattle.reg_types.specs.Refusals.{refusal_numbers}
-use Rattle.reg_types.specs.RefusedPrograms.{IsRefused, IsRefusal, MayRunOutOfMemory, refusal_of}
+use Rattle.verifier.specs.declared.refusal.Refusal.{Refusal}
+use Rattle.verifier.specs.Refusals.{refusal_numbers}
+use Rattle.verifier.specs.RefusedPrograms.{IsRefused, IsRefusal, MayRunOutOfMemory, refusal_of}
 use Rattle.till_request.specs.declared.act.Act.{Act}
 use Rattle.till_request.specs.declared.act.Act.TheVariants as acts
 use Rattle.till_request.specs.declared.act.Answer.{Answer}

@@ -2,10 +2,10 @@
 -- the same site and with the same output, and that end without a failure, write the same answers and leave the same
 -- moment and site, if neither answers that memory ran out.
 use Rattle.std.proofs.Common.{◌≡◌, ℕ, List, Option, Some, None, Result, Ok, Err, refl, sym, ◌∙◌, ap, ap₂}
-use Rattle.reg_types.specs.declared.refusal.Refusal.{Refusal}
-use Rattle.reg_types.specs.declared.refusal.Refusal.TheVariants as refusals
-use Rattle.reg_types.specs.Refusals.{Numbers, refusal_numbers}
-use Rattle.reg_types.specs.RefusedPrograms.{IsRefusal, refusal_of}
+use Rattle.verifier.specs.declared.refusal.Refusal.{Refusal}
+use Rattle.verifier.specs.declared.refusal.Refusal.TheVariants as refusals
+use Rattle.verifier.specs.Refusals.{Numbers, refusal_numbers}
+use Rattle.verifier.specs.RefusedPrograms.{IsRefusal, refusal_of}
 use Rattle.bpf_model.specs.Program.{ProgramText, as_loaded}
 use Rattle.till_request.specs.declared.act.Act.{Act}
 use Rattle.till_request.specs.declared.act.Act.TheVariants as acts

@@ -3,7 +3,7 @@ use Rattle.std.specs.Prelude.{ℕ, List, [], ◌++◌, codes, Option, Some, None
 use Rattle.std.specs.Fmt.{decimal}
 use Rattle.till_request.specs.declared.act.Answer.TheVariants.{Program}
 use Rattle.till_request.specs.Answer.{answer_line}
-use Rattle.reg_types.specs.Refusals.{refusal_numbers}
+use Rattle.verifier.specs.Refusals.{refusal_numbers}
 use Rattle.site_core.specs.declared.flaw.EntryFlaw.{EntryFlaw}
 use Rattle.site_core.specs.declared.flaw.EntryFlaw.TheVariants as flaw
 

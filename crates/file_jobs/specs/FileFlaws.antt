@@ -5,16 +5,16 @@ use Rattle.std.specs.Prelude.{Option, Some, None, Result, Ok, Err}
 use Rattle.std.specs.Fmt.{decimal}
 use Rattle.bpf_model.specs.declared.context.Layout.{Layout}
 use Rattle.bpf_model.specs.Program.{as_loaded}
-use Rattle.bpf_decode.specs.Faults.{IsRefusedFor}
-use Rattle.bpf_decode.specs.declared.DecodeFault.{DecodeFault}
-use Rattle.bpf_decode.specs.declared.DecodeFault.TheVariants as decode
+use Rattle.bpf_model.specs.DecodeFaults.{IsRefusedFor}
+use Rattle.bpf_model.specs.declared.decode.DecodeFault.{DecodeFault}
+use Rattle.bpf_model.specs.declared.decode.DecodeFault.TheVariants as decode
 use Rattle.bpf_asm.specs.declared.AsmFault.TheVariants as asm
 use Rattle.bpf_asm.specs.declared.program_file.ProgramFileFault.{ProgramFileFault}
 use Rattle.bpf_asm.specs.declared.program_file.ProgramFileFault.TheVariants as file
 use Rattle.bpf_asm.specs.Flaws.{Explains}
 use Rattle.bpf_asm.specs.Program.{IsRefused}
-use Rattle.reg_types.specs.declared.refusal.Refusal.TheVariants.{Decode}
-use Rattle.reg_types.specs.Refusals.{Numbers, refusal_numbers}
+use Rattle.verifier.specs.declared.refusal.Refusal.TheVariants.{Decode}
+use Rattle.verifier.specs.Refusals.{Numbers, refusal_numbers}
 use Rattle.till_request.specs.declared.act.Answer.TheVariants as answer
 use Rattle.till_request.specs.Answer.{answer_line}
 use Rattle.file_jobs.specs.declared.reasons.RefusedProgram.{RefusedProgram}

@@ -9,7 +9,7 @@ use Rattle.decision_journal.specs.declared.fault.JournalFault.{JournalFault}
 use Rattle.decision_journal.specs.declared.fault.JournalFault.TheVariants as journal
 use Rattle.file_jobs.specs.declared.job_error.JobError.{JobError}
 use Rattle.file_jobs.specs.declared.job_error.JobError.TheVariants as job_error
-use Rattle.reg_types.specs.Refusals.{refusal_numbers}
+use Rattle.verifier.specs.Refusals.{refusal_numbers}
 use Rattle.file_jobs.specs.AuditOutput.{program_text}
 use Rattle.file_jobs.specs.JobErrors.{Ends, EndsOrRunsOut}
 

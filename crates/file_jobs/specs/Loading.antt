@@ -2,9 +2,9 @@
 -- project).
 use Rattle.std.specs.Prelude.{◌≡◌, ◌⊎◌, Option, Some, None, ⊤}
 use Rattle.bpf_model.specs.Program.{as_loaded}
-use Rattle.reg_types.specs.declared.refusal.Refusal.{Refusal}
-use Rattle.reg_types.specs.Refusals.{refusal_numbers}
-use Rattle.reg_types.specs.RefusedPrograms.{refusal_of}
+use Rattle.verifier.specs.declared.refusal.Refusal.{Refusal}
+use Rattle.verifier.specs.Refusals.{refusal_numbers}
+use Rattle.verifier.specs.RefusedPrograms.{refusal_of}
 use Rattle.till_request.specs.declared.act.Act.{Act}
 use Rattle.till_request.specs.declared.act.Act.TheVariants as acts
 use Rattle.till_request.specs.declared.act.Answer.{Answer}

@@ -8,9 +8,9 @@ use Rattle.std.specs.Prelude.{◌≡◌, ◌≢◌, ◌⊎◌, ⊤, ℕ, List, [
 use Rattle.std.specs.Fmt.{decimal}
 use Rattle.std.specs.List.{join_with_byte}
 use Rattle.bpf_model.specs.Program.{ProgramText, IsGood, as_loaded}
-use Rattle.reg_types.specs.declared.refusal.Refusal.{Refusal}
-use Rattle.reg_types.specs.Refusals.{refusal_numbers}
-use Rattle.reg_types.specs.RefusedPrograms.{IsRefused, IsRefusal, MayRunOutOfMemory, refusal_of}
+use Rattle.verifier.specs.declared.refusal.Refusal.{Refusal}
+use Rattle.verifier.specs.Refusals.{refusal_numbers}
+use Rattle.verifier.specs.RefusedPrograms.{IsRefused, IsRefusal, MayRunOutOfMemory, refusal_of}
 use Rattle.till_request.specs.declared.act.Act.{Act}
 use Rattle.till_request.specs.declared.act.Act.TheVariants as acts
 use Rattle.till_request.specs.declared.act.Answer.{Answer}

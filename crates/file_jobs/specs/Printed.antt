@@ -5,11 +5,11 @@ use Rattle.bpf_model.specs.declared.context.Layout.{Layout}
 use Rattle.bpf_model.specs.declared.instruction.Unit.{Unit as ProgramUnit}
 use Rattle.bpf_model.specs.Program.{ProgramText, IsGood, as_loaded}
 use Rattle.bpf_model.specs.Reading.{units}
-use Rattle.bpf_decode.specs.Encoded.{encoded}
+use Rattle.bpf_model.specs.Encoded.{encoded}
 use Rattle.bpf_asm.specs.declared.program_file.ProgramFileFault.{ProgramFileFault}
 use Rattle.bpf_asm.specs.Program.{AssemblesTo}
 use Rattle.bpf_asm.specs.ProgramFile.{unit_lines}
-use Rattle.reg_types.specs.RefusedPrograms.{refusal_of}
+use Rattle.verifier.specs.RefusedPrograms.{refusal_of}
 
 -- The text has at most 65,536 bytes and assembles to a program, and the program's units are printed.
 abbrev pub Assembles : List ℕ → List ℕ → Type 0

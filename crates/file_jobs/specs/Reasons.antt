@@ -6,13 +6,13 @@ use Rattle.bpf_model.specs.declared.instruction.Unit.TheVariants.{First}
 use Rattle.bpf_model.specs.Program.{ProgramText}
 use Rattle.bpf_model.specs.Reading.{units}
 use Rattle.bpf_asm.specs.Numbered.{line_of_unit}
-use Rattle.helpers.specs.declared.Kind.{Kind}
-use Rattle.helpers.specs.Calls.{signature}
-use Rattle.reg_types.specs.declared.refusal.Refusal.{Refusal}
-use Rattle.reg_types.specs.declared.refusal.Refusal.TheVariants.{«Type» as OfType}
-use Rattle.reg_types.specs.declared.refusal.TypeFault.TheVariants.{BadArgument}
-use Rattle.reg_types.specs.Refusals.{refusal_numbers}
-use Rattle.reg_types.specs.RefusedPrograms.{IsRefused, refusal_of}
+use Rattle.verifier.specs.declared.helpers.Kind.{Kind}
+use Rattle.verifier.specs.HelperCalls.{signature}
+use Rattle.verifier.specs.declared.refusal.Refusal.{Refusal}
+use Rattle.verifier.specs.declared.refusal.Refusal.TheVariants.{«Type» as OfType}
+use Rattle.verifier.specs.declared.refusal.TypeFault.TheVariants.{BadArgument}
+use Rattle.verifier.specs.Refusals.{refusal_numbers}
+use Rattle.verifier.specs.RefusedPrograms.{IsRefused, refusal_of}
 use Rattle.bpf_asm.specs.ProgramFile.{unit_line}
 use Rattle.file_jobs.specs.declared.reasons.RefusedProgram.{RefusedProgram}
 

@@ -1,17 +1,17 @@
 //! Carries out the acts of a script on a site.
 ghost use Rattle.std.specs.Prelude.{◌≡◌, ℕ, None, Option, Some};
-ghost use Rattle.reg_types.specs.Refusals.{refusal_numbers};
+ghost use Rattle.verifier.specs.Refusals.{refusal_numbers};
 ghost use Rattle.bpf_model.specs.Program.{ProgramText, as_loaded};
-ghost use Rattle.reg_types.specs.RefusedPrograms.{IsRefused, IsRefusal, MayRunOutOfMemory, refusal_of};
+ghost use Rattle.verifier.specs.RefusedPrograms.{IsRefused, IsRefusal, MayRunOutOfMemory, refusal_of};
 ghost use Rattle.site_core.specs.Site.{SiteValue, act_of};
 ghost use Rattle.file_jobs.specs.Loading.{IsLoadRefusal};
 ghost use Rattle.file_jobs.specs.Play.{EventAnswered, LoadAnswered, ActAnswered};
 
-use reg_types::Refusal;
 use site_core::auditing::event_of;
 use site_core::{CallFault, Event, Site, What};
 use std::alloc::Global;
 use till_request::{Act, Answer};
+use verifier::Refusal;
 
 /// The number of the pass with which all acts of a script are entered.
 const PASS: u32 = 1;

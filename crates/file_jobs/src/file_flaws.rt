@@ -1,14 +1,14 @@
 //! Why a file is refused, in words and as a line.
 ghost use Rattle.std.specs.Prelude.{◌≡◌, ◌++◌, codes, IfOk, IsErr, string_bytes};
-ghost use Rattle.reg_types.specs.Refusals.{refusal_numbers};
+ghost use Rattle.verifier.specs.Refusals.{refusal_numbers};
 ghost use Rattle.file_jobs.specs.FileFlaws.{line_of, refusal_line};
 
 use crate::reasons::RefusedProgram;
 use bpf_asm::{AsmFault, AsmFlaw, ProgramFileFault};
-use reg_types::Refusal;
 use std::alloc::{AllocError, Global};
 use std::fmt;
 use till_request::Answer;
+use verifier::Refusal;
 
 /// Why `fc asm`, `fc dis` or `fc verify` refuses a file.
 #[derive(Drop)]

@@ -1,10 +1,10 @@
 //! What a play reports besides its answers.
-use reg_types::Refusal;
 use till_request::Act;
+use verifier::Refusal;
 
 /// A receiver of what a play (a run of a script) reports besides its answers.
 pub trait PlayNotices {
-    ghost use Rattle.reg_types.specs.declared.refusal.Refusal.{Refusal};
+    ghost use Rattle.verifier.specs.declared.refusal.Refusal.{Refusal};
     ghost use Rattle.till_request.specs.declared.act.Act.{Act};
     ghost use Rattle.file_jobs.specs.Loading.{IsRefusedLoad};
 

@@ -1,6 +1,6 @@
 //! Reads the opening that a site begins with, and says why one is refused.
 ghost use Rattle.std.specs.Prelude.{◌≡◌, ◌≢◌, ◌≤◌, ◌++◌, ◌∷◌, ℕ, List, [], Some, decimal, IfOk, IfErr, vec_len};
-ghost use Rattle.reg_types.specs.Refusals.{refusal_numbers};
+ghost use Rattle.verifier.specs.Refusals.{refusal_numbers};
 ghost use Rattle.file_jobs.specs.AuditOutput.{program_text};
 ghost use Rattle.days.specs.Chain.{BeginsBy};
 ghost use Rattle.days.specs.File.{IsOpeningFile};
@@ -21,12 +21,12 @@ use crate::statuses::REFUSED;
 use days::beginning::begun;
 use days::reading::read_opening;
 use days::{OpeningFile, OpeningFlaw, Unfit};
-use reg_types::Refusal;
 use site_config::Serve;
 use site_core::{Config, OpeningFault};
 use std::alloc::Global;
 use std::fmt::Display;
 use std::io::Read;
+use verifier::Refusal;
 
 /// The most bytes of an opening's file. One with the longest programs has some 150,000.
 const MOST_OPENING: usize = 262_144;

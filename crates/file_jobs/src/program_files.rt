@@ -11,10 +11,11 @@ use crate::reasons::explain_refusal;
 use bpf_asm::flaw::explain;
 use bpf_asm::program_file::{read_program, unit_lines};
 use bpf_asm::{MOST_BYTES, ProgramFileFault, assemble, disassemble, disassemble_numbered};
-use bpf_decode::{Code, DecodeFault, decode, encode};
-use reg_types::verifier::verify;
-use reg_types::{Layout, Refusal};
+use bpf_model::decode::{decode, encode};
+use bpf_model::{Code, DecodeFault};
 use std::alloc::Global;
+use verifier::verifying::verify;
+use verifier::{Layout, Refusal};
 
 /// Returns what `fc asm` prints of an assembler text: its units, each as a line of 16 hexadecimal digits.
 pub fn asm_file<'a>(alloc: Global, text: &'a [u8]) -> Result<String, FileFlaw<'a>>

@@ -1,18 +1,20 @@
 //! The reasons why a program is refused, in words.
 ghost use Rattle.std.specs.Prelude.{◌≡◌, ◌↔◌, IfOk, IsOk, IsTrue, MatchOption, Some, None, option_map, string_bytes};
 ghost use Rattle.bpf_model.specs.Reading.{units};
-ghost use Rattle.reg_types.specs.Refusals.{refusal_numbers};
+ghost use Rattle.verifier.specs.Refusals.{refusal_numbers};
 ghost use Rattle.file_jobs.specs.Reasons.{number_in, unit_in, kind_wanted, wanted_at, wanted_in};
 ghost use Rattle.file_jobs.specs.Reasons.{digits_line, line_named};
 ghost use Rattle.file_jobs.specs.FlawTexts.{kind_text};
 
 use bpf_asm::instruction_line;
 use bpf_asm::program_file::unit_lines;
-use bpf_decode::{Code, DecodeFault, Unit, decode};
-use helpers::{Kind, arguments};
-use reg_types::{Refusal, TypeFault};
+use bpf_model::decode::decode;
+use bpf_model::instruction::Unit;
+use bpf_model::{Code, DecodeFault};
 use std::alloc::{AllocError, Global};
 use std::fmt;
+use verifier::helpers::{Kind, arguments};
+use verifier::{Refusal, TypeFault};
 
 /// Why a program is refused, with the line of the unit at fault, and what kind of value an argument at fault must be.
 #[derive(Drop)]

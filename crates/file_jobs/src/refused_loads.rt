@@ -4,10 +4,10 @@ use crate::PlayNotices;
 use crate::messages::print_message;
 use crate::progress::Progress;
 use crate::reasons::explain_refusal;
-use reg_types::Refusal;
 use std::alloc::AllocError;
 use std::cell::Cell;
 use till_request::Act;
+use verifier::Refusal;
 
 /// Prints why a load is refused, with the number of its line.
 #[derive(Drop)]

@@ -1,6 +1,6 @@
 // The memory of a run, and what the run reads: its context and its view of the site.
 
-use helpers::View;
+use verifier::View;
 
 /// The memory of a run: the stack's bytes, and the 11 registers as 64-bit words. The stack is the first field, so that
 /// the processor adds no offset to find its bytes.

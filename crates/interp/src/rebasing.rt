@@ -7,13 +7,11 @@ ghost use Rattle.bpf_model.specs.Machine.{counter};
 ghost use Rattle.bpf_model.specs.Runs.{Ended};
 ghost use Rattle.bpf_model.specs.Program.{outcome};
 ghost use Rattle.bpf_model.specs.Layouts.{layout_of, bytes_of};
-ghost use Rattle.counters.specs.Changes.{adopted};
+ghost use Rattle.verifier.specs.CounterChanges.{adopted};
 ghost use Rattle.interp.specs.Depends.{Agrees};
 
 use bpf_model::context::Context;
-use counters::Counters;
-use helpers::View;
-use reg_types::Program;
+use verifier::{Counters, Program, View};
 
 /// Sets the counters of `now` that the program declares to those of `after`, and changes no others. If a run of
 /// `program` with this context and view changes the counters from `before` to `after`, then a run on the old `now`

@@ -11,7 +11,7 @@ use Rattle.std.proofs.lemmas.List.Elements.{All-map, All-set}
 use Rattle.bpf_model.specs.Program.{IsGood, ProgramText}
 use Rattle.bpf_model.specs.Machine.{Counters}
 use Rattle.bpf_model.specs.Runs.{AreCounters}
-use Rattle.reg_types.specs.RefusedPrograms.{refusal_of}
+use Rattle.verifier.specs.RefusedPrograms.{refusal_of}
 use Rattle.till_request.specs.declared.act.Act.{Act}
 use Rattle.till_request.specs.declared.act.Act.TheVariants as act
 use Rattle.till_request.specs.declared.act.Reply.{Reply}

@@ -11,7 +11,7 @@ use Rattle.std.proofs.Math.Nat.{one-le-pow, div-lt_iff_lt-mul, div-eq_of_lt}
 use Rattle.std.proofs.Math.Pow.{pow_mono}
 use Rattle.std.specs.Prelude.{if◌then◌else◌, ◌==◌}
 use Rattle.std.specs.List.{range_with_len}
-use Rattle.counters.specs.Changes.{adopted}
+use Rattle.verifier.specs.CounterChanges.{adopted}
 
 at-place : (a b : Counters) (k : ℕ) → length a ≡ 32 → length b ≡ 32 → (k < 32 → counter a k ≡ counter b k) → (k < 32) ⊎ (32 ≤ k) → counter b k ≡ counter a k
 at-place a b k la lb same (inl lt) = sym (same lt)

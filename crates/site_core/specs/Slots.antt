@@ -3,7 +3,7 @@
 use Rattle.std.specs.Prelude.{◌≡◌, ◌≤◌, ℕ, ◌-◌, ◌==◌, nat_lt, if◌then◌else◌, List, [], ◌∷◌, slice_get, slice_index_or, Option, option_map, Some, None}
 use Rattle.std.specs.List.{repeat}
 use Rattle.bpf_model.specs.Program.{ProgramText, IsGood}
-use Rattle.reg_types.specs.RefusedPrograms.{refusal_of}
+use Rattle.verifier.specs.RefusedPrograms.{refusal_of}
 use Rattle.site_core.specs.SlotsValue.{SlotsValue, Version}
 
 -- Either there is no version, or the version's number is from 1 to `versions`, the verifier accepts its program, and

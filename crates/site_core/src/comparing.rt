@@ -11,11 +11,9 @@ ghost use Rattle.site_core.specs.Decide.{is_declared};
 ghost use Rattle.site_core.specs.Differences.{FirstDiffers, CounterDiffers};
 ghost use Rattle.bpf_model.specs.declared.limits.TheConstants.{COUNTERS, POINTS};
 
-use counters::Counters;
-use helpers::{PointView, View};
 use crate::slots::Slots;
-use reg_types::Program;
 use std::sync::Arc;
+use verifier::{Counters, PointView, Program, View};
 
 pub fn first_byte(a: &[u8], b: &[u8]) -> Option<u32>
     requires many { length a.now ≡ length b.now }

@@ -6,11 +6,11 @@ ghost use Rattle.bpf_model.specs.declared.limits.TheConstants.{COUNTERS};
 
 use crate::question::{Kind, Question};
 use crate::replies::{BAD_AMOUNT, TRANSACTIONS_FULL, wrong_state};
-use counters::Counters;
 use decision_journal::Counts;
 use fuelling_point::{Command, Point, State};
 use std::alloc::{AllocError, Global};
 use till_request::Reply;
+use verifier::Counters;
 
 /// The greatest amount of a release or a preset, in cents.
 const GREATEST_AMOUNT: u64 = 999_999_999;

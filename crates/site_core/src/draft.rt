@@ -13,19 +13,17 @@ use crate::config::Config;
 use crate::events::{Answered, point_asked};
 use crate::perform::{asked_question, routed};
 use crate::question::Question;
+use crate::slots::Slots;
 use crate::station::Station;
 use crate::why::{CommitFault, Why};
 use bpf_model::context::Context;
-use counters::Counters;
 use decision_journal::{Entry, Run};
-use helpers::View;
 use interp::run;
-use crate::slots::Slots;
-use reg_types::Program;
 use std::alloc::AllocError;
 use std::marker::Model;
 use std::sync::Arc;
 use till_request::{Act, Request};
+use verifier::{Counters, Program, View};
 
 #[derive(Clone, Copy)]
 struct Input {

@@ -6,11 +6,11 @@ ghost use Rattle.site_core.specs.Opening.{HaveOwnNumbers, IsNewNumber, IsOpening
 ghost use Rattle.site_core.specs.Fitting.{AreLastNumbersWithinLimit, IsFirstLimitFault, Misfits};
 
 use crate::same::{are_same_counters, are_same_points, are_same_rules};
-use counters::Counters;
-use fuelling_point::Point;
 use crate::version::Version;
+use fuelling_point::Point;
 use std::fmt;
 use std::marker::Model;
+use verifier::Counters;
 
 /// The greatest number of a point's newest transaction. A day has 1,048,576 entries at most, so the numbers of its
 /// transactions stay below 2^32.

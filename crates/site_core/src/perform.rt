@@ -20,13 +20,13 @@ use crate::config::Config;
 use crate::events::{Event, What};
 use crate::question::{Question, RequestAction, request_action};
 use crate::replies::{NO_SUCH_SLOT, NO_SUCH_TILL, VERSIONS_FULL, no_program};
+use crate::slots::{SlotFault, Slots};
 use crate::station::Station;
 use decision_journal::{Entry, Run};
-use crate::slots::{SlotFault, Slots};
-use reg_types::Program;
 use std::alloc::{AllocError, Global};
 use std::sync::Arc;
 use till_request::{Act, Bytes, Reply, Request};
+use verifier::Program;
 
 /// Carries out an event, and returns its entry. After an error the station and the slots are unchanged.
 pub fn perform(

@@ -3,9 +3,9 @@
 ghost use Rattle.std.specs.Prelude.{◌≡◌, ◌↔◌, IsTrue};
 
 use crate::comparing::is_same_program;
-use counters::Counters;
-use fuelling_point::{Order, Point, Snapshot, State, Transaction};
 use crate::version::Version;
+use fuelling_point::{Order, Point, Snapshot, State, Transaction};
+use verifier::Counters;
 
 pub fn are_same_points(a: &[Point], b: &[Point]) -> bool
     ensures { IsTrue result ↔ (a.now ≡ b.now) }

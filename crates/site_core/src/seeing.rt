@@ -5,7 +5,7 @@ ghost use Rattle.site_core.specs.State.{seen, seen_points};
 ghost use Rattle.bpf_model.specs.declared.limits.TheConstants.{POINTS};
 
 use fuelling_point::Point;
-use helpers::PointView;
+use verifier::PointView;
 
 pub fn seen(point: &Point) -> PointView
     ensures { result ≡ seen point.now }

@@ -10,10 +10,10 @@ ghost use Rattle.site_core.specs.Slots.{program_among};
 ghost use Rattle.site_core.specs.Installing.{Installs, Refuses};
 
 use crate::version::Version;
-use reg_types::Program;
 use std::alloc::{AllocError, Global};
 use std::marker::Model;
 use std::sync::Arc;
+use verifier::Program;
 
 /// The most versions that can be installed in all slots together, besides those that the slots begin with.
 pub const VERSIONS: usize = 4096;

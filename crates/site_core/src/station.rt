@@ -27,16 +27,14 @@ use crate::question::{Kind, Question};
 use crate::replies::{NO_SUCH_POINT, denied, event_reply, fault_reply};
 use crate::seeing::{seen, seen_points, set_if_changed};
 use bpf_model::context::{Context, Layout};
-use counters::Counters;
 use decision_journal::Counts;
 use fuelling_point::{Command, DispenserEvent, Point, State};
-use helpers::View;
 use interp::rebasing::rebase;
 use interp::run;
-use reg_types::Program;
 use std::alloc::{AllocError, Global};
 use std::marker::Model;
 use till_request::Reply;
+use verifier::{Counters, Program, View};
 
 /// The state of a site. `cleared` is the total of all cleared amounts in cents, `clears` the number of these clears.
 #[derive(Drop)]

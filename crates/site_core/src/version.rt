@@ -1,10 +1,9 @@
-
 ghost use Rattle.std.specs.Prelude.{◌≡◌, IfOk};
 
-use reg_types::Program;
 use std::alloc::AllocError;
 use std::marker::Model;
 use std::sync::Arc;
+use verifier::Program;
 
 /// A program that was installed in a slot, and its number, counted from 1.
 #[derive(Drop)]

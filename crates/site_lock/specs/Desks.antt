@@ -1,8 +1,8 @@
 -- Definitions: the answers of a desk over a forecourt and a pass (source: this project).
 use Rattle.std.specs.Prelude.{◌≡◌, ℕ, ◌≤◌, length, true, Option, Some, None, Result, Ok, Err}
-use Rattle.reg_types.specs.declared.refusal.Refusal.{Refusal}
-use Rattle.reg_types.specs.Refusals.{refusal_numbers}
-use Rattle.reg_types.specs.RefusedPrograms.{IsRefusal}
+use Rattle.verifier.specs.declared.refusal.Refusal.{Refusal}
+use Rattle.verifier.specs.Refusals.{refusal_numbers}
+use Rattle.verifier.specs.RefusedPrograms.{IsRefusal}
 use Rattle.till_request.specs.declared.act.Act.{Act}
 use Rattle.till_request.specs.declared.act.Act.TheVariants.{Till, Dispenser, Load}
 use Rattle.till_request.specs.declared.act.Reply.{Reply}

@@ -3,11 +3,11 @@
 use Rattle.std.specs.Prelude.{◌≡◌, ℕ, List, Result, IfOk, IfErr}
 use Rattle.bpf_model.specs.declared.context.Layout.{Layout}
 use Rattle.bpf_model.specs.Program.{ProgramText, IsGood, as_loaded}
-use Rattle.reg_types.specs.declared.refusal.Refusal.{Refusal}
-use Rattle.reg_types.specs.declared.refusal.Refusal.TheVariants.{OutOfMemory}
-use Rattle.reg_types.specs.Passing.{WrapsNoOutOfMemory}
-use Rattle.reg_types.specs.Plain.{IsPlain}
-use Rattle.reg_types.specs.RefusedPrograms.{IsRefused, IsVerdict}
+use Rattle.verifier.specs.declared.refusal.Refusal.{Refusal}
+use Rattle.verifier.specs.declared.refusal.Refusal.TheVariants.{OutOfMemory}
+use Rattle.verifier.specs.Passing.{WrapsNoOutOfMemory}
+use Rattle.verifier.specs.Plain.{IsPlain}
+use Rattle.verifier.specs.RefusedPrograms.{IsRefused, IsVerdict}
 
 pub record IsVerified (bytes : List ℕ) (declared : ℕ) (layout : Layout) (answer : Result ProgramText Refusal) : Type 0 where
   pub same : IfOk answer (λ p. p ≡ as_loaded bytes declared layout)

@@ -1,7 +1,7 @@
 //! A desk that calls a forecourt with a pass.
 ghost use Rattle.std.specs.Prelude.{◌≡◌, ℕ};
 ghost use Rattle.till_request.specs.declared.act.Act.{Act};
-ghost use Rattle.reg_types.specs.RefusedPrograms.{IsRefusal};
+ghost use Rattle.verifier.specs.RefusedPrograms.{IsRefusal};
 ghost use Rattle.site_core.specs.Audit.{IsRefusedAct};
 ghost use Rattle.site_core.specs.Histories.{load_refusal};
 ghost use Rattle.site_core.specs.Limits.{ConfigValue};
@@ -14,12 +14,12 @@ use super::gate::Gate;
 use super::journal::{Journal, NoJournal};
 use super::pass::{Pass, SiteLedger};
 use line_session::Desk;
-use reg_types::Refusal;
 use site_core::auditing::event_of;
 use site_core::{Answered, CallFault};
 use std::alloc::Global;
 use std::sync::Wait;
 use till_request::{Act, Answer};
+use verifier::Refusal;
 
 /// Calls a forecourt with one pass and one gate. A load's program is verified before the lock is taken; where it is
 /// refused, no event reaches the forecourt.

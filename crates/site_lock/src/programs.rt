@@ -2,11 +2,11 @@
 ghost use Rattle.std.specs.Prelude.{◌≡◌, ℕ, ◌<◌, ◌≤◌, length, IfOk, slice_index_or, vec_len};
 ghost use Rattle.site_lock.specs.Verdicts.{IsVerified};
 
-use reg_types::verifier::verify;
-use reg_types::{Layout, Program, Refusal, TypeFault};
 use std::alloc::{AllocError, Global};
 use std::thread;
 use std::thread::Threads;
+use verifier::verifying::verify;
+use verifier::{Layout, Program, Refusal, TypeFault};
 
 /// Stands for a result until it is there. `verify` never returns it, as no program has a unit of this number.
 const UNDECIDED: Refusal = Refusal::Type(TypeFault::FallsOff(u32::MAX));

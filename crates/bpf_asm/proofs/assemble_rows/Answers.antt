@@ -1,5 +1,5 @@
 use Rattle.std.proofs.Common.{◌≡◌, ◌<◌, ◌≤◌, ℕ, List, true, map, length, Bor, sym, ap, ◌∙◌, subst, rules}
-use Rattle.bpf_decode.specs.Making.{AreUnits}
+use Rattle.bpf_model.specs.Making.{AreUnits}
 use Rattle.bpf_asm.specs.declared.grammar.Line.{Line}
 use Rattle.bpf_asm.specs.Program.{Row, Definition, row, definition, AreWithin}
 use Rattle.bpf_asm.proofs.Assembling.{places_within, right_count, spelled_by, spelled_units, units_length}

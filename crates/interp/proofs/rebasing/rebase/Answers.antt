@@ -1,9 +1,9 @@
 use Rattle.std.proofs.Common.{◌≡◌, ◌∙◌, sym, ap, subst, length}
 use Rattle.bpf_model.specs.Layouts.{context_len, bytes_of}
-use Rattle.reg_types.specs.LoadOptions.{options_of}
+use Rattle.verifier.specs.LoadOptions.{options_of}
 use Rattle.bpf_model.specs.Program.{outcome}
 use Rattle.bpf_model.specs.Machine.{counter}
-use Rattle.counters.specs.Changes.{adopted}
+use Rattle.verifier.specs.CounterChanges.{adopted}
 use Rattle.interp.proofs.Depending.{rebased}
 use Rattle.interp.proofs.rebasing.rebase.Goals as goal
 

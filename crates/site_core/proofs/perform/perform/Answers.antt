@@ -2,7 +2,7 @@ use Rattle.std.proofs.Common.{◌≡◌, ◌∙◌, sym, subst, arith, None}
 use Rattle.std.proofs.lemmas.Grind.{common_steps}
 use Rattle.std.specs.Arc.{arc_value}
 use Rattle.bpf_model.specs.Program.{ProgramText, IsGood}
-use Rattle.reg_types.specs.RefusedPrograms.{refusal_of}
+use Rattle.verifier.specs.RefusedPrograms.{refusal_of}
 use Rattle.till_request.specs.declared.act.Act.TheVariants as act
 use Rattle.site_core.specs.Histories.{load_refusal}
 use Rattle.site_core.specs.Legal.{GoodLoad}

@@ -1,6 +1,0 @@
-use Rattle.std.proofs.Common.{◌≡◌, take}
-use Rattle.bpf_decode.specs.Encoded.{encoded}
-use Rattle.bpf_decode.proofs.encode.Given as goal
-
-abbrev pub invariant-loop-unit : goal.invariant-loop-unit
-invariant-loop-unit l = l.bytes.items ≡ encoded (take l.unit-index l.units)

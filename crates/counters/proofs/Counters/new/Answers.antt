@@ -1,5 +1,0 @@
-use Rattle.std.proofs.Common.{rules}
-use Rattle.counters.proofs.Counters.new.Goals as goal
-
-pub invariant_of-result : goal.invariant_of-result
-invariant_of-result c = record { many = search rules; bounded = c.requires; small = c.prove_small.ensures }

@@ -1,6 +1,0 @@
-use Rattle.std.proofs.Common.{◌≡◌, None}
-use Rattle.bpf_model.specs.Flow.{flow_fault_below}
-use Rattle.flow_check.proofs.first_jump_fault.Given as goal
-
-abbrev pub invariant-loop-pc : goal.invariant-loop-pc
-invariant-loop-pc l = flow_fault_below l.units l.pc ≡ None

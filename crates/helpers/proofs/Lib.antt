@@ -1,2 +1,0 @@
-pub mod Storing
-pub mod Meaning

@@ -1,7 +1,0 @@
-use Rattle.byteorder.specs.Endian.{little_bytes}
-use Rattle.helpers.proofs.Storing.{stored_part}
-use Rattle.helpers.proofs.memory.put_double.Goals as goal
-
-pub returns : goal.returns
-returns c =
-    stored_part c.args.memory.now c.args.at (little_bytes 8 c.args.n) c.write_u64.new.buf c.told-memory c.requires c.write_u64.ensures

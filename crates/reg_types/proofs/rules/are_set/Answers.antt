@@ -1,5 +1,0 @@
-use Rattle.reg_types.proofs.Stack.{tells_all}
-use Rattle.reg_types.proofs.rules.are_set.Goals as goal
-
-pub returns : goal.returns
-returns c = tells_all c.args.set.now c.args.at c.args.len c.all_set.result c.all_set.ensures.0 c.all_set.ensures.1

@@ -1,0 +1,23 @@
+pub mod Jumps
+pub mod Marking
+pub mod StoredParts
+pub mod HelperMeaning
+pub mod Pushing
+pub mod Values
+pub mod Stack
+pub mod Calls
+pub mod Keeping
+pub mod Steps
+pub mod Good
+pub mod Tables
+pub mod Inference
+pub mod Storing
+pub mod Accepted
+pub mod Ahead
+pub mod Accepting
+pub mod Showing
+pub mod Visiting
+pub mod Counting
+pub mod Walking
+pub mod Answering
+mod Rows

@@ -1,0 +1,105 @@
+// Sets of bytes of a program's stack. A byte is named by its place: 0 to 511, counted from the lowest byte.
+
+ghost use Rattle.std.specs.Prelude.{◌≡◌, ℕ, ◌+◌, ◌-◌, ◌*◌, ◌^◌, ◌<◌, ◌≤◌, ◌⊎◌, ◌↔◌, IsTrue};
+ghost use Rattle.std.specs.Int.{bit_at};
+ghost use Rattle.verifier.specs.Places.{Has, Within};
+ghost use Rattle.bpf_model.specs.declared.limits.TheConstants.{STACK_BYTES};
+
+use std::marker::Model;
+
+/// A set of bytes of a program's stack. Each byte is named by its place: 0 to 511, counted from the lowest byte. The
+/// set is stored as bits: bit i of word k is 1 if place 64 k + i is in the set.
+#[derive(Clone, Copy)]
+pub struct StackMap {
+    words: [u64; 8],
+}
+
+impl Model for StackMap {
+    ghost use Rattle.std.specs.Prelude.{List, Bool};
+    ghost use Rattle.std.proofs.Common.{ap};
+    ghost use Rattle.verifier.specs.Places.{places_of, words_of, AreWords};
+    ghost use Rattle.verifier.specs.StackWords.{words_kept};
+
+    ghost Value = { List Bool };
+
+    ghost view = { λ s. places_of s.words };
+
+    ghost inverse = { λ places. record { words = words_of 8 places } };
+
+    ghost invariant = { λ s. AreWords s.words };
+
+    ghost inverse_ok = { λ s h. ap (λ words. record { words = words }) (words_kept s.words h.many h.small) };
+}
+
+// Returns the number whose lowest `n` bits are 1, and the others 0. `n` must be at most 64.
+fn low_bits(n: u32) -> u64
+    requires { n ≤ 64 }
+    ensures { result ≡ 2 ^ n - 1 }
+{
+    if n == 64 { u64::MAX } else { (1 << n) - 1 }
+}
+
+// Returns a bit mask for word number `word`, which must be 0 to 7: bit i is 1 if place 64 `word` + i is one of the
+// `len` places that begin at `at`, and else 0. `at` + `len` must be at most 512.
+fn mask_of(word: u32, at: u32, len: u32) -> u64
+    requires word { word < 8 }
+    requires inside { at + len ≤ STACK_BYTES }
+    ensures { (i : ℕ) → i < 64 → (bit_at result i ≡ 1) ↔ Within at len (64 * word + i) }
+{
+    let first = 64 * word;
+    let from = at.clamp(first, first + 64) - first;
+    let to = (at + len).clamp(first, first + 64) - first;
+    low_bits(to) - low_bits(from)
+}
+
+impl StackMap {
+    /// Returns the empty set.
+    pub fn empty() -> StackMap
+        ensures { (p : ℕ) → ¬ (Has result p) }
+    {
+        StackMap { words: [0; 8] }
+    }
+
+    /// Adds to the set the `len` places that begin at `at`. `at` + `len` must be at most 512.
+    pub fn mark(&mut self, at: u32, len: u32)
+        requires { at + len ≤ STACK_BYTES }
+        ensures { (p : ℕ) → Has self.new p ↔ (Has self.old p ⊎ Within at len p) }
+    {
+        for k in at / 64..(at + len).div_ceil(64) {
+            self.words[k as usize] |= mask_of(k, at, len);
+        }
+    }
+
+    /// Removes from the set the `len` places that begin at `at`. `at` + `len` must be at most 512.
+    pub fn clear(&mut self, at: u32, len: u32)
+        requires { at + len ≤ STACK_BYTES }
+        ensures { (p : ℕ) → Has self.new p ↔ (Has self.old p × ¬ (Within at len p)) }
+    {
+        for k in at / 64..(at + len).div_ceil(64) {
+            self.words[k as usize] &= !mask_of(k, at, len);
+        }
+    }
+
+    /// Returns whether the set has all of the `len` places that begin at `at`. `at` + `len` must be at most 512.
+    pub fn all_set(&self, at: u32, len: u32) -> bool
+        requires { at + len ≤ STACK_BYTES }
+        ensures { IsTrue result ↔ ((p : ℕ) → Within at len p → Has self.now p) }
+    {
+        for k in at / 64..(at + len).div_ceil(64) {
+            let mask = mask_of(k, at, len);
+            if self.words[k as usize] & mask != mask {
+                return false;
+            }
+        }
+        true
+    }
+
+    /// Removes from the set each place that isn't in `other`.
+    pub fn meet(&mut self, other: &StackMap)
+        ensures { (p : ℕ) → Has self.new p ↔ (Has self.old p × Has other.now p) }
+    {
+        for k in 0..8 {
+            self.words[k] &= other.words[k];
+        }
+    }
+}
