@@ -12,18 +12,15 @@ use crate::line::{cut, row_of};
 use std::alloc::{AllocError, Global};
 use std::fmt;
 
-/// A fault of an assembler text, with the line or the label that its message shows, if it shows one. `Display` writes
-/// the message.
+/// A fault with the line or the label that its message shows, if it shows one. `Display` writes the message.
 #[derive(Clone, Copy)]
 pub enum AsmFlaw<'a> {
-    /// A1: the text begins with a byte order mark, so its first line can't be parsed.
+    /// A1: the text begins with a byte order mark.
     ByteOrderMark,
-    /// A1: the line can't be parsed, and without its LF it ends with a CR.
+    /// A1: the line ends with a CR before its LF.
     CarriageReturn,
-    /// A1: this line can't be parsed, and neither `ByteOrderMark` nor `CarriageReturn` applies.
-    ///
-    /// `explain` also returns this flaw if its caller passes the fault A2 (a wrong label) for a line that is empty or
-    /// can't be parsed. `assemble` never finds A2 in such a line.
+    /// A1, for another reason. Also what `explain` makes of A2 for a line that is empty or can't be parsed, in which
+    /// `assemble` never finds A2.
     NoForm(&'a [u8]),
     /// A2: an earlier line defines this label too.
     DuplicateLabel(&'a [u8]),
@@ -31,7 +28,7 @@ pub enum AsmFlaw<'a> {
     UndefinedLabel(&'a [u8]),
     /// A3: a number in this line is out of range.
     OutOfRange(&'a [u8]),
-    /// A4: the program doesn't have 1 to 512 units. A unit is an instruction slot of eight bytes.
+    /// A4: the program doesn't have 1 to 512 units of eight bytes.
     Length,
 }
 
@@ -65,8 +62,8 @@ impl fmt::Display for AsmFlaw<'_> {
 /// The most bytes of a line or a label that a message shows.
 const MOST_SHOWN: usize = 80;
 
-/// A line or a label. `Display` writes its first 80 bytes, and then ` ..` if it has more. A byte that isn't a printable
-/// ASCII character is written as `\x` and two lower case hexadecimal digits.
+/// `Display` writes the first 80 bytes, and ` ..` if there are more. A byte that isn't a printable ASCII character is
+/// written as `\x` and two lower case hexadecimal digits.
 #[derive(Clone, Copy)]
 struct Beginning<'a>(&'a [u8]);
 
@@ -85,22 +82,18 @@ impl fmt::Display for Beginning<'_> {
     }
 }
 
-/// Returns the first 80 bytes of a line or a label, or all of them if it has fewer.
 fn first_bytes(line: &[u8]) -> &[u8]
     ensures { result.now ≡ take 80 line.now }
 {
     &line[..MOST_SHOWN.min(line.len())]
 }
 
-/// Returns what is written after the first 80 bytes of a line or a label: ` ..` if it has more, else nothing.
 fn ending(line: &[u8]) -> &'static str
     ensures { result.now ≡ ending line.now }
 {
     if line.len() > MOST_SHOWN { " .." } else { "" }
 }
 
-/// Writes a printable ASCII character as it is, and any other byte as `\x` and two lower case hexadecimal digits. The
-/// error is that the formatter failed.
 fn write_byte<W: fmt::Write>(f: &mut fmt::Formatter<W>, byte: u8) -> fmt::Result
     ensures { WritesOnOk W.write_str_gives f.old result (shown_byte byte) f.new }
 {
@@ -111,8 +104,7 @@ fn write_byte<W: fmt::Write>(f: &mut fmt::Formatter<W>, byte: u8) -> fmt::Result
     }
 }
 
-/// Returns line `number` of a text, without its LF. Lines count from 1, and 0 also gives line 1. Returns an empty line
-/// if the text has fewer lines. The error is that memory ran out.
+/// Lines count from 1. An empty line if the text has fewer.
 fn line_of(alloc: Global, text: &[u8], number: u64) -> Result<&[u8], AllocError>
     ensures { IfOk result (λ line. line.now ≡ line_at text.now number) }
 {
@@ -135,9 +127,7 @@ fn has_return(line: &[u8]) -> bool
     line.ends_with(b"\r")
 }
 
-/// Returns the flaw for the fault `BadLine(number)`: line `number` can't be parsed (A1). The flaw is `ByteOrderMark`
-/// for line 1 of a text that begins with a byte order mark, else `CarriageReturn` if the line without its LF ends with
-/// a CR, else `NoForm`. The error is that memory ran out. `ByteOrderMark` needs no memory, so there is no error for it.
+/// Finding `ByteOrderMark` takes no memory.
 fn formless<'a>(alloc: Global, text: &'a [u8], number: u64) -> Result<AsmFlaw<'a>, AllocError>
     ensures flaw { IfOk result (Explains text.now (AsmFault.BadLine number)) }
     ensures mark { is_marked text.now number ≡ true → IsOk result }
@@ -153,10 +143,7 @@ fn formless<'a>(alloc: Global, text: &'a [u8], number: u64) -> Result<AsmFlaw<'a
     }
 }
 
-/// Returns the flaw for the fault `BadLabel(number)`: line `number` has a wrong label (A2). If the line defines a
-/// label, the flaw is `DuplicateLabel` with this label. If the line is an instruction, the flaw is `UndefinedLabel`
-/// with the text of the line's last token. In a jump to a label, this text is the label. If the line is empty or can't
-/// be parsed, the flaw is `NoForm` with the line. The error is that memory ran out.
+/// Shows the label that line `number` defines, or that its jump names by its last token.
 fn label_of<'a>(alloc: Global, text: &'a [u8], number: u64) -> Result<AsmFlaw<'a>, AllocError>
     ensures { IfOk result (Explains text.now (AsmFault.BadLabel number)) }
 {
@@ -175,9 +162,8 @@ fn out_of_range<'a>(alloc: Global, text: &'a [u8], number: u64) -> Result<AsmFla
     Ok(AsmFlaw::OutOfRange(line))
 }
 
-/// Returns the flaw for `fault`: the fault with the line or the label that its message shows. Callers pass a fault that
-/// `assemble` found in this text. The error is that memory ran out in this call, or that `fault` is `OutOfMemory`.
-/// There is no error for `Length`, and none for `BadLine(1)` if the text begins with a byte order mark.
+/// `fault` is one that `assemble` found in this text. Never an error for `Length`, nor for `BadLine(1)` if the text
+/// begins with a byte order mark; always one for `OutOfMemory`.
 pub fn explain<'a>(
     alloc: Global,
     text: &'a [u8],

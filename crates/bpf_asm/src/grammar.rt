@@ -6,14 +6,14 @@ ghost use Rattle.bpf_asm.specs.Grammar as spec;
 use crate::token::Token;
 use bpf_model::instruction::{Condition, Form, Operator, Size, Source, Width};
 
-/// A number with its sign. `size` is its absolute value, or `None` if that is above 2^64 - 1.
+/// A number with its sign. `size` is `None` if its absolute value is above 2^64 - 1.
 #[derive(Clone, Copy)]
 pub struct Value {
     pub negative: bool,
     pub size: Option<u64>,
 }
 
-/// The fields of an instruction, as parsed. Its numbers aren't checked yet, so they can be out of range.
+/// The numbers aren't checked yet, so they can be out of range.
 #[derive(Clone, Copy)]
 pub struct Fields {
     pub dst: u8,
@@ -22,17 +22,15 @@ pub struct Fields {
     pub imm: Value,
 }
 
-/// The target of a jump. `Label` is the label that the line's last token names. `Distance` counts units (of 8 bytes)
-/// from the unit after the jump.
+/// `Label` is the label that the line's last token names. `Distance` counts units from the unit after the jump.
 #[derive(Clone, Copy)]
 pub enum Target {
     Label,
     Distance(Value),
 }
 
-/// A parsed instruction. `Wide` is the load of a 64-bit number. Its first value is the register's number. Its second
-/// value is the number to load, or `None` if that is above 2^64 - 1. `Jump` is a jump. Its distance is in its target
-/// and not in its fields. `Plain` is any other instruction.
+/// `Wide` is the load of a 64-bit number: the register, and the number, `None` if that is above 2^64 - 1. A `Jump` has
+/// its distance in its target and not in its fields.
 #[derive(Clone, Copy)]
 pub enum Statement {
     Plain(Form, Fields),
@@ -40,8 +38,7 @@ pub enum Statement {
     Jump(Form, Fields, Target),
 }
 
-/// A parsed line, without its comment: an empty line, the definition of a label, or an instruction. It doesn't hold the
-/// label's name, which is the line's first token.
+/// A parsed line, without its comment. A label's name isn't held: it is the line's first token.
 #[derive(Clone, Copy)]
 pub enum Line {
     Empty,
@@ -116,9 +113,7 @@ fn is_word(token: Token) -> bool
     )
 }
 
-// Parses the tokens after `r1 OPERATOR=`, or after `r1 =` for MOV, and returns the instruction. Returns `None` unless
-// they are one register of the same width as r1, or one number, with or without a `-` before it. `width` and `dst` are
-// the width and the number of r1. `offset` is the value of the instruction's offset field.
+// What follows `r1 OPERATOR=`, or `r1 =` for MOV: a register of the same width as r1, or a number.
 fn operand(
     operator: Operator,
     offset: u64,
@@ -165,8 +160,7 @@ fn target_of(tokens: &[Token]) -> Option<Target>
     }
 }
 
-// Parses `(SIZE *)` at the start of the tokens. Returns SIZE, which can be any token, and the tokens after the `)`.
-// Returns `None` if the tokens don't begin with `(SIZE *)`.
+// Parses `(SIZE *)`. Returns SIZE, which can be any token, and the tokens after the `)`.
 fn sized(tokens: &[Token]) -> Option<(Token, &[Token])>
     ensures { option_map (λ p. (p.0, p.1.now)) result ≡ spec.sized tokens.now }
 {
@@ -176,8 +170,7 @@ fn sized(tokens: &[Token]) -> Option<(Token, &[Token])>
     }
 }
 
-// Parses `(r2 + N)` or `(r2 - N)` at the start of the tokens, where r2 can be any 64-bit register. Returns the
-// register's number, N with its sign, and the tokens after the `)`. Returns `None` if the tokens begin with neither.
+// Parses `(r2 + N)` or `(r2 - N)`. Returns the register, N with its sign, and the tokens after the `)`.
 fn based(tokens: &[Token]) -> Option<(u8, Value, &[Token])>
     ensures { option_map (λ p. (p.0, p.1, p.2.now)) result ≡ spec.based tokens.now }
 {
@@ -226,8 +219,7 @@ fn load(dst: u8, tokens: &[Token]) -> Option<Statement>
     }
 }
 
-// Returns how many bits this size has (8, 16 or 32), or `None` if no MOV of this width sign-extends a number of this
-// size.
+// The bits of a size from which a MOV of this width can extend the sign.
 fn extension(width: Width, size: Size) -> Option<u64>
     ensures { result ≡ spec.extension width size }
 {
@@ -283,8 +275,7 @@ fn is_full(width: Width) -> bool
     matches!(width, Width::Bits64)
 }
 
-// Parses the tokens after `r1 = -`, where r1 can be any register, as NEG. Returns `None` unless they are one token, the
-// same register again. `width` and `dst` are the width and the number of r1.
+// NEG: after `r1 = -`, the same register again.
 fn negated(width: Width, dst: u8, tokens: &[Token]) -> Option<Statement>
     ensures { result ≡ spec.only_assigned width dst (Token.Minus ∷ tokens.now) }
 {
@@ -297,8 +288,7 @@ fn negated(width: Width, dst: u8, tokens: &[Token]) -> Option<Statement>
     }
 }
 
-// Parses the tokens after `r1 = (`, where r1 can be any register, as a sign extension, as in `r1 = (s8)r2`. Returns
-// `None` if they aren't one. `width` and `dst` are the width and the number of r1.
+// A sign extension, as in `r1 = (s8)r2`, after `r1 = (`.
 fn extended(width: Width, dst: u8, tokens: &[Token]) -> Option<Statement>
     ensures { result ≡ spec.only_assigned width dst (Token.Open ∷ tokens.now) }
 {
@@ -318,9 +308,7 @@ fn extended(width: Width, dst: u8, tokens: &[Token]) -> Option<Statement>
     }
 }
 
-// Parses the tokens after `r1 = le16` and the like, where r1 can be any register, as END (a swap of bytes). Returns
-// `None` unless they are one token, the same register again, and the register has 64 bits. `order`, `source` and `bits`
-// are the width, the source and the immediate of the instruction. `width` and `dst` are the width and the number of r1.
+// END (a swap of bytes): after `r1 = le16` and the like, the same register again, of 64 bits.
 fn swapped(
     order: Width,
     source: Source,
@@ -340,9 +328,7 @@ fn swapped(
     }
 }
 
-// Parses the tokens after `r1 = N`, where r1 can be any register, as a wide load (of a 64-bit number). Returns `None`
-// unless they are one token, `ll`, and r1 is a 64-bit register. `n` is N, or `None` if N is above 2^64 - 1. `width` and
-// `dst` are the width and the number of r1.
+// A wide load (of a 64-bit number): `ll` after `r1 = N`. `n` is `None` if N is above 2^64 - 1.
 fn wide(n: Option<u64>, width: Width, dst: u8, tokens: &[Token]) -> Option<Statement>
     ensures { result ≡ spec.only_assigned width dst (Token.Number n ∷ tokens.now) }
 {
@@ -352,9 +338,7 @@ fn wide(n: Option<u64>, width: Width, dst: u8, tokens: &[Token]) -> Option<State
     }
 }
 
-// Parses the tokens after `r1 =` as NEG, a sign extension, END (a swap of bytes), a wide load (of a 64-bit number) or a
-// load. Returns `None` if they are none of these, as in a MOV of a register or a number. `width` and `dst` are the
-// width and the number of r1, which can be any register.
+// What only `=` begins: NEG, a sign extension, END, a wide load or a load, and not a MOV of a register or a number.
 fn only_assigned(width: Width, dst: u8, tokens: &[Token]) -> Option<Statement>
     ensures { result ≡ spec.only_assigned width dst tokens.now }
 {
@@ -369,8 +353,6 @@ fn only_assigned(width: Width, dst: u8, tokens: &[Token]) -> Option<Statement>
     }
 }
 
-// Parses the tokens after `r1 =` at the start of a line, where r1 can be any register, and returns the instruction.
-// Returns `None` if they can't be parsed. `width` and `dst` are the register's width and number.
 fn assigned(width: Width, dst: u8, tokens: &[Token]) -> Option<Statement>
     ensures { result ≡ spec.assigned width dst tokens.now }
 {
@@ -380,9 +362,7 @@ fn assigned(width: Width, dst: u8, tokens: &[Token]) -> Option<Statement>
     }
 }
 
-// Parses the tokens after the address of a store: `=`, then a 64-bit register or a number, with or without a `-` before
-// the number. Returns the store, whose address is the value of register `base` plus `offset`. Returns `None` if they
-// can't be parsed.
+// What follows the address of a store: `=`, then a 64-bit register or a number.
 fn stored(size: Size, base: u8, offset: Value, tokens: &[Token]) -> Option<Statement>
     ensures { result ≡ spec.stored size base offset tokens.now }
 {
@@ -427,9 +407,7 @@ fn jump_to(form: Form, fields: Fields, tokens: &[Token]) -> Option<Statement>
     Some(Statement::Jump(form, fields, target))
 }
 
-// Parses the tokens after `if r1 CMP r2`, where CMP is a comparison such as `==`: `goto` and a target. Returns the
-// instruction, or `None` if the tokens can't be parsed, or if the widths of `r1` and `r2` differ. `width` and `dst` are
-// the width and the number of `r1`, and `other` and `src` are those of `r2`.
+// After `if r1 CMP r2`: `goto` and a target. `width` and `dst` are of r1, `other` and `src` of r2.
 fn register_branch(
     condition: Condition,
     width: Width,
@@ -451,9 +429,7 @@ fn register_branch(
     }
 }
 
-// Parses the tokens after `if r1 CMP N`, where CMP is a comparison such as `==`: `goto` and a target. Returns the
-// instruction, or `None` if the tokens can't be parsed. `width` and `dst` are the width and the number of `r1`. `n` is
-// N, or `None` if N is above 2^64 - 1.
+// After `if r1 CMP N`: `goto` and a target. `n` is `None` if N is above 2^64 - 1.
 fn number_branch(
     condition: Condition,
     width: Width,
@@ -474,8 +450,7 @@ fn number_branch(
     }
 }
 
-// Parses the tokens after `if r1 CMP -`, where CMP is a comparison such as `==`: a number, `goto` and a target. Returns
-// the instruction, or `None` if the tokens can't be parsed. `width` and `dst` are the width and the number of `r1`.
+// After `if r1 CMP -`: a number, `goto` and a target.
 fn minus_branch(condition: Condition, width: Width, dst: u8, tokens: &[Token]) -> Option<Statement>
     ensures { result ≡ spec.branch condition width dst (Token.Minus ∷ tokens.now) }
 {
@@ -489,9 +464,7 @@ fn minus_branch(condition: Condition, width: Width, dst: u8, tokens: &[Token]) -
     }
 }
 
-// Parses the tokens after `if r1 CMP`, where CMP is a comparison such as `==`: the second operand, `goto` and a target.
-// Returns the instruction, or `None` if the tokens can't be parsed. `width` and `dst` are the width and the number of
-// `r1`.
+// After `if r1 CMP`: the second operand, `goto` and a target.
 fn branch(condition: Condition, width: Width, dst: u8, tokens: &[Token]) -> Option<Statement>
     ensures { result ≡ spec.branch condition width dst tokens.now }
 {
@@ -510,8 +483,7 @@ fn no_fields() -> Fields
     fields_of(0, 0, exactly(0), exactly(0))
 }
 
-// Returns the instruction for the tokens after a register at the start of a line, or `None` if they can't be parsed.
-// `width` and `dst` are the register's width and number.
+// What follows a register at the start of a line.
 fn changed(width: Width, dst: u8, tokens: &[Token]) -> Option<Statement>
     ensures { result ≡ spec.statement (Token.Register width dst ∷ tokens.now) }
 {
@@ -523,7 +495,6 @@ fn changed(width: Width, dst: u8, tokens: &[Token]) -> Option<Statement>
     }
 }
 
-// Returns the instruction for the tokens after `if`; `None` if they can't be parsed.
 fn conditional(tokens: &[Token]) -> Option<Statement>
     ensures { result ≡ spec.statement (Token.If ∷ tokens.now) }
 {
@@ -537,8 +508,7 @@ fn conditional(tokens: &[Token]) -> Option<Statement>
     }
 }
 
-// Returns the instruction for the tokens after `call`. Returns `None` unless they are one number, with or without a `-`
-// before it.
+// A number, with or without a `-` before it, after `call`.
 fn call(tokens: &[Token]) -> Option<Statement>
     ensures { result ≡ spec.statement (Token.Call ∷ tokens.now) }
 {
@@ -549,7 +519,6 @@ fn call(tokens: &[Token]) -> Option<Statement>
     }
 }
 
-// Returns the instruction `exit`, or `None` if there are tokens after this word.
 fn exit(tokens: &[Token]) -> Option<Statement>
     ensures { result ≡ spec.statement (Token.Exit ∷ tokens.now) }
 {
@@ -559,7 +528,6 @@ fn exit(tokens: &[Token]) -> Option<Statement>
     }
 }
 
-/// Parses the tokens of a line as an instruction and returns it, or `None` if they aren't one.
 pub fn statement_of(tokens: &[Token]) -> Option<Statement>
     ensures { result ≡ spec.statement tokens.now }
 {
@@ -576,8 +544,6 @@ pub fn statement_of(tokens: &[Token]) -> Option<Statement>
     }
 }
 
-/// Parses all tokens of a line. Returns an empty line if there are none, the definition of a label, or an instruction.
-/// Returns `None` if they are none of these.
 pub fn line_of(tokens: &[Token]) -> Option<Line>
     ensures { result ≡ spec.line_of tokens.now }
 {

@@ -1,6 +1,5 @@
-// Labels, and the units that they name. A unit is 8 bytes of a program, and units count from 0. A label names the first
-// unit of the next instruction, or the end of the program if no instruction follows. A row is a parsed line with a
-// label, as `line::row_of` returns it.
+// Labels, and the units that they name. A label names the first unit of the next instruction, or the end of the program
+// if none follows. A row is a parsed line with a label, as `line::row_of` returns it.
 
 ghost use Rattle.std.specs.Prelude.{◌≡◌, ◌≤◌, ◌++◌, [], ℕ, List, map, IfOk, OnOk, Some, is_some};
 ghost use Rattle.bpf_asm.specs.Program as spec;
@@ -9,8 +8,6 @@ use crate::AsmFault;
 use crate::grammar::{Line, Statement, Target};
 use std::alloc::{AllocError, Global};
 
-// Returns how many units (of 8 bytes) a line takes: 2 for a wide load, 1 for any other instruction, and 0 for a line
-// without an instruction.
 pub fn len_of(line: Line) -> u64
     ensures value { result ≡ spec.line_len_of line }
     ensures small { result ≤ 2 }
@@ -24,7 +21,6 @@ pub fn len_of(line: Line) -> u64
     }
 }
 
-/// Returns how many units (of 8 bytes) all rows together take.
 pub fn units_in(rows: &[(Line, &[u8])]) -> u64
     ensures { result ≡ spec.units_in (map (λ p. spec.row p.0 p.1.now) rows.now) }
 {
@@ -37,8 +33,6 @@ pub fn units_in(rows: &[(Line, &[u8])]) -> u64
     units
 }
 
-// If a row defines a label, adds this label to `labels` as the name of unit `at`. `parsed` is the row's parsed line,
-// and `name` is its label. The error is that memory ran out.
 fn define<'a>(
     labels: &mut Vec<(&'a [u8], u64)>,
     parsed: Line,
@@ -55,9 +49,7 @@ fn define<'a>(
     }
 }
 
-/// Returns the labels that the rows define, in their order, each with the number of the unit that it names. If no
-/// instruction follows a label, this number is the count of all units. A label that is defined twice is in the result
-/// twice. The error is that memory ran out.
+/// The labels in the order of their rows, each with the unit that it names. One that is defined twice is there twice.
 pub fn labels_of<'a>(
     alloc: Global,
     rows: &[(Line, &'a [u8])],
@@ -77,8 +69,7 @@ pub fn labels_of<'a>(
     Ok(labels)
 }
 
-/// Returns the unit that the label `name` names, or `None` if this label isn't in `labels`. `labels` has labels with
-/// their units, as `labels_of` returns them. If `labels` has this label more than once, returns the first one's unit.
+/// The unit of the first label of this name, `None` if there is none.
 pub fn place_of(mut labels: &[(&[u8], u64)], name: &[u8]) -> Option<u64>
     ensures { result ≡ spec.place_found (map (λ d. spec.definition d.0.now d.1) labels.entry.now) name.now }
 {
@@ -109,8 +100,7 @@ fn jumps_to_label(statement: Statement) -> bool
     matches!(statement, Statement::Jump(_, _, Target::Label))
 }
 
-// Returns whether a row defines a label that is in `seen`, or jumps to a label that isn't in `labels`. `seen` has the
-// labels that earlier rows define. `parsed` is the row's parsed line, and `name` is its label.
+// `seen` has the labels of earlier rows, `labels` those of all.
 fn is_wrong(labels: &[(&[u8], u64)], seen: &[&[u8]], parsed: Line, name: &[u8]) -> bool
     ensures { result ≡ spec.is_wrong (map (λ d. spec.definition d.0.now d.1) labels.now)
         (map (λ t. t.now) seen.now) parsed name.now }
@@ -123,8 +113,6 @@ fn is_wrong(labels: &[(&[u8], u64)], seen: &[&[u8]], parsed: Line, name: &[u8]) 
     }
 }
 
-// If a row defines a label, adds this label to `seen`. `parsed` is the row's parsed line, and `name` is its label. The
-// error is that memory ran out.
 fn note<'a>(seen: &mut Vec<&'a [u8]>, parsed: Line, name: &'a [u8]) -> Result<(), AllocError>
     ensures { OnOk result (map (λ t. t.now) seen.new.items
         ≡ spec.with_name parsed name.now (map (λ t. t.now) seen.old.items)) }
@@ -136,10 +124,8 @@ fn note<'a>(seen: &mut Vec<&'a [u8]>, parsed: Line, name: &'a [u8]) -> Result<()
     }
 }
 
-/// Returns the fault `BadLabel` for the first row with a wrong label, or `None` if there is no such row. A row has a
-/// wrong label if it defines a label that an earlier row defines too, or if it jumps to a label that isn't in `labels`.
-/// Callers pass as `labels` what `labels_of` returns for these rows. The number in the fault is the number of the row,
-/// counted from 1. The error is that memory ran out.
+/// The first row, counted from 1, that defines a label for the second time, or jumps to one that isn't in `labels`
+/// (what `labels_of` returns for these rows).
 pub fn label_fault(
     alloc: Global,
     labels: &[(&[u8], u64)],

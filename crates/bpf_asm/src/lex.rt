@@ -112,7 +112,7 @@ fn longest_symbol(text: &[u8]) -> usize
     symbol_len(&SYMBOLS, text)
 }
 
-/// Returns how many bytes the longest token at the start of a text has; 0 if no token begins there.
+/// How many bytes the longest token at the start of a text has; 0 if none begins there.
 pub fn token_len(text: &[u8]) -> usize
     ensures value { result ≡ spec.token_len text.now }
     ensures within { result ≤ length text.now }
@@ -136,8 +136,8 @@ fn lookup(mut table: &[(&[u8], Token)], text: &[u8], other: Token) -> Token
     other
 }
 
-// If the bytes of `text` after the first one are a number from 0 to 10 without leading zeros, returns the register of
-// this width and with this number. Returns `Name` for any other text. The first byte can be any byte.
+// The register of this width whose number, 0 to 10 without leading zeros, follows the first byte; `Name` for any other
+// text.
 fn numbered(width: Width, text: &[u8]) -> Token
     ensures { result ≡ spec.numbered width text.now }
 {
@@ -170,8 +170,7 @@ fn register_or_name(text: &[u8]) -> Token
     }
 }
 
-/// Returns the number of bytes of a line before its comment, which begins with `//`, or of the whole line if it has no
-/// comment.
+/// A comment begins with `//`.
 pub fn code_len(line: &[u8]) -> usize
     ensures value { result ≡ spec.code_len line.now }
     ensures within { result ≤ length line.now }
@@ -183,8 +182,8 @@ pub fn code_len(line: &[u8]) -> usize
     at
 }
 
-/// Splits `text`, a line without its comment and its LF, into tokens, and returns their texts in order. Spaces and tabs
-/// between tokens are skipped. Returns `None` if `text` has anything else in it. The error is that memory ran out.
+/// Splits a line without its comment and its LF into the texts of its tokens. `None` if it has anything else in it but
+/// spaces and tabs.
 pub fn split<'a>(alloc: Global, text: &'a [u8]) -> Result<Option<Vec<&'a [u8]>>, AllocError>
     ensures { IfOk result (λ found. option_map (λ v. map (λ t. t.now) v.items) found ≡ spec.split text.now) }
 {
@@ -248,7 +247,7 @@ fn lookup_symbol(text: &[u8], other: Token) -> Token
     lookup(&SYMBOLS, text, other)
 }
 
-// Returns the value of a number in decimal digits, or in hexadecimal digits after `0x`; `None` if it is 2^64 or more.
+// In decimal digits, or in hexadecimal ones after `0x`; `None` if it is 2^64 or more.
 fn number(text: &[u8]) -> Option<u64>
     ensures { result ≡ spec.small (spec.number_value text.now) }
 {
@@ -259,8 +258,6 @@ fn number(text: &[u8]) -> Option<u64>
     }
 }
 
-/// Returns the token that a text stands for: a number, a symbol, a word that has a token of its own, or a register.
-/// Returns `Name` for any other text.
 pub fn kind_of(text: &[u8]) -> Token
     ensures { result ≡ spec.kind_of text.now }
 {
@@ -271,7 +268,6 @@ pub fn kind_of(text: &[u8]) -> Token
     }
 }
 
-/// Returns the token of each text. The error is that memory ran out.
 pub fn kinds(alloc: Global, words: &[&[u8]]) -> Result<Vec<Token>, AllocError>
     ensures { IfOk result (λ v. v.items ≡ map spec.kind_of (map (λ t. t.now) words.now)) }
 {

@@ -18,8 +18,8 @@ use grammar::Line;
 use std::alloc::{AllocError, Global};
 use std::fmt::Write;
 
-/// Why a text can't be assembled. The number in a variant is the number of the line at fault, counted from 1.
-/// `flaw::explain` returns the `AsmFlaw` that writes the message about a fault.
+/// Why a text can't be assembled, with the number of the line at fault, counted from 1. `flaw::explain` has its
+/// message.
 #[derive(Clone, Copy)]
 pub enum AsmFault {
     /// A1: the line can't be parsed.
@@ -28,7 +28,7 @@ pub enum AsmFault {
     BadLabel(u64),
     /// A3: a number in the line is out of range.
     OutOfRange(u64),
-    /// A4: the program doesn't have 1 to 512 units. A unit is an instruction slot of eight bytes.
+    /// A4: the program doesn't have 1 to 512 units of eight bytes.
     Length,
     OutOfMemory,
 }
@@ -46,8 +46,7 @@ mod units;
 pub use flaw::AsmFlaw;
 pub use program_file::{MOST_BYTES, ProgramFileFault};
 
-/// Returns the number in the first of `units` if that is the second unit of a wide load, or else 0. This number is the
-/// upper 32 bits of the load's 64-bit number. Callers pass the units after an instruction's first unit.
+/// The upper 32 bits of a wide load's number, given the units after its first; 0 for any other instruction.
 fn high(units: &[Unit]) -> i32
     ensures { result ≡ high_of units.now }
 {
@@ -58,7 +57,7 @@ fn high(units: &[Unit]) -> i32
     }
 }
 
-/// Returns the text of a program: one line for each instruction, each with its LF. The error is that memory ran out.
+/// One line for each instruction, each with its LF.
 pub fn disassemble(alloc: Global, code: &Code) -> Result<String, AllocError>
     ensures { IfOk result (λ text. string_bytes text ≡ canonical_text code.now) }
 {
@@ -73,8 +72,7 @@ pub fn disassemble(alloc: Global, code: &Code) -> Result<String, AllocError>
     Ok(out)
 }
 
-/// Returns the line of the instruction that begins at unit `unit`, as `disassemble` writes it, with its LF. Units count
-/// from 0. The error is that memory ran out. If no instruction begins there, returns `None`, and there is no error.
+/// The line, with its LF, of the instruction that begins at unit `unit`, counted from 0; `None` if none begins there.
 pub fn instruction_line(alloc: Global, code: &Code, unit: u32) -> Result<Option<String>, AllocError>
     ensures line { IfOk result (λ found. option_map string_bytes found ≡ line_of_unit code.now unit) }
     ensures none { line_of_unit code.now unit ≡ None → IsOk result }
@@ -85,8 +83,6 @@ pub fn instruction_line(alloc: Global, code: &Code, unit: u32) -> Result<Option<
     }
 }
 
-/// Returns the line, with its LF, of the instruction that begins at the first of these units. The error is that memory
-/// ran out. If no instruction begins there, or if there are no units, returns `None`, and there is no error.
 fn front_line(alloc: Global, units: &[Unit]) -> Result<Option<String>, AllocError>
     ensures line { IfOk result (λ found. option_map string_bytes found ≡ front_of units.now) }
     ensures none { front_of units.now ≡ None → IsOk result }
@@ -102,8 +98,7 @@ fn front_line(alloc: Global, units: &[Unit]) -> Result<Option<String>, AllocErro
     }
 }
 
-/// Returns the text of a program, like `disassemble`, but each line begins with the number of the instruction's first
-/// unit, counted from 0, and `: `. The error is that memory ran out.
+/// Like `disassemble`, but each line begins with the number of the instruction's first unit, counted from 0, and `: `.
 pub fn disassemble_numbered(alloc: Global, code: &Code) -> Result<String, AllocError>
     ensures { IfOk result (λ text. string_bytes text ≡ numbered_from 0 code.now) }
 {
@@ -120,9 +115,6 @@ pub fn disassemble_numbered(alloc: Global, code: &Code) -> Result<String, AllocE
     Ok(out)
 }
 
-/// Appends `number`, `: `, and the line of the instruction `inst` with its LF. Callers pass as `number` the number of
-/// the instruction's first unit. `high` is the upper 32 bits of a wide load's number, and isn't used for other
-/// instructions. The error is that memory ran out.
 fn write_numbered(out: &mut String, number: u64, inst: Inst, high: i32) -> Result<(), AllocError>
     ensures { OnOk result (string_bytes out.new ≡ string_bytes out.old ++ decimal number ++ codes ": "
         ++ instruction_text (form_of inst.opcode) inst high) }
@@ -137,10 +129,7 @@ fn is_length(count: u64) -> bool
     1 <= count && count <= 512
 }
 
-// Assembles rows, which are parsed lines with their labels, and returns the program. The numbers of each row must be in
-// range, and an instruction in a row must be one of this profile. The rows that `line::rows_of` returns fulfil both
-// conditions. The error is always `Length` if the program doesn't have 1 to 512 units. Otherwise it is `BadLabel` for
-// the first row with a wrong label (A2), or that memory ran out.
+// Assembles rows as `line::rows_of` returns them.
 fn assemble_rows(alloc: Global, rows: &[(Line, &[u8])]) -> Result<Code, AsmFault>
     requires fits { spec.AreInRange (map (λ p. spec.row p.0 p.1.now) rows.now) }
     requires sound { AreSound (map (λ p. spec.row p.0 p.1.now) rows.now) }
@@ -171,9 +160,8 @@ fn assemble_rows(alloc: Global, rows: &[(Line, &[u8])]) -> Result<Code, AsmFault
     Ok(Code::from_units(units))
 }
 
-/// Assembles a text, and returns its program. The error is the fault of the first line that can't be parsed or has a
-/// number out of range. If there is no such line, it is `Length` if the program doesn't have 1 to 512 units, and
-/// otherwise `BadLabel` for the first line with a wrong label. It can also be that memory ran out.
+/// The error is the fault of the first line that can't be parsed or has a number out of range; else `Length`; else
+/// `BadLabel` for the first line with a wrong label. It can also be that memory ran out.
 pub fn assemble(alloc: Global, text: &[u8]) -> Result<Code, AsmFault>
     ensures ok { IfOk result (λ code. spec.AssemblesTo text.now code) }
     ensures refused { IfErr result (λ fault. spec.IsRefused text.now fault) }
@@ -188,14 +176,12 @@ pub fn assemble(alloc: Global, text: &[u8]) -> Result<Code, AsmFault>
     assemble_rows(alloc, rows.as_slice())
 }
 
-/// Does nothing. Its contract is a law: the text of a program, as `disassemble` writes it, assembles to this program
-/// and to no other.
+/// A law: the text of a program, as `disassemble` writes it, assembles to this program and to no other.
 pub fn law_of_canonical_text()
     ensures { RoundTrip }
 {}
 
-/// Disassembles a program, assembles the text, and returns the result, which is the same program. The error is that
-/// memory ran out.
+/// Assembles the text of a program, which gives the same program.
 pub fn reassemble(alloc: Global, code: &Code) -> Result<Code, AsmFault>
     ensures same { IfOk result (λ again. again ≡ code.now) }
     ensures refused { IfErr result (λ fault. fault ≡ AsmFault.OutOfMemory) }

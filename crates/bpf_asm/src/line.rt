@@ -59,9 +59,7 @@ fn label_of<'a>(line: Line, words: &[&'a [u8]]) -> &'a [u8]
     }
 }
 
-// Parses the tokens of a line. `words` are the texts of the tokens. Returns the parsed line and a text: the first
-// token's text if the line defines a label (this is the label), the last token's text if the line is an instruction, or
-// an empty text if the line is empty. Returns `None` if the tokens can't be parsed.
+// The row of a line, given the tokens and their texts.
 fn row_with<'a>(tokens: &[Token], words: &[&'a [u8]]) -> Option<(Line, &'a [u8])>
     ensures { option_map (λ p. spec.row p.0 p.1.now) result
         ≡ spec.row_with (parsed_line tokens.now) (map (λ t. t.now) words.now) }
@@ -70,9 +68,6 @@ fn row_with<'a>(tokens: &[Token], words: &[&'a [u8]]) -> Option<(Line, &'a [u8])
     Some((parsed, label_of(parsed, words)))
 }
 
-// Parses a line, given the texts of its tokens. Returns the parsed line and a text: the label if the line defines one,
-// the last token's text if the line is an instruction, or an empty text if the line is empty. Returns `None` if the
-// line can't be parsed. The error is that memory ran out.
 fn row_by<'a>(alloc: Global, words: &[&'a [u8]]) -> Result<Option<(Line, &'a [u8])>, AllocError>
     ensures { IfOk result (λ found. option_map (λ p. spec.row p.0 p.1.now) found
         ≡ spec.row_by (Some (map (λ t. t.now) words.now))) }
@@ -81,10 +76,9 @@ fn row_by<'a>(alloc: Global, words: &[&'a [u8]]) -> Result<Option<(Line, &'a [u8
     Ok(row_with(tokens.as_slice(), words))
 }
 
-/// Parses a line, given without its LF. Returns the parsed line and a text: the label if the line defines one, the last
-/// token's text if the line is an instruction, or an empty text if the line is empty. In a jump to a label, the last
-/// token's text is this label. Returns `None` if the line can't be parsed. The error is that memory ran out. A line
-/// with a byte that isn't ASCII, even in its comment, gives `None` and no error.
+/// Parses a line without its LF. The text is the label that it defines or, for an instruction, its last token (a jump's
+/// label); for an empty line it is empty. `None` if the line can't be parsed, as for a byte that isn't ASCII, even in a
+/// comment.
 pub fn row_of<'a>(alloc: Global, line: &'a [u8]) -> Result<Option<(Line, &'a [u8])>, AllocError>
     ensures found { IfOk result (λ found. option_map (λ p. spec.row p.0 p.1.now) found ≡ spec.row_of line.now) }
     ensures other { list_all (λ b. nat_lt b 128) line.now ≡ false → IsOk result }
@@ -95,8 +89,7 @@ pub fn row_of<'a>(alloc: Global, line: &'a [u8]) -> Result<Option<(Line, &'a [u8
     }
 }
 
-// Returns whether a number is in the range from minus `half` to `half` - 1. If its `size` is `None` (the absolute value
-// is 2^64 or more), the result is `false`.
+// From minus `half` to `half` - 1.
 fn fits(half: u64, value: Value) -> bool
     ensures { result ≡ spec.fits half value }
 {
@@ -127,9 +120,8 @@ fn statement_fits(statement: Statement) -> bool
     }
 }
 
-/// Returns whether all numbers of a parsed line are in range: an offset and the distance of `goto` from -2^15 to
-/// 2^15 - 1, the number of a wide load below 2^64, and any other number from -2^31 to 2^31 - 1. A line without an
-/// instruction has no numbers, and the result is `true`.
+/// Offsets and distances must be from -2^15 to 2^15 - 1, the number of a wide load below 2^64, any other number from
+/// -2^31 to 2^31 - 1.
 pub fn line_fits(line: Line) -> bool
     ensures { result ≡ spec.line_fits line }
 {
@@ -151,8 +143,7 @@ fn line_len(text: &[u8]) -> usize
     at
 }
 
-// Returns a text without its first `n` + 1 bytes: without its first line and the LF, if this line has `n` bytes. The
-// result is empty if the text has only `n` bytes. The text must have at least `n` bytes.
+// What follows the first line of `n` bytes and its LF.
 fn past(text: &[u8], n: usize) -> &[u8]
     requires { n ≤ length text.now }
     ensures value { result.now ≡ drop (n + 1) text.now }
@@ -163,8 +154,7 @@ fn past(text: &[u8], n: usize) -> &[u8]
     }
 }
 
-/// Splits a text into its lines, and returns them without their LF. The last line needs no LF. An empty text has no
-/// lines. The error is that memory ran out.
+/// The lines of a text without their LF. The last one needs none.
 pub fn cut<'a>(alloc: Global, text: &'a [u8]) -> Result<Vec<&'a [u8]>, AllocError>
     ensures { IfOk result (λ v. map (λ t. t.now) v.items ≡ spec.cut text.now) }
 {
@@ -179,10 +169,7 @@ pub fn cut<'a>(alloc: Global, text: &'a [u8]) -> Result<Vec<&'a [u8]>, AllocErro
     Ok(lines)
 }
 
-/// Parses `line`, whose number in the text is `number`. Returns the parsed line and a text: the label if the line
-/// defines one, the last token's text if the line is an instruction, or an empty text if the line is empty. The error
-/// is that the line can't be parsed (A1), that a number in it is out of range (A3), or that memory ran out. A line with
-/// a byte that isn't ASCII always gives A1.
+/// Like `row_of`, with its faults for line `number`.
 fn row_at<'a>(alloc: Global, number: u64, line: &'a [u8]) -> Result<(Line, &'a [u8]), AsmFault>
     ensures ok { IfOk result (λ p. spec.row_of line.now ≡ Some (spec.row p.0 p.1.now)) }
     ensures none { IfOk result (λ p. spec.row_fault number (spec.row_of line.now) ≡ None) }
@@ -202,9 +189,8 @@ fn row_at<'a>(alloc: Global, number: u64, line: &'a [u8]) -> Result<(Line, &'a [
     }
 }
 
-/// Parses all lines, and returns the parsed lines in their order, each with a label. The label is the one that the line
-/// defines or, for an instruction, the text of its last token. For an empty line it is empty. The error is the fault of
-/// the first line that can't be parsed (A1) or has a number out of range (A3). It can also be that memory ran out.
+/// Parses all lines (see `row_of`). The fault is that of the first line that can't be parsed (A1) or has a number out
+/// of range (A3).
 pub fn rows_of<'a>(alloc: Global, lines: &[&'a [u8]]) -> Result<Vec<(Line, &'a [u8])>, AsmFault>
     ensures ok { IfOk result
         (λ v. map (λ p. spec.row p.0 p.1.now) v.items ≡ spec.rows_of (map (λ t. t.now) lines.now)) }

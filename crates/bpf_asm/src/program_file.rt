@@ -1,4 +1,4 @@
-//! Program files. A program file has the bytes of a program as hexadecimal digits. Blanks in it are skipped.
+//! Program files: the bytes of a program as hexadecimal digits. Blanks are skipped.
 ghost use Rattle.std.specs.Prelude.{◌≡◌, ◌*◌, ◌+◌, ◌%◌, ◌≤◌, ◌<◌, length, filter, not, IfOk, OnOk, Err, ◌++◌, string_bytes};
 ghost use Rattle.bpf_asm.specs.ProgramFile.{Gives, bytes_or_fault, program_in, is_blank, unit_line, unit_lines};
 ghost use Rattle.hex.specs.Hex.{decode_of};
@@ -10,7 +10,6 @@ use std::fmt;
 /// The most bytes that a program file or an assembler text can have.
 pub const MOST_BYTES: usize = 65_536;
 
-/// Why a program file can't be read.
 #[derive(Clone, Copy)]
 pub enum ProgramFileFault {
     /// L1: the file has more than `MOST_BYTES` bytes.
@@ -47,14 +46,12 @@ impl From<AllocError> for ProgramFileFault {
     }
 }
 
-/// Returns whether a byte is a blank: a space, tab, CR or LF.
 fn is_a_blank(byte: u8) -> bool
     ensures { result ≡ is_blank byte }
 {
     byte == b' ' || byte == b'\t' || byte == b'\r' || byte == b'\n'
 }
 
-/// Returns a text without its blanks. The error is that memory ran out.
 fn without_blanks(alloc: Global, text: &[u8]) -> Result<Vec<u8>, AllocError>
     ensures { IfOk result (λ kept. kept.items ≡ filter (λ b. not (is_blank b)) text.now) }
 {
@@ -64,8 +61,7 @@ fn without_blanks(alloc: Global, text: &[u8]) -> Result<Vec<u8>, AllocError>
         .collect(alloc)
 }
 
-/// Returns the bytes that hexadecimal digits spell. The error is `BadDigits` if a byte isn't a hexadecimal digit or if
-/// the number of digits is odd, or that memory ran out. An odd number of digits always gives `BadDigits`.
+/// An odd number of digits always gives `BadDigits`, also where memory is short.
 fn bytes_of(alloc: Global, digits: &[u8]) -> Result<Vec<u8>, ProgramFileFault>
     ensures given { Gives (λ bytes. bytes.items) result (bytes_or_fault (decode_of digits.now)) }
     ensures odd { length digits.now % 2 ≡ 1 → result ≡ Err ProgramFileFault.BadDigits }
@@ -79,10 +75,8 @@ fn bytes_of(alloc: Global, digits: &[u8]) -> Result<Vec<u8>, ProgramFileFault>
     }
 }
 
-/// Reads a program file, whose bytes are `text`, and returns the program's bytes. Spaces, tabs, CR and LF are skipped.
-/// The error is `TooLong` if the file has more than 65,536 bytes. Otherwise it is `BadDigits` if a byte is neither one
-/// of these blanks nor a hexadecimal digit (lower or upper case) or if the number of digits is odd, or it is that
-/// memory ran out.
+/// Reads a program file of at most 65,536 bytes: hexadecimal digits in lower or upper case, with spaces, tabs, CR and
+/// LF between them.
 #[tactic(auto, unfolding(crate::specs::ProgramFile::program_in))]
 pub fn read_program(alloc: Global, text: &[u8]) -> Result<Vec<u8>, ProgramFileFault>
     ensures given { Gives (λ bytes. bytes.items) result (program_in text.now) }
@@ -95,8 +89,7 @@ pub fn read_program(alloc: Global, text: &[u8]) -> Result<Vec<u8>, ProgramFileFa
     bytes_of(alloc, digits.as_slice())
 }
 
-/// Appends a unit (8 bytes) of the program in `bytes` as a line: 16 lower case hexadecimal digits and an LF. `unit` is
-/// its number, counted from 0. All 8 bytes of the unit must be in `bytes`. The error is that memory ran out.
+/// Appends unit number `unit`, counted from 0, as 16 lower case hexadecimal digits and an LF.
 fn push_line(alloc: Global, text: &mut String, bytes: &[u8], unit: usize) -> Result<(), AllocError>
     requires { 8 * unit + 8 ≤ length bytes.now }
     ensures { OnOk result (string_bytes text.new ≡ string_bytes text.old ++ unit_line bytes.now unit) }
@@ -106,8 +99,7 @@ fn push_line(alloc: Global, text: &mut String, bytes: &[u8], unit: usize) -> Res
     text.push('\n')
 }
 
-/// Returns the units of a program as lines: for each whole unit of 8 bytes, 16 lower case hexadecimal digits and an LF.
-/// Bytes after the last whole unit are left out. The error is that memory ran out.
+/// A line of 16 lower case hexadecimal digits and an LF for each whole unit of 8 bytes. Further bytes are left out.
 pub fn unit_lines(alloc: Global, bytes: &[u8]) -> Result<String, AllocError>
     ensures { IfOk result (λ text. string_bytes text ≡ unit_lines bytes.now) }
 {

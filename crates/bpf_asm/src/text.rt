@@ -14,22 +14,19 @@ ghost use Rattle.bpf_model.specs.Reading.{form_of};
 use bpf_model::instruction::{Condition, Form, Inst, Operator, Size, Source, Width};
 use std::alloc::AllocError;
 
-// Appends `before` and a number in decimal digits. The error is that memory ran out.
 fn write_number(out: &mut String, before: &str, n: u64) -> Result<(), AllocError>
     ensures { OnOk result (string_bytes out.new ≡ string_bytes out.old ++ before.now ++ decimal n) }
 {
     write!(out, "{before}{n}")
 }
 
-// Appends `before` and a number in decimal digits, with `-` before a negative one. The error is that memory ran out.
 fn write_signed(out: &mut String, before: &str, n: i32) -> Result<(), AllocError>
     ensures { OnOk result (string_bytes out.new ≡ string_bytes out.old ++ before.now ++ signed_decimal n) }
 {
     write!(out, "{before}{n}")
 }
 
-// Appends `before` and the name of a register: `r` for 64 bits or `w` for 32, and its number. The error is that memory
-// ran out.
+// `r` for 64 bits or `w` for 32, and its number.
 fn write_register(
     out: &mut String,
     before: &str,
@@ -46,8 +43,6 @@ fn write_register(
     }
 }
 
-// Appends a space, a number in decimal digits with `-` before a negative one, and an LF, the end of the line. The error
-// is that memory ran out.
 fn end_with_number(out: &mut String, n: i32) -> Result<(), AllocError>
     ensures { OnOk result (string_bytes out.new ≡ string_bytes out.old ++ line_text (number n [])) }
 {
@@ -55,7 +50,6 @@ fn end_with_number(out: &mut String, n: i32) -> Result<(), AllocError>
     out.push_str("\n")
 }
 
-// Appends a space, the name of a register, and an LF, the end of the line. The error is that memory ran out.
 fn end_with_register(out: &mut String, width: Width, register: u8) -> Result<(), AllocError>
     ensures { OnOk result (string_bytes out.new ≡ string_bytes out.old
         ++ line_text (After (register_text width register) ∷ [])) }
@@ -145,8 +139,7 @@ fn name_of_extension(offset: i16) -> &'static str
     }
 }
 
-// Appends the second operand of an instruction, a number or a register, and the end of the line. The error is that
-// memory ran out.
+// Also ends the line, as do the functions below up to `write_right`.
 fn write_operand(
     out: &mut String,
     source: Source,
@@ -162,8 +155,7 @@ fn write_operand(
     }
 }
 
-// Appends what follows the `=` of END (a swap of bytes), as in ` le16 r1`, and the end of the line. The error is that
-// memory ran out.
+// What follows the `=` of END, as in ` le16 r1`.
 fn write_swapped(
     out: &mut String,
     width: Width,
@@ -179,7 +171,7 @@ fn write_swapped(
     end_with_register(out, Width::Bits64, inst.dst)
 }
 
-// Appends what follows the `=` of NEG, as in ` -r1`, and the end of the line. The error is that memory ran out.
+// What follows the `=` of NEG, as in ` -r1`.
 fn write_negated(
     out: &mut String,
     width: Width,
@@ -193,8 +185,7 @@ fn write_negated(
     out.push_str("\n")
 }
 
-// Appends what follows the `=` of a sign extension, as in ` (s8)r2`, and the end of the line. The error is that memory
-// ran out.
+// What follows the `=` of a sign extension, as in ` (s8)r2`.
 fn write_extended(out: &mut String, width: Width, inst: Inst) -> Result<(), AllocError>
     ensures { OnOk result (string_bytes out.new ≡ string_bytes out.old
         ++ line_text (After (codes "(") ∷ Next (extension_text inst.offset) ∷ Next (codes ")")
@@ -206,8 +197,7 @@ fn write_extended(out: &mut String, width: Width, inst: Inst) -> Result<(), Allo
     out.push_str("\n")
 }
 
-// Appends what follows the `=` of MOV: a number, a register or a sign extension, and the end of the line. The error is
-// that memory ran out.
+// What follows the `=` of MOV: a number, a register or a sign extension.
 fn write_moved(out: &mut String, width: Width, source: Source, inst: Inst) -> Result<(), AllocError>
     ensures { OnOk result (string_bytes out.new ≡ string_bytes out.old
         ++ line_text (right_pieces Operator.Mov width source inst)) }
@@ -224,8 +214,7 @@ fn write_moved(out: &mut String, width: Width, source: Source, inst: Inst) -> Re
     }
 }
 
-// Appends the second operand, a number or a register, and the end of the line. The operator must not be NEG, END or
-// MOV. The error is that memory ran out.
+// The operator must not be NEG, END or MOV.
 fn write_second(
     out: &mut String,
     operator: Operator,
@@ -240,8 +229,6 @@ fn write_second(
     write_operand(out, source, width, inst)
 }
 
-// Appends what follows the operator of an arithmetic instruction, and the end of the line. The error is that memory ran
-// out.
 fn write_right(
     out: &mut String,
     operator: Operator,
@@ -260,8 +247,7 @@ fn write_right(
     }
 }
 
-// Returns the width of the register before an operator: 64 bits for END (a swap of bytes), else the instruction's
-// width.
+// END names its register by 64 bits, whatever its width says.
 fn width_of_left(operator: Operator, width: Width) -> Width
     ensures { result ≡ left_width operator width }
 {
@@ -287,7 +273,6 @@ fn write_arithmetic(
     write_right(out, operator, width, source, inst)
 }
 
-// Returns the 64-bit number of a wide load, given its lower and its upper 32 bits.
 fn wide_number(low: i32, high: i32) -> u64
     ensures { result ≡ wide_value low high }
 {
@@ -304,7 +289,7 @@ fn write_wide(out: &mut String, dst: u8, value: u64) -> Result<(), AllocError>
     out.push_str(" ll\n")
 }
 
-// Appends an offset from a register, as in ` + 8` or ` - 8`. The error is that memory ran out.
+// As in ` + 8` or ` - 8`.
 fn write_shift(out: &mut String, offset: i16) -> Result<(), AllocError>
     ensures { OnOk result (string_bytes out.new ≡ string_bytes out.old ++ shift_text offset) }
 {
@@ -315,7 +300,7 @@ fn write_shift(out: &mut String, offset: i16) -> Result<(), AllocError>
     }
 }
 
-// Appends a place in memory, as in `*(u8 *)(r2 + 8)`. The error is that memory ran out.
+// As in `*(u8 *)(r2 + 8)`.
 fn write_place(out: &mut String, size: &str, base: u8, offset: i16) -> Result<(), AllocError>
     ensures { OnOk result (string_bytes out.new ≡ string_bytes out.old ++ place_text size.now base offset) }
 {
@@ -326,8 +311,6 @@ fn write_place(out: &mut String, size: &str, base: u8, offset: i16) -> Result<()
     out.push_str(")")
 }
 
-// Appends the line of a load, with its LF. `size` is the name of its size, such as `u8`. The error is that memory ran
-// out.
 fn write_load(out: &mut String, size: &str, inst: Inst) -> Result<(), AllocError>
     ensures { OnOk result (string_bytes out.new ≡ string_bytes out.old
         ++ line_text (Next (register_text Width.Bits64 inst.dst) ∷ After (codes "=") ∷ After (codes "*")
@@ -357,8 +340,7 @@ fn write_register_store(out: &mut String, size: Size, inst: Inst) -> Result<(), 
     end_with_register(out, Width::Bits64, inst.src)
 }
 
-// Appends `word`, a space, the distance `to` with its sign, and the end of the line. `word` is `goto` or `gotol`, and
-// can begin with a space. `to` is in units, from the unit after the jump. The error is that memory ran out.
+// `word` is `goto` or `gotol`, and can begin with a space. `to` counts units from the unit after the jump.
 fn write_goto(out: &mut String, word: &str, to: i32) -> Result<(), AllocError>
     ensures { OnOk result (string_bytes out.new ≡ string_bytes out.old
         ++ line_text (Next word.now ∷ distance to [])) }
@@ -372,8 +354,7 @@ fn write_goto(out: &mut String, word: &str, to: i32) -> Result<(), AllocError>
     }
 }
 
-// Appends what comes after the symbol of a comparison: the second operand, the jump, and the end of the line. The error
-// is that memory ran out.
+// What follows the symbol of a comparison: the second operand, the jump, and the end of the line.
 fn write_compared(
     out: &mut String,
     width: Width,
@@ -419,8 +400,8 @@ fn write_call(out: &mut String, inst: Inst) -> Result<(), AllocError>
     end_with_number(out, inst.imm)
 }
 
-/// Appends the line of an instruction, with its LF, or nothing if its opcode is unknown. `high` is the upper 32 bits of
-/// a wide load's number, and isn't used for other instructions. The error is that memory ran out.
+/// Writes a line with its LF, or nothing if the opcode is unknown. `high` has the upper 32 bits of a wide load's
+/// number.
 pub fn write_instruction(out: &mut String, inst: Inst, high: i32) -> Result<(), AllocError>
     ensures { OnOk result (string_bytes out.new ≡ string_bytes out.old
         ++ instruction_text (form_of inst.opcode) inst high) }

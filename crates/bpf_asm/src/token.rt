@@ -2,20 +2,18 @@
 
 use bpf_model::instruction::{Condition, Operator, Size, Source, Width};
 
-/// A token: a register with its width and its number, a number, a symbol, or a word.
 #[derive(Clone, Copy)]
 pub enum Token {
     Register(Width, u8),
     /// A number; `None` if it is above 2^64 - 1.
     Number(Option<u64>),
-    /// An operator with its `=`, as in `+=`, or `=` alone. The number is the value of the instruction's offset field: 1
-    /// for `s/=` and `s%=`, else 0. For `=` alone the number isn't used.
+    /// An operator with its `=`, as in `+=`, and the instruction's offset: 1 for `s/=` and `s%=`, else 0. For `=` alone
+    /// the number isn't used.
     Assign(Operator, u64),
     Compare(Condition),
     Unsigned(Size),
     Signed(Size),
-    /// One of the words for END (a swap of bytes), `le16` to `bswap64`: the width and the source of the instruction,
-    /// and the number of bits.
+    /// A word for END, `le16` to `bswap64`: the instruction's width and source, and the number of bits.
     Swap(Width, Source, u64),
     If,
     Goto,
@@ -33,7 +31,6 @@ pub enum Token {
     Name,
 }
 
-/// The symbols of the assembler text, each with its token.
 pub const SYMBOLS: [(&[u8], Token); 31] = [
     (b"+=", Token::Assign(Operator::Add, 0)),
     (b"-=", Token::Assign(Operator::Sub, 0)),
@@ -68,7 +65,6 @@ pub const SYMBOLS: [(&[u8], Token); 31] = [
     (b":", Token::Colon),
 ];
 
-/// The words that have a token of their own, each with this token.
 pub const WORDS: [(&[u8], Token); 22] = [
     (b"if", Token::If),
     (b"goto", Token::Goto),
@@ -105,8 +101,7 @@ pub const WORDS: [(&[u8], Token); 22] = [
 
 ghost use Rattle.bpf_asm.specs.Tables.{TablesMatchDefinitions};
 
-/// Does nothing. Its contract is a law: `SYMBOLS` has the entries of `written_symbols` in `specs/Tables.antt`, and
-/// `WORDS` has those of `written_words`.
+/// A law: the tables are those of `specs/Tables.antt`.
 pub fn tables()
     ensures { TablesMatchDefinitions }
 {}

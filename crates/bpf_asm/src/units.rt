@@ -92,7 +92,6 @@ fn jump_class(width: Width) -> u8
     }
 }
 
-/// Returns the opcode of an instruction of this form.
 pub fn opcode_of(form: Form) -> u8
     ensures { result ≡ spec.opcode_of form }
 {
@@ -115,7 +114,6 @@ pub fn opcode_of(form: Form) -> u8
     }
 }
 
-/// Returns a value as a 32-bit number. The value must be from -2^31 to 2^31 - 1.
 pub fn int_of(value: Value) -> i32
     requires { spec.fits (2 ^ 31) value ≡ true }
     ensures { result ≡ spec.int_of value }
@@ -132,7 +130,6 @@ pub fn int_of(value: Value) -> i32
     }
 }
 
-/// Returns a value as a 16-bit number. The value must be from -2^15 to 2^15 - 1.
 fn short_of(value: Value) -> i16
     requires { spec.fits (2 ^ 15) value ≡ true }
     ensures { result ≡ spec.int_of value }
@@ -170,8 +167,7 @@ fn place_or_zero(labels: &[(&[u8], u64)], name: &[u8]) -> u64
     }
 }
 
-// Returns the distance from a jump at unit `at` to unit `place`, in units counted from the unit after the jump. `at`
-// and `place` must be at most 512.
+// The distance from a jump at unit `at`, counted from the unit after it.
 fn apart(place: u64, at: u64) -> i16
     requires place { place ≤ UNITS }
     requires at { at ≤ UNITS }
@@ -182,8 +178,7 @@ fn apart(place: u64, at: u64) -> i16
     to - from
 }
 
-// Returns the distance from a jump at unit `at` to the label `name`, in units counted from the unit after the jump. A
-// label that isn't in `labels` counts as one that names unit 0. `at` and the units in `labels` must be at most 512.
+// As `apart`. A label that isn't in `labels` counts as one that names unit 0.
 fn distance_to(labels: &[(&[u8], u64)], at: u64, name: &[u8]) -> i16
     requires at { at ≤ UNITS }
     requires places { spec.AreWithin UNITS (map (λ d. spec.definition d.0.now d.1) labels.now) }
@@ -259,9 +254,7 @@ fn push_wide(units: &mut Vec<Unit>, dst: u8, n: u64) -> Result<(), AllocError>
     Ok(units.push(Unit::Second(high_half(n)))?)
 }
 
-// Appends the units of a parsed line, the first of which is unit `at` of the program. `name` is the line's label, and
-// is used only for a jump to a label. The line's numbers must be in range, as `line_fits` checks. `at` and the units in
-// `labels` must be at most 512. The error is that memory ran out.
+// Appends the units of a line, the first of which is unit `at`. `name` is used only for a jump to a label.
 fn push_units(
     units: &mut Vec<Unit>,
     labels: &[(&[u8], u64)],
@@ -296,9 +289,7 @@ fn push_units(
     }
 }
 
-/// Returns the units of all rows, in order. The rows' numbers must be in range, as `line::rows_of` checks, and the rows
-/// must have at most 512 units in all. The units in `labels` must be at most 512; callers pass what `label::labels_of`
-/// returns for these rows. The error is that memory ran out.
+/// `labels` are those that `label::labels_of` returns for these rows, which must have at most 512 units in all.
 pub fn units_of(
     alloc: Global,
     labels: &[(&[u8], u64)],

@@ -1,9 +1,9 @@
-// The context of a run (the record of bytes that R1 points to when a program starts), and its two layouts.
+// The context of a run, the bytes that R1 points to when a program starts, and its two layouts.
 
 ghost use Rattle.std.specs.Prelude.{◌≡◌, ◌≤◌, length};
 ghost use Rattle.bpf_model.specs.Layouts.{context_len, layout_of, bytes_of};
 
-/// The layout of a context: which fields and how many bytes the context has. `One` has 64 bytes, `Two` has 80.
+/// Which fields a context has. `One` has 64 bytes, `Two` has 80.
 #[derive(Clone, Copy, PartialEq)]
 pub enum Layout {
     One,
@@ -11,7 +11,6 @@ pub enum Layout {
 }
 
 impl Layout {
-    /// Returns how many bytes a context of this layout has: 64 or 80.
     pub fn len(self) -> u32
         ensures same { result ≡ context_len self }
         ensures least { 64 ≤ result }
@@ -24,7 +23,6 @@ impl Layout {
     }
 }
 
-/// The bytes of a context (the record that a program reads through R1), in one of the two layouts.
 #[derive(Clone, Copy, PartialEq)]
 pub enum Context {
     One([u8; 64]),
@@ -32,7 +30,6 @@ pub enum Context {
 }
 
 impl Context {
-    /// Returns the layout of this context.
     pub fn layout(&self) -> Layout
         ensures { result ≡ layout_of self.now }
     {
@@ -42,7 +39,6 @@ impl Context {
         }
     }
 
-    /// Returns all bytes of the context, in their order.
     pub fn bytes(&self) -> &[u8]
         ensures bytes { result.now ≡ bytes_of self.now }
         ensures many { length result.now ≡ context_len (layout_of self.now) }
@@ -54,7 +50,7 @@ impl Context {
     }
 }
 
-// Returns an array as a slice. The contract tells the prover the slice's length.
+// The contract tells the prover the slice's length.
 fn all_of<const N: usize>(bytes: &[u8; N]) -> &[u8]
     ensures bytes { result.now ≡ bytes.now }
     ensures many { length result.now ≡ N }

@@ -16,8 +16,8 @@ use std::alloc::{AllocError, Global};
 use std::fmt;
 use std::marker::Model;
 
-/// Why bytes can't be decoded as a program: their length is wrong, a unit is wrong, or memory ran out. The number in a
-/// variant is the number of the first wrong unit, counted from 0. `Display` doesn't write this number.
+/// Why bytes are no program. The number in a variant is that of the first wrong unit, counted from 0. `Display` doesn't
+/// write it.
 #[derive(Clone, Copy, PartialEq)]
 pub enum DecodeFault {
     Length,
@@ -67,8 +67,7 @@ impl Model for Code {
 }
 
 impl Code {
-    /// Makes a program of these units. There must be 1 to 512 of them: instructions without a fault, each wide load
-    /// followed by its second unit.
+    /// The units must be instructions without a fault, each wide load followed by its second unit.
     pub fn from_units(units: Vec<Unit>) -> Code
         requires sound { AreUnits true units.items }
         requires some { 0 < length units.items }
@@ -78,8 +77,6 @@ impl Code {
         Code { units }
     }
 
-    /// Returns the units of the program. The contract promises that there are 1 to 512 of them, and that there are
-    /// bytes that decode to them.
     pub fn units(&self) -> &[Unit]
         ensures same { result.now ≡ self.now }
         ensures program { IsProgram self.now }
@@ -110,8 +107,7 @@ fn imm_of(bytes: &[u8], pc: usize) -> i32
     LittleEndian::read_i32(&bytes[8 * pc + 4..])
 }
 
-// Returns the first fault of unit `pc`; `None` if it has none. `first` must say whether an instruction begins at the
-// unit. `bytes` must contain the unit, and have at most 4096 bytes.
+// `first` says whether an instruction begins at the unit.
 fn fault_of_unit(bytes: &[u8], pc: usize, first: bool) -> Option<UnitFault>
     requires room { 8 * pc + 8 ≤ length bytes.now }
     requires small { length bytes.now ≤ PROGRAM_BYTES }
@@ -151,15 +147,12 @@ fn fault_at(fault: UnitFault, pc: u32) -> DecodeFault
     }
 }
 
-// Returns whether a wide load begins at the unit whose first byte is `opcode`. If so, the next unit is the load's
-// second unit. `first` says whether an instruction begins at the unit.
 fn begins_wide(first: bool, opcode: u8) -> bool
     ensures { result ≡ (first && is_wide (form_of opcode)) }
 {
     first && matches!(Form::from_opcode(opcode), Some(Form::Wide))
 }
 
-// Adds a unit at the end of the list. The error is that memory ran out.
 fn keep(units: &mut Vec<Unit>, unit: Unit) -> Result<(), DecodeFault>
     ensures kept { OnOk result (units.new.items ≡ units.old.items ++ unit ∷ []) }
     ensures refused { IfErr result (λ e. e ≡ DecodeFault.OutOfMemory) }
@@ -170,8 +163,8 @@ fn keep(units: &mut Vec<Unit>, unit: Unit) -> Result<(), DecodeFault>
     }
 }
 
-/// Decodes bytes as a program. The error is `Length` if they aren't 1 to 512 units of 8 bytes. Otherwise it is the
-/// fault of the first wrong unit, or that memory ran out.
+/// The error is `Length` if the bytes aren't 1 to 512 units of 8, or else the fault of the first wrong unit, or that
+/// memory ran out.
 pub fn decode(alloc: Global, bytes: &[u8]) -> Result<Code, DecodeFault>
     ensures ok { IfOk result (λ code. units bytes.now ≡ Some code) }
     ensures refused { IfErr result (λ fault. IsRefusedFor bytes.now fault) }
@@ -195,7 +188,6 @@ pub fn decode(alloc: Global, bytes: &[u8]) -> Result<Code, DecodeFault>
     Ok(Code { units })
 }
 
-// Returns the eight bytes that encode a unit.
 fn bytes_of(unit: Unit) -> [u8; 8]
     ensures { result ≡ unit_bytes unit }
 {
@@ -222,7 +214,6 @@ fn bytes_of(unit: Unit) -> [u8; 8]
     }
 }
 
-/// Encodes a program: returns the bytes that `decode` decodes as the same units. The error is that memory ran out.
 pub fn encode(alloc: Global, code: &Code) -> Result<Vec<u8>, AllocError>
     ensures bytes { IfOk result (λ bytes. bytes.items ≡ encoded code.now) }
     ensures read_back { IfOk result (λ bytes. units bytes.items ≡ Some code.now) }
@@ -235,7 +226,7 @@ pub fn encode(alloc: Global, code: &Code) -> Result<Vec<u8>, AllocError>
     Ok(bytes)
 }
 
-/// Does nothing. Its contract is a law: no two different lists of bytes decode to the same program.
+/// A law: no two different lists of bytes decode to the same program.
 pub fn law_of_injective_decoding()
     ensures { IsDecodingInjective }
 {}

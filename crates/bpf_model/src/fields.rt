@@ -111,7 +111,7 @@ fn fits(form: Form, inst: Inst) -> bool
     }
 }
 
-// Returns whether a field is used by the form (`taken`) or is 0 (`zero`). A field that isn't used must be 0.
+// Whether the form uses the field (`taken`), or the field is 0 (`zero`).
 fn allows(taken: bool, zero: bool) -> bool
     ensures { result ≡ (taken || zero) }
 {
@@ -136,8 +136,7 @@ fn are_right_registers(form: Form, inst: Inst) -> bool
     (!taken.dst || inst.dst <= 10) && (!taken.src || inst.src <= 10)
 }
 
-/// Returns the first fault of an instruction's first unit; `None` if it has none. `last` says whether this is the
-/// program's last unit.
+/// `last` says whether this is the program's last unit.
 pub fn fault_of_first(inst: Inst, last: bool) -> Option<UnitFault>
     ensures { result ≡ first_fault (form_of inst.opcode) inst last }
 {

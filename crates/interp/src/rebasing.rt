@@ -1,6 +1,5 @@
-// The counters after a run, computed without making the run. They are derived from an earlier run of the same program
-// with the same context and view, which began with the same values and bounds of the declared counters. The undeclared
-// counters can have changed since then.
+// The counters after a run, computed without making the run: from an earlier run of the same program with the same
+// context and view, which began with the same declared counters.
 
 ghost use Rattle.std.specs.Prelude.{◌≡◌, ℕ};
 ghost use Rattle.bpf_model.specs.Machine.{counter};
@@ -13,10 +12,8 @@ ghost use Rattle.interp.specs.Depends.{Agrees};
 use bpf_model::context::Context;
 use verifier::{Counters, Program, View};
 
-/// Sets the counters of `now` that the program declares to those of `after`, and changes no others. If a run of
-/// `program` with this context and view changes the counters from `before` to `after`, then a run on the old `now`
-/// gives the same answer and changes the counters to the new `now`. The declared counters must be the same in `before`
-/// and `now`, and the context must have the program's layout.
+/// Sets the counters of `now` that the program declares to those of `after`, as a run on `now` would, which would also
+/// give the answer of the run that led from `before` to `after`.
 pub fn rebase(
     program: &Program,
     context: &Context,

@@ -9,7 +9,7 @@ ghost use Rattle.bpf_model.specs.declared.limits.TheConstants.{COUNTERS};
 
 use std::marker::Model;
 
-/// The 32 counters, each a pair of its value and its bound. A value is at most its bound.
+/// The 32 counters, each a pair of its value and its bound.
 #[derive(Clone, Copy)]
 pub struct Counters {
     cells: [(u64, u64); 32],
@@ -29,7 +29,6 @@ impl Model for Counters {
 }
 
 impl Counters {
-    /// Makes counters from pairs of a value and a bound, counter 0 first. Each value must be at most its bound.
     pub fn new(cells: [(u64, u64); 32]) -> Counters
         requires { All (λ c. c.0 ≤ c.1) cells }
         ensures { result ≡ cells }
@@ -38,7 +37,6 @@ impl Counters {
         Counters { cells }
     }
 
-    /// Returns the value of counter number `c`, which must be 0 to 31.
     pub fn get(&self, c: u32) -> u64
         requires { c < COUNTERS }
         ensures value { result ≡ (counter self.now c).0 }
@@ -47,7 +45,6 @@ impl Counters {
         self.cells[c as usize].0
     }
 
-    /// Returns the bound of counter number `c`, which must be 0 to 31.
     pub fn bound(&self, c: u32) -> u64
         requires { c < COUNTERS }
         ensures { result ≡ (counter self.now c).1 }
@@ -55,8 +52,7 @@ impl Counters {
         self.cells[c as usize].1
     }
 
-    /// Adds `n` to counter number `c`, which must be 0 to 31, and returns true. If the sum would be above the bound,
-    /// changes nothing and returns false.
+    /// Returns false, and changes nothing, if the sum would be above the bound.
     pub fn add(&mut self, c: u32, n: u64) -> bool
         requires { c < COUNTERS }
         ensures answer { result ≡ can_add self.old c n }
@@ -70,8 +66,7 @@ impl Counters {
         true
     }
 
-    /// Copies from `other` the counters that the mask `declared` names, with their values and bounds. Bit c of the mask
-    /// names counter c. Counters that the mask doesn't name stay as they are.
+    /// Copies from `other` the values and bounds of the counters that the mask declares: bit c for counter c.
     pub fn adopt(&mut self, declared: u32, other: &Counters)
         ensures { (c : ℕ) → counter self.new c ≡ adopted declared other.now self.old c }
     {
@@ -85,8 +80,7 @@ impl Counters {
         }
     }
 
-    /// Subtracts `n` from counter number `c`, which must be 0 to 31, and returns true. If `n` is above the value,
-    /// changes nothing and returns false.
+    /// Returns false, and changes nothing, if `n` is above the value.
     pub fn take(&mut self, c: u32, n: u64) -> bool
         requires { c < COUNTERS }
         ensures answer { result ≡ can_take self.old c n }
@@ -101,7 +95,7 @@ impl Counters {
     }
 }
 
-// Does nothing. Its contract is a law (a theorem): the bound of each counter is below 2^64, because it is a `u64`.
+// A law: each bound is below 2^64, because it is a `u64`.
 fn prove_small(cells: &[(u64, u64); 32])
     ensures { All (λ c. c.1 < 2 ^ 64) cells.now }
 {

@@ -14,8 +14,7 @@ use std::alloc::Global;
 use std::fmt;
 use std::marker::Model;
 
-/// Why a program's jumps are refused: what is wrong with the first wrong jump, or that memory ran out. The number in a
-/// variant is that of the jump's unit, counted from 0. `Display` doesn't write this number.
+/// The number in a variant is that of the first wrong jump's unit, counted from 0. `Display` doesn't write it.
 #[derive(Clone, Copy)]
 pub enum FlowFault {
     BackwardJump(u32),
@@ -40,7 +39,7 @@ impl fmt::Display for FlowFault {
     }
 }
 
-/// A decoded program. Each of its jumps goes forward to the first unit of an instruction.
+/// A program whose jumps all go forward to the first unit of an instruction.
 #[derive(Drop)]
 pub struct Flow {
     code: Code,
@@ -58,8 +57,7 @@ impl Model for Flow {
     ghost invariant = { λ f. GoesForward f.code };
 }
 
-// Returns the distance of a jump, in units from the unit after the jump; it is negative for a jump backwards. `None` if
-// the instruction isn't a jump.
+// In units from the unit after the jump; `None` if the instruction isn't a jump.
 fn distance_in(inst: Inst) -> Option<i64>
     ensures { result ≡ distance_by (form_of inst.opcode) inst }
 {
@@ -89,8 +87,6 @@ fn fault_of_landing(landing: Option<Unit>) -> Option<JumpFault>
     }
 }
 
-// Returns what is wrong with the jump at unit `pc` over this distance; `None` if nothing is wrong. `pc` must be below
-// 512. A `distance` of `None` means that no jump begins at `pc`; then the result is `None`.
 fn fault_of_distance(units: &[Unit], pc: usize, distance: Option<i64>) -> Option<JumpFault>
     requires { pc < UNITS }
     ensures { result ≡ distance_fault units.now pc distance }
@@ -110,8 +106,6 @@ fn fault_of_jump(units: &[Unit], pc: usize) -> Option<JumpFault>
     fault_of_distance(units, pc, distance(units[pc]))
 }
 
-// Returns the number of the unit of the first wrong jump, counted from 0, and what is wrong with it; `None` if no jump
-// is wrong.
 fn first_jump_fault(units: &[Unit]) -> Option<(u32, JumpFault)>
     requires { length units.now ≤ UNITS }
     ensures { result ≡ flow_fault units.now }
@@ -124,8 +118,6 @@ fn first_jump_fault(units: &[Unit]) -> Option<(u32, JumpFault)>
     None
 }
 
-// Returns the number of the unit to which the jump at unit `pc` goes; `None` if no jump begins at `pc`, or if this
-// number is below 0 or above 512.
 fn target_in(units: &[Unit], pc: u32) -> Option<u32>
     requires { length units.now ≤ UNITS }
     ensures { result ≡ target units.now pc }
@@ -144,9 +136,7 @@ fn fault_at(fault: JumpFault, pc: u32) -> FlowFault
     }
 }
 
-/// Checks that each jump of `code`, whether a run can reach it or not, goes forward to the first unit of an
-/// instruction, and returns the same program as a `Flow`. The error names the first wrong jump and what is wrong with
-/// it. It is never `OutOfMemory`, since nothing is allocated.
+/// Checks also jumps that no run reaches. Never fails for want of memory, since none is taken.
 pub fn check_flow(_alloc: Global, code: Code) -> Result<Flow, FlowFault>
     ensures ok { IfOk result (λ flow. (flow ≡ code) × (flow_fault code ≡ None)) }
     ensures refused { IfErr result (λ fault. IsFirstFlowFault code fault) }
@@ -158,8 +148,6 @@ pub fn check_flow(_alloc: Global, code: Code) -> Result<Flow, FlowFault>
 }
 
 impl Flow {
-    /// Returns the program. The contract promises that each of its jumps goes forward to the first unit of an
-    /// instruction.
     pub fn code(&self) -> &Code
         ensures same { result.now ≡ self.now }
         ensures forward { GoesForward self.now }
@@ -167,8 +155,7 @@ impl Flow {
         &self.code
     }
 
-    /// Returns the number of the unit to which the jump at unit `pc` goes, both counted from 0; `None` if no jump
-    /// begins at `pc`.
+    /// The unit to which the jump at unit `pc` goes; `None` if no jump begins there.
     pub fn target(&self, pc: u32) -> Option<u32>
         ensures same { result ≡ target self.now pc }
         ensures ahead { IfSome result (λ to. IsAhead self.now pc to) }

@@ -11,7 +11,7 @@ use crate::memory::put;
 use bpf_model::instruction::Size;
 use bpf_model::machine::{Helper, PointView, View};
 
-/// The kind of a helper's argument: none, any number, the number of a declared counter, or a place in the stack.
+/// What a helper takes as an argument. `Counter` is the number of a declared counter, `Place` a place in the stack.
 #[derive(Clone, Copy)]
 pub enum Kind {
     Nothing,
@@ -45,8 +45,7 @@ fn kinds_of(helper: Helper) -> [Kind; 2]
     }
 }
 
-/// Returns the kinds of the two arguments that helper `id` takes, first that in R1, then that in R2. Returns `None` if
-/// there is no such helper. Helpers are numbered 1 to 6.
+/// The kinds of the arguments in R1 and R2. Helpers are numbered 1 to 6.
 pub fn arguments(id: i32) -> Option<[Kind; 2]>
     ensures { result ≡ signature id }
 {
@@ -54,7 +53,7 @@ pub fn arguments(id: i32) -> Option<[Kind; 2]>
     Some(kinds_of(helper))
 }
 
-// Returns the fuelling point with this number, counted from 1, or `None` if there is no such point.
+// Points are numbered from 1.
 fn point_of(view: &View, number: u64) -> Option<PointView>
     ensures { result ≡ point view.now number }
 {
@@ -91,8 +90,7 @@ fn price_of(view: &View, number: u64) -> u64
     u64::from(view.prices[(number - 1) as usize])
 }
 
-// Writes the 16-byte record of a point to the stack at place `at`, or 16 zeros if there is no point. Returns 1 if there
-// is a point, else 0. `at` must be 0 to 496.
+// Writes the point's 16-byte record, or 16 zeros if there is no point. The answer is 1 if there is one, else 0.
 fn put_point(point: Option<PointView>, at: u64, stack: &mut [u8; 512]) -> u64
     requires { at + 16 ≤ STACK_BYTES }
     ensures answer { result ≡ is_there point }
@@ -105,9 +103,6 @@ fn put_point(point: Option<PointView>, at: u64, stack: &mut [u8; 512]) -> u64
     u64::from(point.is_some())
 }
 
-// Calls `helper` with the arguments `a` (the value of R1) and `b` (the value of R2), and returns its answer. Changes
-// the counters and the stack's bytes as the helper does. An argument that is a counter's number must be 0 to 31. An
-// argument that is a place in the stack must be 0 to 496.
 fn answer(
     helper: Helper,
     a: u64,
@@ -132,10 +127,8 @@ fn answer(
     }
 }
 
-/// Calls helper `id`, which must be 1 to 6, with the arguments `a` (the value of R1) and `b` (the value of R2), and
-/// returns its answer. Changes the counters and the stack's bytes as the helper does. An argument that is a counter's
-/// number must be 0 to 31. An argument that is a place in the stack must be 0 to 496, counted in bytes from the stack's
-/// lowest byte.
+/// Calls helper `id` with `a` in R1 and `b` in R2. A counter's number must be 0 to 31, and a record's place in the
+/// stack 0 to 496, counted from the lowest byte.
 pub fn call(
     id: i32,
     a: u64,

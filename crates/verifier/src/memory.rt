@@ -33,8 +33,7 @@ fn put_double(memory: &mut [u8; 512], at: usize, n: u64)
     LittleEndian::write_u64(&mut memory[at..], n);
 }
 
-/// Writes the lowest bytes of `n`, as many as `size` says, into `memory` from place `at` on, the lowest byte first. All
-/// of them must fit into `memory`.
+/// Writes as many of the lowest bytes of `n` as `size` says, the lowest first.
 #[inline(always)]
 pub fn put(memory: &mut [u8; 512], at: usize, size: Size, n: u64)
     requires { at + bytes_in size ≤ STACK_BYTES }

@@ -8,9 +8,9 @@ use crate::types::Flaw;
 use bpf_model::DecodeFault;
 use std::fmt;
 
-/// What is wrong with an instruction, given the fact (the abstract state) before it. The first number in a variant is
-/// the unit where the instruction begins, counted from 0; `Display` doesn't write this number. A second number is the
-/// register at fault (0 to 10), or the argument at fault (1 or 2).
+/// What is wrong with an instruction, given the fact (the abstract state) before it. The first number is its unit,
+/// counted from 0, which `Display` doesn't write; a second one is the register (0 to 10) or the argument (1 or 2) at
+/// fault.
 #[derive(Clone, Copy)]
 pub enum TypeFault {
     FallsOff(u32),
@@ -128,10 +128,9 @@ fn numbers_of_type(fault: TypeFault) -> (u32, Option<u32>, Option<u32>)
 }
 
 impl Refusal {
-    /// Returns the number of the fault (1 for V1, to 20 for V20), then its unit, counted from 0, and then its register
-    /// or argument. The unit is `None` only for V1, a wrong length. The register or argument is `None` except for V11
-    /// (a register that isn't a number or isn't set) and V19 (a wrong argument). Returns `None` if the refusal is that
-    /// memory ran out.
+    /// The number of the fault (1 for V1, to 20 for V20), its unit, and its register or argument. Only V1 (a wrong
+    /// length) has no unit; only V11 (a register that isn't a number, or isn't set) and V19 (a wrong argument) have the
+    /// last. `None` if memory ran out.
     pub fn fault_numbers(self) -> Option<(u32, Option<u32>, Option<u32>)>
         ensures { result ≡ refusal_numbers self }
     {
@@ -145,7 +144,6 @@ impl Refusal {
 }
 
 impl Flaw {
-    /// Returns this flaw as the fault of the instruction at unit `pc`.
     pub fn at(self, pc: u32) -> TypeFault
         ensures { result ≡ located pc self }
     {

@@ -52,8 +52,6 @@ fn numbers_type(dst: u8, src: u8, left: RegType, right: RegType) -> Result<RegTy
     }
 }
 
-// Returns the type of the stack pointer `Stk(k)` after it is moved by `z` bytes. The error is `OutOfRange` if it then
-// points below the stack's lowest byte or past the stack's end.
 fn stack_type(k: i32, z: i64) -> Result<RegType, Flaw>
     requires low { negsuc (2 ^ 32) ≤ℤ z }
     requires high { z ≤ℤ pos (2 ^ 32) }
@@ -76,16 +74,14 @@ fn context_type(layout: Layout, k: u32, z: i64) -> Result<RegType, Flaw>
     }
 }
 
-// The types of an arithmetic instruction's two operands.
 #[derive(Clone, Copy)]
 struct Operands {
     left: RegType,
     right: RegType,
 }
 
-// Returns the type of the result of ADD or SUB. `z` is what the instruction adds to its first operand if the second is
-// an immediate: the immediate for ADD, its negative for SUB. A 64-bit instruction with an immediate can move a pointer,
-// by `z` bytes. In all other cases both operands must be numbers. The error is the flaw of the instruction.
+// The type of the result of ADD or SUB. `z` is what an immediate adds: a 64-bit instruction can move a pointer by it.
+// In all other cases both operands must be numbers.
 fn sum_by(
     layout: Layout,
     width: Width,
@@ -173,7 +169,7 @@ fn operand_by(source: Source, width: Width, inst: Inst, types: &[RegType; 11]) -
     }
 }
 
-// The `StackWrite` of an instruction that writes nothing to the stack: 0 bytes.
+// Nothing is written to the stack.
 const UNMARKED: StackWrite = StackWrite {
     at: 0,
     len: 0,
@@ -194,8 +190,7 @@ fn put_by(
     Ok(UNMARKED)
 }
 
-// Sets the type of register `dst` to `value`, and returns a write of no bytes (`UNMARKED`). The error is that `dst` is
-// R10, which can't be written, or the error in `value`.
+// R10 can't be written.
 fn set_by(
     types: &mut [RegType; 11],
     dst: u8,
@@ -211,7 +206,7 @@ fn set_by(
     put_by(types, dst, value)
 }
 
-// Returns where the stack pointer `Stk(k)` points, in bytes from the stack's lowest byte; 0 if `k` is below -512.
+// In bytes from the stack's lowest byte; 0 if `k` is below -512.
 pub fn lowest_by(k: i32) -> u32
     ensures { result ≡ lowest k }
 {
@@ -219,7 +214,6 @@ pub fn lowest_by(k: i32) -> u32
     if up < 0 { 0 } else { up as u32 }
 }
 
-// Returns how many bytes a load or a store of this size moves.
 fn width_of(size: Size) -> u32
     ensures same { result ≡ bytes_in size }
     ensures small { result ≤ 8 }
@@ -232,8 +226,7 @@ fn width_of(size: Size) -> u32
     }
 }
 
-// Returns the place of the `size` bytes at `offset` from the stack pointer `Stk(k)`, counted from the stack's lowest
-// byte; `None` if not all of them are in the stack. `size` must be at most 16.
+// Counted from the stack's lowest byte; `None` if not all `size` bytes are in the stack.
 fn stack_place(k: i32, offset: i16, size: u32) -> Option<u32>
     requires { size ≤ 16 }
     ensures same { result ≡ shifted (lowest k) offset (STACK_BYTES - size) }
@@ -263,8 +256,6 @@ fn set_place(set: &StackMap, size: u32, place: Option<u32>) -> Result<RegType, F
     }
 }
 
-// Returns the greatest offset in a context of this layout at which a load of `size` bytes fits. `size` must be at most
-// 8.
 fn last_load(layout: Layout, size: u32) -> u32
     requires { size ≤ 8 }
     ensures { result ≡ context_len layout - size }
@@ -292,16 +283,13 @@ fn load_by(
     }
 }
 
-// Returns whether the `size` bytes from byte `at` of the stack on can hold a pointer: `size` is 8, and `at` is a
-// multiple of 8.
+// Only whole places of eight bytes hold pointers.
 fn is_whole_place(size: u32, at: u32) -> bool
     ensures { result ≡ is_aligned size at }
 {
     size == 8 && at % 8 == 0
 }
 
-// Returns the type of the pointer that is spilled in the `size` bytes from byte `place` of the stack on, or `Unset` if
-// no pointer is spilled there or `place` is `None`. These bytes must be inside the stack.
 fn spilled_at(spills: &[u16; 64], size: u32, place: Option<u32>) -> RegType
     requires { IfSome place (λ at. at + size ≤ STACK_BYTES) }
     ensures { result ≡ spill_in spills.now size place }
@@ -326,8 +314,6 @@ fn reload_by(spills: &[u16; 64], base: RegType, inst: Inst, size: u32) -> RegTyp
     }
 }
 
-// Returns the type that a load gives: the type of a spilled pointer if the load reads one, or else `Num`. The error is
-// the flaw of the load.
 fn load_or_reload(
     layout: Layout,
     set: &StackMap,
@@ -442,8 +428,7 @@ fn exit_by(value: RegType) -> Result<StackWrite, Flaw>
     }
 }
 
-// Returns the place, counted from the stack's lowest byte, where a helper writes a record of 16 bytes if its argument
-// has this type. Returns `None` unless this is the type of a stack pointer at least 16 bytes below the stack's end.
+// Where a helper writes a record of 16 bytes, counted from the stack's lowest byte; `None` if it doesn't fit.
 fn record_place(value: RegType) -> Option<u32>
     ensures same { result ≡ place_by value }
     ensures inside { IfSome result (λ at. at + 16 ≤ STACK_BYTES) }
@@ -573,9 +558,8 @@ fn call_by(declared: u32, types: &mut [RegType; 11], id: i32) -> Result<StackWri
     }
 }
 
-// Applies the typing rule of an instruction: changes the fact's types to those after the instruction, and returns what
-// the instruction writes to the stack. The error is the instruction's flaw. The instruction's registers must be 0 to
-// 10. `upper` is the upper half of a wide load's number, and isn't used for other instructions.
+// Changes the types to those after the instruction, and returns what it writes to the stack. `upper` is used for a wide
+// load alone.
 fn transfer(
     fact: &mut Fact,
     options: LoadOptions,
@@ -633,8 +617,7 @@ fn transfer(
     }
 }
 
-// Returns whether a run can go on to the unit after the instruction at unit `pc`, but the program, which has `count`
-// units, ends before that unit.
+// The program ends before the unit to which a run could go on.
 fn is_falling_off(count: u32, pc: u32, form: Form) -> bool
     requires { pc < UNITS }
     ensures { result ≡ falls_off count pc form }
@@ -646,12 +629,9 @@ fn is_falling_off(count: u32, pc: u32, form: Form) -> bool
     }
 }
 
-/// Checks the instruction at unit `pc` of a program: changes the fact's types to those after the instruction, and
-/// returns what it writes to the stack. The caller must apply this write to the fact. The program must have at most 512
-/// units, and `pc` must be below 512. `inst` and `form` must be those of the instruction, and its registers 0 to 10.
-///
-/// The error is the instruction's flaw. If there are several flaws, it is the one with the lowest fault number (V1 to
-/// V20). If two flaws have this number, it is the flaw of the destination register or of argument 1.
+/// Changes the fact's types to those after the instruction, and returns what it writes to the stack, which the caller
+/// must apply to the fact. Of several flaws the error is the one with the lowest number (V1 to V20), and of two with
+/// this number that of the destination register or of argument 1.
 pub fn check_instruction(
     units: &[Unit],
     pc: u32,

@@ -9,12 +9,8 @@ ghost use Rattle.bpf_model.specs.declared.limits.TheConstants.{STACK_BYTES};
 use crate::rules::lowest_by;
 use crate::types::RegType;
 
-/// Returns the number that stands for a pointer of this type in `Fact::spills`, which says which pointers are stored in
-/// the stack:
-///
-/// - 1 to 81 for `Ctx(0)` to `Ctx(80)`
-/// - 82 to 594 for `Stk(-512)` to `Stk(0)`, and 82 also for `Stk(k)` if k is below -512
-/// - 0 for any other type: one that isn't a pointer's, `Ctx(k)` if k is above 80, and `Stk(k)` if k is above 0
+/// The number that stands for a pointer of this type in `Fact::spills`: 1 to 81 for `Ctx(0)` to `Ctx(80)`, 82 to 594
+/// for `Stk(-512)` to `Stk(0)`, and 82 also below that; 0 for anything else.
 pub fn spill_of(value: RegType) -> u16
     ensures { result ≡ spill_by value }
 {
@@ -28,8 +24,7 @@ pub fn spill_of(value: RegType) -> u16
     }
 }
 
-/// Returns the type of the pointer for which the number `spill` stands in `Fact::spills`, which says which pointers are
-/// stored in the stack. Returns `Unset` for 0 (no pointer).
+/// The pointer for which `spill` stands in `Fact::spills`; `Unset` for 0.
 pub fn spilled_type(spill: u16) -> RegType
     ensures { result ≡ spilled_by spill }
 {
@@ -49,8 +44,7 @@ fn common_spill(a: u16, b: u16) -> u16
     if a == b { a } else { 0 }
 }
 
-/// Joins `others` into `spills`. Both have, for each aligned place of the stack, the number of the pointer that is
-/// spilled there, or 0 if none is. A place that has the same number in both keeps it, and all other places get 0.
+/// A place that has the same pointer in both keeps it; all others have none (0).
 pub fn join_spills(spills: &mut [u16; 64], others: &[u16; 64])
     ensures { spills.new ≡ joined spills.old others.now }
 {
@@ -59,9 +53,8 @@ pub fn join_spills(spills: &mut [u16; 64], others: &[u16; 64])
     }
 }
 
-/// Writes `spill` for each aligned place of eight bytes that overlaps the `len` bytes beginning at byte `at`, counted
-/// from the stack's lowest byte. These bytes must be inside the stack. Even if `len` is 0, the place that has byte `at`
-/// gets `spill`, unless `at` is the first byte of that place.
+/// Writes `spill` for each place of eight bytes that overlaps the `len` bytes from byte `at` of the stack on. Even if
+/// `len` is 0, the place that has byte `at` gets it, unless `at` is its first byte.
 pub fn put_spill(spills: &mut [u16; 64], spill: u16, at: u32, len: u32)
     requires { at + len ≤ STACK_BYTES }
     ensures { spills.new ≡ respilled spill at len 0 spills.old }

@@ -7,8 +7,7 @@ ghost use Rattle.bpf_model.specs.declared.limits.TheConstants.{STACK_BYTES};
 
 use std::marker::Model;
 
-/// A set of bytes of a program's stack. Each byte is named by its place: 0 to 511, counted from the lowest byte. The
-/// set is stored as bits: bit i of word k is 1 if place 64 k + i is in the set.
+/// Bit i of word k is 1 if place 64 k + i is in the set.
 #[derive(Clone, Copy)]
 pub struct StackMap {
     words: [u64; 8],
@@ -31,7 +30,6 @@ impl Model for StackMap {
     ghost inverse_ok = { λ s h. ap (λ words. record { words = words }) (words_kept s.words h.many h.small) };
 }
 
-// Returns the number whose lowest `n` bits are 1, and the others 0. `n` must be at most 64.
 fn low_bits(n: u32) -> u64
     requires { n ≤ 64 }
     ensures { result ≡ 2 ^ n - 1 }
@@ -39,8 +37,7 @@ fn low_bits(n: u32) -> u64
     if n == 64 { u64::MAX } else { (1 << n) - 1 }
 }
 
-// Returns a bit mask for word number `word`, which must be 0 to 7: bit i is 1 if place 64 `word` + i is one of the
-// `len` places that begin at `at`, and else 0. `at` + `len` must be at most 512.
+// The bits of word number `word` for those of the `len` places from `at` on that it has.
 fn mask_of(word: u32, at: u32, len: u32) -> u64
     requires word { word < 8 }
     requires inside { at + len ≤ STACK_BYTES }
@@ -53,14 +50,13 @@ fn mask_of(word: u32, at: u32, len: u32) -> u64
 }
 
 impl StackMap {
-    /// Returns the empty set.
     pub fn empty() -> StackMap
         ensures { (p : ℕ) → ¬ (Has result p) }
     {
         StackMap { words: [0; 8] }
     }
 
-    /// Adds to the set the `len` places that begin at `at`. `at` + `len` must be at most 512.
+    /// Adds the `len` places from `at` on.
     pub fn mark(&mut self, at: u32, len: u32)
         requires { at + len ≤ STACK_BYTES }
         ensures { (p : ℕ) → Has self.new p ↔ (Has self.old p ⊎ Within at len p) }
@@ -70,7 +66,7 @@ impl StackMap {
         }
     }
 
-    /// Removes from the set the `len` places that begin at `at`. `at` + `len` must be at most 512.
+    /// Removes the `len` places from `at` on.
     pub fn clear(&mut self, at: u32, len: u32)
         requires { at + len ≤ STACK_BYTES }
         ensures { (p : ℕ) → Has self.new p ↔ (Has self.old p × ¬ (Within at len p)) }
@@ -80,7 +76,6 @@ impl StackMap {
         }
     }
 
-    /// Returns whether the set has all of the `len` places that begin at `at`. `at` + `len` must be at most 512.
     pub fn all_set(&self, at: u32, len: u32) -> bool
         requires { at + len ≤ STACK_BYTES }
         ensures { IsTrue result ↔ ((p : ℕ) → Within at len p → Has self.now p) }
@@ -94,7 +89,7 @@ impl StackMap {
         true
     }
 
-    /// Removes from the set each place that isn't in `other`.
+    /// Removes each place that isn't in `other`.
     pub fn meet(&mut self, other: &StackMap)
         ensures { (p : ℕ) → Has self.new p ↔ (Has self.old p × Has other.now p) }
     {

@@ -1,5 +1,4 @@
-// The table of the facts that the verifier stores. The fact of a unit is what is known so far of the state in which a
-// run comes to the unit. An index gives a unit's fact without a search.
+// The facts that the verifier stores. An index gives a unit's fact without a search.
 
 ghost use Rattle.std.specs.Prelude.{◌≡◌, ℕ, ◌≤◌, ◌+◌, ◌∷◌, [], IfOk, IfSome, OnOk, IsTrue};
 ghost use Rattle.std.specs.Prelude.{false, Some, None, replicate};
@@ -13,12 +12,11 @@ use crate::types::{Fact, StoredFact};
 use std::alloc::{AllocError, Global};
 use std::marker::Model;
 
-/// A table of stored facts, with at most one fact for each of the units 0 to 512. The fact of a unit is what is known
-/// so far of the state in which a run comes to the unit.
+/// At most one fact for each of the units 0 to 512: what is known so far of the state in which a run comes there.
 #[derive(Drop)]
 pub struct Table {
     facts: Vec<StoredFact>,
-    // For each unit, one more than the index of its fact in `facts`, or 0 if it has no stored fact.
+    // For each unit, one more than the index of its fact in `facts`; 0 if it has none.
     places: [usize; 513],
 }
 
@@ -34,7 +32,6 @@ impl Model for Table {
     ghost invariant = { λ t. IsIndexed t.facts.items t.places };
 }
 
-// Returns the field `places` of a table whose only fact is that of unit 0, at index 0.
 fn first_alone() -> [usize; 513]
     ensures { result ≡ slice_set (replicate (UNITS + 1) 0) 0 1 }
 {
@@ -44,7 +41,7 @@ fn first_alone() -> [usize; 513]
 }
 
 impl Table {
-    /// Makes a table that has `fact` for unit 0, and no other fact. The error is that memory ran out.
+    /// Has `fact` for unit 0, and no other.
     pub fn new(alloc: Global, fact: &Fact) -> Result<Table, AllocError>
         ensures { IfOk result (λ table. table ≡ record { at = 0; fact = fact.now } ∷ []) }
     {
@@ -67,8 +64,7 @@ impl Table {
         }
     }
 
-    /// Copies the stored fact of unit `at` to `fact`, if the unit has one, and returns whether it has one. `at` must be
-    /// at most 512.
+    /// Copies the stored fact of unit `at`, if it has one, and returns whether it has.
     pub fn read_at(&self, at: u32, fact: &mut Fact) -> bool
         requires { at ≤ UNITS }
         ensures { fact_if result fact.new ≡ stored self.now at }
@@ -82,8 +78,7 @@ impl Table {
         }
     }
 
-    /// Joins the stored fact of unit `at` with `fact`, sets both to the join, and returns true. If the unit has no
-    /// stored fact, changes nothing and returns false. `at` must be at most 512.
+    /// Sets both `fact` and the stored fact of unit `at` to their join. False, and nothing changes, if it has none.
     pub fn join_at(&mut self, at: u32, fact: &mut Fact) -> bool
         requires { at ≤ UNITS }
         ensures joined { IsTrue result → IsJoined at fact.old (stored self.old) (stored self.new) }
@@ -107,9 +102,7 @@ impl Table {
         Ok(())
     }
 
-    /// Adds the fact that a jump brings to its target `at`: joins `fact` into the target's stored fact, or stores
-    /// `fact` if the target has none. `at` must be at most 512. The error is that memory ran out. Memory is taken only
-    /// if the target has no stored fact.
+    /// Adds the fact that a jump brings to its target `at`. Memory is taken only if the target has no stored fact.
     pub fn enter(&mut self, at: u32, fact: &Fact) -> Result<(), AllocError>
         requires { at ≤ UNITS }
         ensures entered { OnOk result ((q : ℕ)
@@ -124,8 +117,7 @@ impl Table {
         Ok(())
     }
 
-    /// Returns the stored facts, at most one for each unit. They are in the order in which the units first got a fact,
-    /// but the contract doesn't promise this order.
+    /// In the order in which the units first got a fact, which the contract doesn't promise.
     pub fn into_facts(self) -> Vec<StoredFact>
         ensures same { result.items ≡ self }
         ensures distinct { AreDistinct result.items }
