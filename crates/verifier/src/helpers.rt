@@ -20,7 +20,7 @@ pub enum Kind {
     Place,
 }
 
-fn helper_by(id: i32) -> Option<Helper>
+fn helper_numbered(id: i32) -> Option<Helper>
     ensures { result ≡ helper_of id }
 {
     match id {
@@ -49,7 +49,7 @@ fn kinds_of(helper: Helper) -> [Kind; 2]
 pub fn arguments(id: i32) -> Option<[Kind; 2]>
     ensures { result ≡ signature id }
 {
-    let helper = helper_by(id)?;
+    let helper = helper_numbered(id)?;
     Some(kinds_of(helper))
 }
 
@@ -145,7 +145,7 @@ pub fn call(
     ensures stack { stack.new ≡ (call_result (helper_of id) a b view.now counters.old stack.old).stack }
     ensures machine { IsMachineCall id a b view.now counters.old stack.old result counters.new stack.new }
 {
-    let Some(helper) = helper_by(id) else {
+    let Some(helper) = helper_numbered(id) else {
         unreachable!();
     };
     answer(helper, a, b, view, counters, stack)

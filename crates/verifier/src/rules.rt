@@ -82,7 +82,7 @@ struct Operands {
 
 // The type of the result of ADD or SUB. `z` is what an immediate adds: a 64-bit instruction can move a pointer by it.
 // In all other cases both operands must be numbers.
-fn sum_by(
+fn add_or_subtract(
     layout: Layout,
     width: Width,
     source: Source,
@@ -101,7 +101,7 @@ fn sum_by(
     }
 }
 
-fn copy_by(src: u8, value: RegType) -> Result<RegType, Flaw>
+fn copy_register(src: u8, value: RegType) -> Result<RegType, Flaw>
     ensures { result ≡ copied_type src value }
 {
     if value.is_unknown() {
@@ -111,7 +111,7 @@ fn copy_by(src: u8, value: RegType) -> Result<RegType, Flaw>
     }
 }
 
-fn move_by(width: Width, source: Source, inst: Inst, right: RegType) -> Result<RegType, Flaw>
+fn move_operand(width: Width, source: Source, inst: Inst, right: RegType) -> Result<RegType, Flaw>
     ensures { result ≡ move_type width source inst right }
 {
     match (width, source) {
@@ -124,7 +124,7 @@ fn move_by(width: Width, source: Source, inst: Inst, right: RegType) -> Result<R
         }
         (Width::Bits64, Source::Register) => {
             if inst.offset == 0 {
-                copy_by(inst.src, right)
+                copy_register(inst.src, right)
             } else {
                 number_type(inst.src, right)
             }
@@ -151,15 +151,22 @@ fn arithmetic_type(
 {
     let Operands { left, right } = operands;
     match operator {
-        Operator::Add => sum_by(layout, width, source, inst, i64::from(inst.imm), operands),
-        Operator::Sub => sum_by(layout, width, source, inst, opposite(inst.imm), operands),
-        Operator::Mov => move_by(width, source, inst, right),
+        Operator::Add => add_or_subtract(
+            layout,
+            width,
+            source,
+            inst,
+            i64::from(inst.imm),
+            operands,
+        ),
+        Operator::Sub => add_or_subtract(layout, width, source, inst, opposite(inst.imm), operands),
+        Operator::Mov => move_operand(width, source, inst, right),
         Operator::Neg | Operator::SwapBytes => number_type(inst.dst, left),
         _ => numbers_type(inst.dst, inst.src, left, right),
     }
 }
 
-fn operand_by(source: Source, width: Width, inst: Inst, types: &[RegType; 11]) -> RegType
+fn second_operand(source: Source, width: Width, inst: Inst, types: &[RegType; 11]) -> RegType
     requires { inst.src ≤ 10 }
     ensures { result ≡ operand_type source width inst types.now }
 {
@@ -176,7 +183,7 @@ const UNMARKED: StackWrite = StackWrite {
     spilled: RegType::Unset,
 };
 
-fn put_by(
+fn write_any_register(
     types: &mut [RegType; 11],
     dst: u8,
     value: Result<RegType, Flaw>,
@@ -191,7 +198,7 @@ fn put_by(
 }
 
 // R10 can't be written.
-fn set_by(
+fn write_register(
     types: &mut [RegType; 11],
     dst: u8,
     value: Result<RegType, Flaw>,
@@ -203,11 +210,11 @@ fn set_by(
     if dst == 10 {
         return Err(Flaw::WriteR10);
     }
-    put_by(types, dst, value)
+    write_any_register(types, dst, value)
 }
 
 // In bytes from the stack's lowest byte; 0 if `k` is below -512.
-pub fn lowest_by(k: i32) -> u32
+pub fn above_lowest_byte(k: i32) -> u32
     ensures { result ≡ lowest k }
 {
     let up = i64::from(k) + 512;
@@ -232,7 +239,7 @@ fn stack_place(k: i32, offset: i16, size: u32) -> Option<u32>
     ensures same { result ≡ shifted (lowest k) offset (STACK_BYTES - size) }
     ensures inside { IfSome result (λ at. at + size ≤ STACK_BYTES) }
 {
-    shift(lowest_by(k), i64::from(offset), 512 - size)
+    shift(above_lowest_byte(k), i64::from(offset), 512 - size)
 }
 
 fn are_set(set: &StackMap, at: u32, len: u32) -> bool
@@ -263,7 +270,7 @@ fn last_load(layout: Layout, size: u32) -> u32
     layout.len() - size
 }
 
-fn load_by(
+fn load_number(
     layout: Layout,
     set: &StackMap,
     base: RegType,
@@ -304,7 +311,7 @@ fn spilled_at(spills: &[u16; 64], size: u32, place: Option<u32>) -> RegType
     }
 }
 
-fn reload_by(spills: &[u16; 64], base: RegType, inst: Inst, size: u32) -> RegType
+fn reload_pointer(spills: &[u16; 64], base: RegType, inst: Inst, size: u32) -> RegType
     requires { size ≤ 8 }
     ensures { result ≡ reload_type spills.now base inst size }
 {
@@ -324,15 +331,15 @@ fn load_or_reload(
 ) -> Result<RegType, Flaw>
     ensures { result ≡ loaded_type layout set.now spills.now base inst (bytes_in size) }
 {
-    let spilled = reload_by(spills, base, inst, width_of(size));
+    let spilled = reload_pointer(spills, base, inst, width_of(size));
     if spilled.is_unknown() {
-        load_by(layout, set, base, inst, size)
+        load_number(layout, set, base, inst, size)
     } else {
         Ok(spilled)
     }
 }
 
-fn mark_by(size: u32, place: Option<u32>) -> Result<StackWrite, Flaw>
+fn write_number(size: u32, place: Option<u32>) -> Result<StackWrite, Flaw>
     requires { IfSome place (λ at. at + size ≤ STACK_BYTES) }
     ensures same { (types : List RegType) → effect_with types result ≡ marks types size place }
     ensures inside { IfOk result (λ m. m.at + m.len ≤ STACK_BYTES) }
@@ -347,7 +354,7 @@ fn mark_by(size: u32, place: Option<u32>) -> Result<StackWrite, Flaw>
     }
 }
 
-fn store_by(base: RegType, inst: Inst, size: Size) -> Result<StackWrite, Flaw>
+fn store_number(base: RegType, inst: Inst, size: Size) -> Result<StackWrite, Flaw>
     ensures same { (types : List RegType) → effect_with types result ≡ store_type types base inst (bytes_in size) }
     ensures inside { IfOk result (λ m. m.at + m.len ≤ STACK_BYTES) }
 {
@@ -355,7 +362,7 @@ fn store_by(base: RegType, inst: Inst, size: Size) -> Result<StackWrite, Flaw>
     match base {
         RegType::Unset | RegType::Num | RegType::Const(_) => Err(Flaw::NotAPointer),
         RegType::Ctx(_) => Err(Flaw::StoreToContext),
-        RegType::Stk(k) => mark_by(size, stack_place(k, inst.offset, size)),
+        RegType::Stk(k) => write_number(size, stack_place(k, inst.offset, size)),
     }
 }
 
@@ -388,7 +395,7 @@ fn store_if_pointer(value: RegType, mark: Result<StackWrite, Flaw>) -> Result<St
     }
 }
 
-fn store_register_by(
+fn store_from_register(
     base: RegType,
     value: RegType,
     inst: Inst,
@@ -401,10 +408,10 @@ fn store_register_by(
     if value.is_unknown() {
         return Err(Flaw::NotANumber(inst.src));
     }
-    store_if_pointer(value, store_by(base, inst, size))
+    store_if_pointer(value, store_number(base, inst, size))
 }
 
-fn compare_by(inst: Inst, left: RegType, right: RegType) -> Result<StackWrite, Flaw>
+fn compare_numbers(inst: Inst, left: RegType, right: RegType) -> Result<StackWrite, Flaw>
     ensures same { (types : List RegType) → effect_with types result ≡ compared types inst.dst inst.src left right }
     ensures inside { IfOk result (λ m. m.at + m.len ≤ STACK_BYTES) }
 {
@@ -417,7 +424,7 @@ fn compare_by(inst: Inst, left: RegType, right: RegType) -> Result<StackWrite, F
     Ok(UNMARKED)
 }
 
-fn exit_by(value: RegType) -> Result<StackWrite, Flaw>
+fn exit_with(value: RegType) -> Result<StackWrite, Flaw>
     ensures same { (types : List RegType) → effect_with types result ≡ exited types value }
     ensures inside { IfOk result (λ m. m.at + m.len ≤ STACK_BYTES) }
 {
@@ -434,7 +441,7 @@ fn record_place(value: RegType) -> Option<u32>
     ensures inside { IfSome result (λ at. at + 16 ≤ STACK_BYTES) }
 {
     match value {
-        RegType::Stk(k) => shift(lowest_by(k), 0, 496),
+        RegType::Stk(k) => shift(above_lowest_byte(k), 0, 496),
         _ => None,
     }
 }
@@ -479,7 +486,7 @@ fn is_kind_declared(declared: u32, kind: Kind, value: RegType) -> bool
     }
 }
 
-fn after_call_by(types: &[RegType; 11]) -> [RegType; 11]
+fn types_after_call(types: &[RegType; 11]) -> [RegType; 11]
     ensures { result ≡ after_call types.now }
 {
     let unset = RegType::Unset;
@@ -498,7 +505,7 @@ fn after_call_by(types: &[RegType; 11]) -> [RegType; 11]
     ]
 }
 
-fn record_by(kind: Kind, value: RegType) -> Option<u32>
+fn written_record(kind: Kind, value: RegType) -> Option<u32>
     ensures same { result ≡ record_at kind value }
     ensures inside { IfSome result (λ at. at + 16 ≤ STACK_BYTES) }
 {
@@ -543,11 +550,11 @@ fn call_kinds(
     if !is_kind_declared(declared, first, a) {
         return Err(Flaw::UndeclaredCounter);
     }
-    *types = after_call_by(types);
-    Ok(mark_record(record_by(second, b)))
+    *types = types_after_call(types);
+    Ok(mark_record(written_record(second, b)))
 }
 
-fn call_by(declared: u32, types: &mut [RegType; 11], id: i32) -> Result<StackWrite, Flaw>
+fn call_helper(declared: u32, types: &mut [RegType; 11], id: i32) -> Result<StackWrite, Flaw>
     ensures same { effect_with types.new result ≡ call_type declared types.old (signature id) }
     ensures inside { IfOk result (λ m. m.at + m.len ≤ STACK_BYTES) }
 {
@@ -579,15 +586,15 @@ fn transfer(
         Form::Arithmetic(operator, width, source) => {
             let operands = Operands {
                 left,
-                right: operand_by(source, width, inst, &fact.types),
+                right: second_operand(source, width, inst, &fact.types),
             };
             let value = arithmetic_type(options.layout, operator, width, source, inst, operands);
-            set_by(&mut fact.types, inst.dst, value)
+            write_register(&mut fact.types, inst.dst, value)
         }
         Form::Wide => {
             let n = u64::from(upper.cast_unsigned()) * 0x1_0000_0000
                 + u64::from(inst.imm.cast_unsigned());
-            set_by(&mut fact.types, inst.dst, Ok(RegType::Const(n)))
+            write_register(&mut fact.types, inst.dst, Ok(RegType::Const(n)))
         }
         Form::Load(size) => {
             let value = load_or_reload(
@@ -598,22 +605,22 @@ fn transfer(
                 inst,
                 size,
             );
-            set_by(&mut fact.types, inst.dst, value)
+            write_register(&mut fact.types, inst.dst, value)
         }
         Form::LoadSigned(size) => {
-            let value = load_by(options.layout, &fact.stack, right, inst, size);
-            set_by(&mut fact.types, inst.dst, value)
+            let value = load_number(options.layout, &fact.stack, right, inst, size);
+            write_register(&mut fact.types, inst.dst, value)
         }
-        Form::StoreImmediate(size) => store_by(left, inst, size),
-        Form::StoreRegister(size) => store_register_by(left, right, inst, size),
+        Form::StoreImmediate(size) => store_number(left, inst, size),
+        Form::StoreRegister(size) => store_from_register(left, right, inst, size),
         Form::Ja | Form::Ja32 => Ok(UNMARKED),
-        Form::Branch(_, width, source) => compare_by(
+        Form::Branch(_, width, source) => compare_numbers(
             inst,
             left,
-            operand_by(source, width, inst, &fact.types),
+            second_operand(source, width, inst, &fact.types),
         ),
-        Form::Call => call_by(options.mask, &mut fact.types, inst.imm),
-        Form::Exit => exit_by(fact.types[0]),
+        Form::Call => call_helper(options.mask, &mut fact.types, inst.imm),
+        Form::Exit => exit_with(fact.types[0]),
     }
 }
 

@@ -6,7 +6,7 @@ ghost use Rattle.verifier.specs.Rules.{spill_of as spill_by, spilled_type as spi
 ghost use Rattle.verifier.specs.Inference.{join_spills as joined, respilled};
 ghost use Rattle.bpf_model.specs.declared.limits.TheConstants.{STACK_BYTES};
 
-use crate::rules::lowest_by;
+use crate::rules::above_lowest_byte;
 use crate::types::RegType;
 
 /// The number that stands for a pointer of this type in `Fact::spills`: 1 to 81 for `Ctx(0)` to `Ctx(80)`, 82 to 594
@@ -17,7 +17,7 @@ pub fn spill_of(value: RegType) -> u16
     match value {
         RegType::Ctx(k) => if k <= 80 { k as u16 + 1 } else { 0 },
         RegType::Stk(k) => {
-            let up = lowest_by(k);
+            let up = above_lowest_byte(k);
             if up <= 512 { 82 + up as u16 } else { 0 }
         }
         RegType::Unset | RegType::Num | RegType::Const(_) => 0,

@@ -5,7 +5,7 @@ use Rattle.std.proofs.lemmas.List.{drop_all}
 use Rattle.verifier.specs.declared.types.RegType.{RegType}
 use Rattle.verifier.specs.declared.types.RegType.TheVariants.{Unset, Num}
 use Rattle.verifier.specs.Rules.{type_at}
-use Rattle.verifier.proofs.rules.after_call_by.Goals as goal
+use Rattle.verifier.proofs.rules.types_after_call.Goals as goal
 
 ends : (xs : List RegType) → length xs ≡ 11 → drop 11 xs ≡ []
 ends xs e = drop_all 11 xs (omega (arith, e))
