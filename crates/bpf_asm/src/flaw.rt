@@ -169,6 +169,7 @@ pub fn explain<'a>(
     text: &'a [u8],
     fault: AsmFault,
 ) -> Result<AsmFlaw<'a>, AllocError>
+    // proved: It shows the line or the label that a fault names
     ensures flaw { IfOk result (Explains text.now fault) }
     ensures length { fault ≡ AsmFault.Length → IsOk result }
     ensures mark { (number : ℕ) → fault ≡ AsmFault.BadLine number → is_marked text.now number ≡ true → IsOk result }

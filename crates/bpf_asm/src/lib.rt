@@ -59,6 +59,7 @@ fn high(units: &[Unit]) -> i32
 
 /// One line for each instruction, each with its LF.
 pub fn disassemble(alloc: Global, code: &Code) -> Result<String, AllocError>
+    // proved: It gives the one canonical text | file_jobs/units_are_not_numbered
     ensures { IfOk result (λ text. string_bytes text ≡ canonical_text code.now) }
 {
     let mut out = String::new(alloc);
@@ -74,6 +75,7 @@ pub fn disassemble(alloc: Global, code: &Code) -> Result<String, AllocError>
 
 /// The line, with its LF, of the instruction that begins at unit `unit`, counted from 0; `None` if none begins there.
 pub fn instruction_line(alloc: Global, code: &Code, unit: u32) -> Result<Option<String>, AllocError>
+    // proved: It gives an instruction's line | file_jobs/refusal_without_its_instruction
     ensures line { IfOk result (λ found. option_map string_bytes found ≡ line_of_unit code.now unit) }
     ensures none { line_of_unit code.now unit ≡ None → IsOk result }
 {
@@ -100,6 +102,7 @@ fn front_line(alloc: Global, units: &[Unit]) -> Result<Option<String>, AllocErro
 
 /// Like `disassemble`, but each line begins with the number of the instruction's first unit, counted from 0, and `: `.
 pub fn disassemble_numbered(alloc: Global, code: &Code) -> Result<String, AllocError>
+    // proved: It gives the text with unit numbers | file_jobs/units_are_not_numbered
     ensures { IfOk result (λ text. string_bytes text ≡ numbered_from 0 code.now) }
 {
     let mut out = String::new(alloc);
@@ -163,7 +166,9 @@ fn assemble_rows(alloc: Global, rows: &[(Line, &[u8])]) -> Result<Code, AsmFault
 /// The error is the fault of the first line that can't be parsed or has a number out of range; else `Length`; else
 /// `BadLabel` for the first line with a wrong label. It can also be that memory ran out.
 pub fn assemble(alloc: Global, text: &[u8]) -> Result<Code, AsmFault>
+    // proved: It is Ok just with the text's units | file_jobs/good_text_is_refused_by_nothing
     ensures ok { IfOk result (λ code. spec.AssemblesTo text.now code) }
+    // proved: Faults are reported in their order
     ensures refused { IfErr result (λ fault. spec.IsRefused text.now fault) }
 {
     let Ok(lines) = line::cut(alloc, text) else {
@@ -178,11 +183,13 @@ pub fn assemble(alloc: Global, text: &[u8]) -> Result<Code, AsmFault>
 
 /// A law: the text of a program, as `disassemble` writes it, assembles to this program and to no other.
 pub fn law_of_canonical_text()
+    // proved: The canonical text assembles to the program and nothing else
     ensures { RoundTrip }
 {}
 
 /// Assembles the text of a program, which gives the same program.
 pub fn reassemble(alloc: Global, code: &Code) -> Result<Code, AsmFault>
+    // proved same, refused: To text and back gives the same program
     ensures same { IfOk result (λ again. again ≡ code.now) }
     ensures refused { IfErr result (λ fault. fault ≡ AsmFault.OutOfMemory) }
 {

@@ -79,6 +79,7 @@ fn bytes_of(alloc: Global, digits: &[u8]) -> Result<Vec<u8>, ProgramFileFault>
 /// LF between them.
 #[tactic(auto, unfolding(crate::specs::ProgramFile::program_in))]
 pub fn read_program(alloc: Global, text: &[u8]) -> Result<Vec<u8>, ProgramFileFault>
+    // proved given, length: It reads program files
     ensures given { Gives (λ bytes. bytes.items) result (program_in text.now) }
     ensures length { 65536 < length text.now → result ≡ Err ProgramFileFault.TooLong }
 {

@@ -12,6 +12,7 @@ pub enum Layout {
 
 impl Layout {
     pub fn len(self) -> u32
+        // proved: It returns how many bytes a layout has
         ensures same { result ≡ context_len self }
         ensures least { 64 ≤ result }
         ensures most { result ≤ 80 }
@@ -31,6 +32,7 @@ pub enum Context {
 
 impl Context {
     pub fn layout(&self) -> Layout
+        // proved: It returns the layout of a context
         ensures { result ≡ layout_of self.now }
     {
         match self {
@@ -40,6 +42,7 @@ impl Context {
     }
 
     pub fn bytes(&self) -> &[u8]
+        // proved bytes, many: It returns a context's bytes, and how many
         ensures bytes { result.now ≡ bytes_of self.now }
         ensures many { length result.now ≡ context_len (layout_of self.now) }
     {

@@ -166,7 +166,9 @@ fn keep(units: &mut Vec<Unit>, unit: Unit) -> Result<(), DecodeFault>
 /// The error is `Length` if the bytes aren't 1 to 512 units of 8, or else the fault of the first wrong unit, or that
 /// memory ran out.
 pub fn decode(alloc: Global, bytes: &[u8]) -> Result<Code, DecodeFault>
+    // proved: It is Ok exactly with the units of the bytes | halves_a_second_unit
     ensures ok { IfOk result (λ code. units bytes.now ≡ Some code) }
+    // proved refused, length: Each refusal is the first | names_the_register_before_the_field
     ensures refused { IfErr result (λ fault. IsRefusedFor bytes.now fault) }
     ensures length { has_valid_length bytes.now ≡ false → result ≡ Err DecodeFault.Length }
 {
@@ -215,6 +217,7 @@ fn bytes_of(unit: Unit) -> [u8; 8]
 }
 
 pub fn encode(alloc: Global, code: &Code) -> Result<Vec<u8>, AllocError>
+    // proved bytes, read_back: What it writes is read back | writes_registers_the_other_way_round
     ensures bytes { IfOk result (λ bytes. bytes.items ≡ encoded code.now) }
     ensures read_back { IfOk result (λ bytes. units bytes.items ≡ Some code.now) }
 {
@@ -228,5 +231,6 @@ pub fn encode(alloc: Global, code: &Code) -> Result<Vec<u8>, AllocError>
 
 /// A law: no two different lists of bytes decode to the same program.
 pub fn law_of_injective_decoding()
+    // proved: No two byte lists are one program
     ensures { IsDecodingInjective }
 {}

@@ -24,6 +24,7 @@ pub fn rebase(
 )
     requires layout { layout_of context.now ≡ program.now.layout }
     requires agree { Agrees program.now.declared before.now now.old }
+    // proved run_result, counters: Only declared ones count | site_core/undeclared_counters_are_adopted
     ensures run_result { (answer : ℕ) → outcome program.now (bytes_of context.now) view.now before.now
         ≡ Ended answer after.now
         → outcome program.now (bytes_of context.now) view.now now.old ≡ Ended answer now.new }

@@ -39,6 +39,7 @@ impl Counters {
 
     pub fn get(&self, c: u32) -> u64
         requires { c < COUNTERS }
+        // proved value, right: It gives a counter's value, within its bound | get_gives_the_bound
         ensures value { result ≡ (counter self.now c).0 }
         ensures right { AreCounters self.now }
     {
@@ -55,6 +56,7 @@ impl Counters {
     /// Returns false, and changes nothing, if the sum would be above the bound.
     pub fn add(&mut self, c: u32, n: u64) -> bool
         requires { c < COUNTERS }
+        // proved answer, after: It adds where the sum is within the bound | add_passes_the_bound
         ensures answer { result ≡ can_add self.old c n }
         ensures after { self.new ≡ after_add self.old c n }
     {
@@ -83,6 +85,7 @@ impl Counters {
     /// Returns false, and changes nothing, if `n` is above the value.
     pub fn take(&mut self, c: u32, n: u64) -> bool
         requires { c < COUNTERS }
+        // proved answer, after: It subtracts where there is as much | take_leaves_the_value
         ensures answer { result ≡ can_take self.old c n }
         ensures after { self.new ≡ after_take self.old c n }
     {

@@ -138,7 +138,9 @@ fn fault_at(fault: JumpFault, pc: u32) -> FlowFault
 
 /// Checks also jumps that no run reaches. Never fails for want of memory, since none is taken.
 pub fn check_flow(_alloc: Global, code: Code) -> Result<Flow, FlowFault>
+    // proved: Ok exactly where jumps go to instructions ahead | takes_a_jump_into_a_wide_load
     ensures ok { IfOk result (λ flow. (flow ≡ code) × (flow_fault code ≡ None)) }
+    // proved: Else it names the first jump at fault | names_the_jump_after
     ensures refused { IfErr result (λ fault. IsFirstFlowFault code fault) }
 {
     match first_jump_fault(code.units()) {
@@ -157,6 +159,7 @@ impl Flow {
 
     /// The unit to which the jump at unit `pc` goes; `None` if no jump begins there.
     pub fn target(&self, pc: u32) -> Option<u32>
+        // proved same, ahead: It gives a jump's target, which is ahead | targets_one_unit_too_far
         ensures same { result ≡ target self.now pc }
         ensures ahead { IfSome result (λ to. IsAhead self.now pc to) }
     {

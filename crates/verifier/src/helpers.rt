@@ -143,6 +143,7 @@ pub fn call(
     ensures answer { result ≡ (call_result (helper_of id) a b view.now counters.old stack.old).value }
     ensures counters { counters.new ≡ (call_result (helper_of id) a b view.now counters.old stack.old).counters }
     ensures stack { stack.new ≡ (call_result (helper_of id) a b view.now counters.old stack.old).stack }
+    // proved: On numbers and bytes it is the machine's definition | record_begins_with_the_nozzle
     ensures machine { IsMachineCall id a b view.now counters.old stack.old result counters.new stack.new }
 {
     let Some(helper) = helper_numbered(id) else {

@@ -59,6 +59,7 @@ impl StackMap {
     /// Adds the `len` places from `at` on.
     pub fn mark(&mut self, at: u32, len: u32)
         requires { at + len ≤ STACK_BYTES }
+        // proved: It adds places to the set | mark_takes_places_away
         ensures { (p : ℕ) → Has self.new p ↔ (Has self.old p ⊎ Within at len p) }
     {
         for k in at / 64..(at + len).div_ceil(64) {
@@ -69,6 +70,7 @@ impl StackMap {
     /// Removes the `len` places from `at` on.
     pub fn clear(&mut self, at: u32, len: u32)
         requires { at + len ≤ STACK_BYTES }
+        // proved: It removes places from the set | clear_a_place_short
         ensures { (p : ℕ) → Has self.new p ↔ (Has self.old p × ¬ (Within at len p)) }
     {
         for k in at / 64..(at + len).div_ceil(64) {
@@ -78,6 +80,7 @@ impl StackMap {
 
     pub fn all_set(&self, at: u32, len: u32) -> bool
         requires { at + len ≤ STACK_BYTES }
+        // proved: It says whether places are all set | all_set_returns_the_opposite
         ensures { IsTrue result ↔ ((p : ℕ) → Within at len p → Has self.now p) }
     {
         for k in at / 64..(at + len).div_ceil(64) {
@@ -91,6 +94,7 @@ impl StackMap {
 
     /// Removes each place that isn't in `other`.
     pub fn meet(&mut self, other: &StackMap)
+        // proved: It gives what two sets share | meet_is_the_union
         ensures { (p : ℕ) → Has self.new p ↔ (Has self.old p × Has other.now p) }
     {
         for k in 0..8 {
