@@ -177,18 +177,22 @@ pub fn answer_lines<I: LineIn, O: LineOut, C, D, S: LineHandler<C, D>>(
     clock: &mut C,
     desk: &mut D,
 ) -> Result<Ended, SessionFault>
+    // proved: Each line is answered in order | lines_are_answered_out_of_order
     ensures all_answered { IfOk result (λ ended. Ends (S.answers_with handler.now) (clock.old, desk.old) (
       clock.new,
       desk.new,
     )
         (I.remaining input.old) (I.remaining input.new) (O.written output.old) (O.written output.new)
         ended.lines ended.cut) }
+    // proved: After a fault a beginning is out | session_goes_on_after_a_long_line
+    // proved: At most the next line is read
     ensures broken { OnErr result
         (Breaks (S.answers_with handler.now) (S.drops handler.now) (clock.old, desk.old) (clock.new, desk.new)
         (I.remaining input.old) (I.remaining input.new) (O.written output.old) (O.written output.new)) }
     ensures read_fault { RoseBy (one_if (is_read result)) (I.failures input.old) (I.failures input.new) }
     ensures write_fault { RoseBy (one_if (is_write result)) (O.failures output.old) (O.failures output.new) }
     ensures reads { SpendsReads session_reads result I.reads I.asked input.old input.new }
+    // proved: Whole answers, where no write failed | cut_is_answered_without_memory
     ensures stopped { IfErr result (λ fault. fault ≢ SessionFault.Write
         → Stops (S.answers_with handler.now) (S.drops handler.now) (S.needs_memory handler.now) fault (
           clock.old,

@@ -21,6 +21,7 @@ pub fn session<I: LineIn, O: LineOut, C: Clock, D: Desk>(
     clock: &mut C,
     desk: &mut D,
 ) -> Result<Ended, SessionFault>
+    // proved all_answered, broken, stopped: A session too | session_takes_lines_of_all_roles
     ensures all_answered { IfOk result (λ ended. Ends (desk_answers D.step C.tick role) (clock.old, desk.old)
         (clock.new, desk.new)
         (I.remaining input.old) (I.remaining input.new) (O.written output.old) (O.written output.new)
@@ -32,6 +33,7 @@ pub fn session<I: LineIn, O: LineOut, C: Clock, D: Desk>(
     ensures read_fault { RoseBy (one_if (is_read result)) (I.failures input.old) (I.failures input.new) }
     ensures write_fault { RoseBy (one_if (is_write result)) (O.failures output.old) (O.failures output.new) }
     ensures reads { SpendsReads session_reads result I.reads I.asked input.old input.new }
+    // proved: It names the cause, memory or the journal | failed_journal_is_out_of_memory
     ensures stopped { IfErr result (λ fault. fault ≢ SessionFault.Write
         → Stops (desk_answers D.step C.tick role) (desk_drops D.step C.tick role) (desk_needs_memory role) fault
         (clock.old, desk.old) (clock.new, desk.new) (I.remaining input.old) (I.remaining input.new)

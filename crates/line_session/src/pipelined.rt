@@ -163,10 +163,12 @@ pub fn pipelined_session<S: Doors, C: Clock, D: Desk>(
     clock: &mut C,
     desk: &mut D,
 ) -> Result<Ended, SessionFault>
+    // proved: It may write answers together
     ensures all_answered { IfOk result (λ ended. RelatesConnection S.In.remaining S.Out.written connection.old
         connection.new
         (λ in_old in_new out_old out_new. Ends (desk_answers D.step C.tick role) (clock.old, desk.old)
         (clock.new, desk.new) in_old in_new out_old out_new ended.lines ended.cut)) }
+    // proved: After a fault, a beginning of them | held_answers_are_written_twice
     ensures broken { OnErr result
         (RelatesConnection S.In.remaining S.Out.written connection.old connection.new
         (Breaks (desk_answers D.step C.tick role) (desk_drops D.step C.tick role) (clock.old, desk.old)
@@ -177,6 +179,7 @@ pub fn pipelined_session<S: Doors, C: Clock, D: Desk>(
         (S.Out.failures connection.new.output) }
     ensures reads { SpendsReads session_reads result S.In.reads S.In.asked connection.old.input
         connection.new.input }
+    // proved: Whole answers, where no device failed
     ensures stopped { IfErr result (λ fault. fault ≢ SessionFault.Write
         → RelatesConnection S.In.remaining S.Out.written connection.old connection.new
         (StopsAtDoor (desk_answers D.step C.tick role) (desk_drops D.step C.tick role) (desk_needs_memory role) fault

@@ -12,12 +12,14 @@ use crate::line_handler::LineHandler;
 /// So a loop that lost bytes behind a line's LF, or took the bytes of one read for a line, couldn't have the contract
 /// of `answer_lines`.
 pub fn law_of_read_sizes<C, D, S: LineHandler<C, D>>()
+    // proved: The sizes of the reads change no answer
     ensures { (handler : S) → IsDetermined (S.answers_with handler)
         → IsIndependentOfReadSizes (S.answers_with handler) }
 {}
 
 /// The same law for the sessions of a role, at a clock and a desk of which each state leads to one next state.
 pub fn law_of_read_sizes_at_desks<C: Clock, D: Desk>()
+    // proved: Nor do they at a desk
     ensures { (role : Role) → IsClockDetermined C.tick → IsDeskDetermined D.step
         → IsIndependentOfReadSizes (desk_answers D.step C.tick role) }
 {}

@@ -30,6 +30,7 @@ pub fn worker<S: Doors, C: Clock, D: Desk>(
     desk: &mut D,
     connections: u32,
 ) -> u64
+    // proved: It serves connections one after another | worker_serves_one_connection_too_few
     ensures { Serves
         (ServesConnection S.opens S.fails S.reported
         (RunsDeskSession D.step C.tick role S.In.remaining S.In.reads S.In.failures S.Out.written S.Out.failures))

@@ -176,6 +176,7 @@ impl<I: LineIn + Drop> Ahead<I> {
     pub fn new(input: I) -> Self
         ensures input { result.input ≡ input }
         ensures empty { result.block ≡ [] }
+        // proved: All its counts begin at 0
         ensures counts { (result.calls ≡ 0) × (result.failures ≡ 0) × (result.asked ≡ 0) }
     {
         Ahead {
@@ -189,6 +190,7 @@ impl<I: LineIn + Drop> Ahead<I> {
 
     /// Whether a line can be read without a read of `input`.
     pub fn holds_line(&self) -> bool
+        // proved: A line that it reports is there
         ensures there { result ≡ true → (count : ℕ) × HasFirstLfAt count self.now.block }
         ensures none { result ≡ false → HasNoLf self.now.block }
     {

@@ -44,6 +44,7 @@ fn is_canonical(word: &[u8]) -> bool
 
 /// The number below 2^64 of decimal digits without leading zeros, else `BadNumber`.
 pub fn number_u64(word: &[u8]) -> Result<u64, LineFault>
+    // proved: It reads a number by its digits | leading_zero_is_taken
     ensures value { result ≡ number 64 word.now }
     ensures memory { result ≢ Err LineFault.OutOfMemory }
 {

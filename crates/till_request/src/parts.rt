@@ -28,6 +28,7 @@ pub fn split_at_most<'a, const N: usize>(
     text: &'a [u8],
     separator: u8,
 ) -> Option<ArrayVec<&'a [u8], N>>
+    // proved: It returns a text's parts, unless they are too many
     ensures { MatchOption result (N < length (slice_split (λ b. b == separator) text.now))
         (λ parts. map (λ w. w.now) parts.items ≡ slice_split (λ b. b == separator) text.now) }
 {

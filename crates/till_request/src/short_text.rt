@@ -74,6 +74,7 @@ fn put_order(text: &mut ShortText, order: Order)
 /// Puts a reply's words, each behind a space; needs room for 153 more bytes.
 pub fn put_reply(text: &mut ShortText, reply: &Reply)
     requires { length text.old.bytes + 153 ≤ SHORT }
+    // proved text, short: It writes the text of a reply | another_reply_is_spelled
     ensures text { text.new.bytes ≡ with_words text.old.bytes (reply_words reply.now) }
     ensures short { length text.new.bytes ≤ length text.old.bytes + 153 }
 {

@@ -14,11 +14,13 @@ use std::fmt;
 
 /// A law: for the role `All` the line of each act, of any length, is read as that act; but a load of no bytes.
 pub fn spelling_is_read()
+    // proved: Each act's text is read back as that act
     ensures { ReadsBack }
 {}
 
 /// A law: words that are read as an act, but for a load, are the words of its spelling.
 pub fn act_has_one_spelling()
+    // proved: Words read as an act, but for a load, are its spelling
     ensures { IsOneSpelling }
 {}
 

@@ -39,6 +39,7 @@ pub fn write_answer<O: LineOut>(
     output: &mut O,
     answer: &Answer,
 ) -> Result<(), WriteFault>
+    // proved ok, memory: It writes an answer's one text | another_reply_is_spelled
     ensures ok { OnOk result (Appends (O.written output.old) (O.written output.new) (answer_line answer.now)) }
     ensures err { IfErr result
         (λ _. (k : ℕ) × Appends (O.written output.old) (O.written output.new) (take k (answer_line answer.now))) }
