@@ -34,6 +34,7 @@ impl Display for Unfit {
 
 /// `config` with `opening` in place of its own. Each counter has its value from `opening` and its bound from `config`.
 pub fn begun(alloc: Global, config: Config, opening: Opening) -> Result<Config, Unfit>
+    // proved begun, unfit, none: A site begins with an opening that fits
     ensures begun { IfOk result (BeginsWith config opening) }
     ensures unfit { IfErr result (IsUnfit config opening) }
     ensures none { IfErr result (λ unfit. ¬ IsOutOfMemory unfit → CannotBegin config opening) }

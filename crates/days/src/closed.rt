@@ -22,6 +22,7 @@ pub struct Closed {
 impl Closed {
     /// The opening that this day, whose number is `day`, leaves.
     pub fn opening(&self, day: u32) -> Result<OpeningFile, Uncarried>
+        // proved left, carries, uncarried: It returns what a day leaves
         ensures left { IfOk result (λ file. file ≡ next_opening day self.now.site) }
         ensures carries { OnOk result (IsOpening (length self.now.site.config.points) (carried self.now.site)) }
         ensures uncarried { IfErr result (IsUncarried day self.now.site) }

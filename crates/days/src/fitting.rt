@@ -87,8 +87,10 @@ impl Display for OverBound {
 
 /// The opening with the configuration's bounds.
 pub fn fitted(config: &Config, opening: Opening) -> Result<Opening, Misfit>
+    // proved same, bounds: It gives an opening the configuration's bounds | opening_keeps_its_own_bounds
     ensures same { IfOk result (λ new. new ≡ record opening { counters = new.counters }) }
     ensures bounds { IfOk result (λ new. AreBounded opening.counters config.now.counters new.counters) }
+    // proved fits, misfit: Else it says what doesn't fit
     ensures fits { OnOk result (Fits config.now opening) }
     ensures misfit { IfErr result (Misfits config.now opening) }
 {

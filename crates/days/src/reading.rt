@@ -170,10 +170,14 @@ fn first_flaw(alloc: Global, text: &[u8], other: &[u8]) -> OpeningFlaw
 /// Reads the text of an opening; no other opening has it. The error is the flaw in the first line in which it differs
 /// from the text of what was read of it.
 pub fn read_opening(alloc: Global, text: &[u8]) -> Result<OpeningFile, OpeningFlaw>
+    // proved read, good: It reads only what has that text | other_spelling_is_read
     ensures read { IfOk result (λ file. opening_text file ≡ text.now) }
+    // proved: A program in it is verified as loaded | program_gets_every_counter
     ensures good { IfOk result (λ file. IsOpeningFile file) }
     ensures fits { IfOk result (λ file. FileFits file) }
+    // proved: And no other opening has it
     ensures only { IfOk result (λ file. IsOnly text.now file) }
+    // proved: A text with a flaw is that of no opening
     ensures flaw { IfErr result (λ flaw. IsFlaw text.now flaw) }
 {
     let Ok(file) = read_loosely(alloc, text) else {

@@ -187,6 +187,8 @@ fn put_journal(alloc: Global, text: &mut String, file: &OpeningFile) -> Result<(
 /// The one text of an opening: its lines, each with an LF.
 #[tactic(auto, using(crate::proofs::Written::whole_text))]
 pub fn opening_text(alloc: Global, file: &OpeningFile) -> Result<String, AllocError>
+    // proved: It is the text of the opening | lock_is_taken_off
+    // proved: Transactions are numbered on in it
     ensures { IfOk result (λ text. string_bytes text ≡ opening_text file.now) }
 {
     let opening = &file.opening;

@@ -202,6 +202,9 @@ fn query_of(request: &Request<Bytes>) -> Option<&[u8]>
 
 /// What a request asks for. Its hosts are checked first, then its scheme, its method, its path, and last its query.
 pub fn requested_endpoint(request: &Request<Bytes>) -> Result<Endpoint, Refusal>
+    // proved: A request for another host than this machine is refused
+    // proved: Only GET and HEAD are
+    // proved: The number behind `after=` is read as it is
     ensures { result ≡ requested_endpoint (head_of request.now) }
 {
     if !is_for_this_machine(request) {

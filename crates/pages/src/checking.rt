@@ -19,6 +19,7 @@ fn without_worker(role_counts: &[RoleCounts]) -> Option<Role>
 }
 
 pub fn health(has_failed: bool, entries: u32, role_counts: &[RoleCounts]) -> Health
+    // proved: It names the first thing that isn't well
     ensures { result ≡ health_of has_failed entries role_counts.now }
 {
     if has_failed {

@@ -9,8 +9,7 @@ use crate::words::role_name;
 use day_report::Sum;
 use decision_journal::{FIRST_REFUSAL, NO_DECISIONS, REFUSALS, Tally, VersionTally};
 use fuelling_point::{Point, State};
-use site_core::Version;
-use site_core::Opening;
+use site_core::{Opening, Version};
 use std::alloc::{AllocError, Global};
 
 /// The lines `# HELP` and `# TYPE` of a metric.

@@ -12,8 +12,7 @@ use crate::texts::{Text, number, numbered};
 use crate::words::{add_entry, order_name, role_name};
 use decision_journal::{Entry, FIRST_REFUSAL, REFUSALS, Tally};
 use fuelling_point::{Point, Transaction};
-use site_core::Version;
-use site_core::Opening;
+use site_core::{Opening, Version};
 use std::alloc::{AllocError, Global};
 
 macro_rules! section {

@@ -140,6 +140,7 @@ fn make_bits(list: Place, points: u32, values: &[i64]) -> Result<u32, ConfigFlaw
 /// A law: a door takes a line exactly if its sessions may send it, by the role made of its `RawRole`: each till's line,
 /// and each dispenser's of a point from 1 to 32.
 pub fn law_of_own_lines()
+    // proved: A door takes what its role may send of a till or a point
     ensures { DoorsTakeOwnLines }
 {}
 

@@ -30,10 +30,12 @@ pub fn read_head<I: LineIn>(
     input: &mut I,
     left: &mut u32,
 ) -> Result<Vec<u8>, InputFault>
+    // proved taken, open, memory: A head ends at a line `---`, at the end, or by its length
     ensures taken { IfOk result (λ bytes. IsHead (I.remaining input.old) (I.remaining input.new) bytes.items) }
     ensures given { OnErr result (TakesSome (I.remaining input.old) (I.remaining input.new)) }
     ensures open { result ≢ Err InputFault.OutOfMemory
         → OnErr result (TakesOpen (I.remaining input.old) (I.remaining input.new)) }
+    // proved each, asked: Each of its bytes is a read of its own
     ensures each { IfOk result (λ bytes. TakesReads (I.remaining input.new) (length bytes.items) left.old left.new) }
     ensures left { left.new ≤ left.old }
     ensures spent { result ≡ Err InputFault.ReadsSpent → left.new ≡ 0 }

@@ -252,10 +252,14 @@ fn settings_in(alloc: Global, document: &Table) -> Result<Settings, ConfigFlaw>
 /// values are (K3).
 #[tactic(auto, unfolding(crate::specs::Ranges::config_of))]
 pub fn read_settings(alloc: Global, bytes: &[u8]) -> Result<Settings, ConfigFlaw>
+    // proved: The same, with a flaw of the fault's number
     ensures found { Gives settings_view (numbered result) (config_of bytes.now) }
+    // proved: The flaw is the document's first, with the key that it names
     ensures named { (document : Members) → document_of bytes.now ≡ Some document
         → Finds settings_view result (settings_of document) }
+    // proved: It names the line and column of a fault (K1)
     ensures position { document_of bytes.now ≡ None → IfErr result (HasRightPosition bytes.now) }
+    // proved: It takes memory only for UTF-8 that isn't blank
     ensures memory { result ≡ Err ConfigFlaw.OutOfMemory → (is_utf8 bytes.now ≡ true) × (¬ IsBlank bytes.now) }
 {
     match read_document(alloc, bytes) {
@@ -266,6 +270,7 @@ pub fn read_settings(alloc: Global, bytes: &[u8]) -> Result<Settings, ConfigFlaw
 
 /// As `read_settings`, with the fault's number alone.
 pub fn read_config(alloc: Global, bytes: &[u8]) -> Result<Settings, ConfigFault>
+    // proved: It is Ok exactly with what the document says
     ensures found { Gives settings_view result (config_of bytes.now) }
     ensures memory { result ≡ Err ConfigFault.OutOfMemory → (is_utf8 bytes.now ≡ true) × (¬ IsBlank bytes.now) }
 {

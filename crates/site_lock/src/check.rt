@@ -146,6 +146,7 @@ fn uncovered_since<L: SiteLedger>(
 /// Compares a history with the receipts of the passes. Returns `None` if they agree, or else a pass with the number of
 /// its first wrong receipt (see `Receipt`), or of an entry of this pass that has no receipt.
 pub fn fault<L: SiteLedger>(history: &[Entry], passes: &[Pass<L>]) -> Option<(u32, u32)>
+    // proved none, some: It says what is wrong with receipts | fault_looks_at_no_receipts
     ensures none { IfNone result (IsMerge history.now passes.now) }
     ensures some { IfSome result (λ x. IsFault history.now passes.now x.0 x.1) }
 {

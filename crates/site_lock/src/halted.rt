@@ -67,6 +67,7 @@ impl<L: SiteLedger, J: Journal> Halted<L, J> {
     }
 
     pub fn history(&self) -> &[Entry]
+        // proved same, matches_journal: It returns that very history
         ensures same { result.now ≡ self.now.locked_site.site.history }
         ensures matches_journal { IsHalted J.may_fail self.now }
     {
@@ -77,6 +78,7 @@ impl<L: SiteLedger, J: Journal> Halted<L, J> {
 
     /// Whether the journal failed. If so, the last entry wasn't answered.
     pub fn journal_has_failed(&self) -> bool
+        // proved: It says whether the journal failed
         ensures { result ≡ self.now.locked_site.journal_failed }
     {
         self.locked_site.journal_has_failed()
@@ -84,6 +86,7 @@ impl<L: SiteLedger, J: Journal> Halted<L, J> {
 
     /// Opens the forecourt for further calls and another close. A journal that failed stays failed.
     pub fn reopen(self) -> Forecourt<L, J>
+        // proved: It can be opened again | forecourt_opens_again_for_one_pass
         ensures { result ≡ self.opened }
     {
         let Halted {
@@ -97,6 +100,7 @@ impl<L: SiteLedger, J: Journal> Halted<L, J> {
 
     /// The journal took the text of all entries that were answered, and, if it failed, a beginning of one more line.
     pub fn into_journal(self) -> J
+        // proved written, matches_journal: It returns the journal
         ensures written { J.written result ≡ self.locked_site.written }
         ensures matches_journal { IsHalted J.may_fail self }
     {

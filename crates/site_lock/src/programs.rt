@@ -36,7 +36,9 @@ pub fn verify_all<R: Threads + Sync>(
     workers: u32,
 ) -> Result<Vec<Result<Program, Refusal>>, AllocError>
     requires { (0 < workers) × (workers ≤ 16) }
+    // proved number, each: It gives `verify`'s answers, in order | answer_of_another_item
     ensures number { IfOk result (λ v. vec_len v ≡ length items.now) }
+    // proved: Each is verified for its layout
     ensures each { IfOk result (λ v. (i : ℕ) (d : _) (e : _) → i < length items.now
         → IsVerified (slice_index_or items.now i d).0.items (slice_index_or items.now i d).1
         (slice_index_or items.now i d).2 (slice_index_or v.items i e)) }
