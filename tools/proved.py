@@ -74,8 +74,8 @@ def rows_of_sources():
         with open(path, encoding="utf-8") as file:
             for call in calls_in(file, crate):
                 for words, clauses, edits in call.marks:
-                    cells = [words] + [", ".join(f"`{cell}`" for cell in cells) for cells in ([call.path], clauses, edits)]
-                    rows[call.path, words] = f"| {cells[0]} | {cells[1]} | {cells[2]} | {cells[3]} |".replace("|  |", "| |")
+                    named = [", ".join(f"`{one}`" for one in cell) for cell in ([call.path], clauses, edits)]
+                    rows[call.path, words] = f"| {' | '.join([words, *named]).rstrip()} |"
                     faults[call.path, words] = faults_of(call, crate, clauses, edits)
     return rows, faults
 
