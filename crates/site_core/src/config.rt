@@ -136,7 +136,9 @@ impl Config {
 
     /// Returns this configuration with this opening. The error is the opening's first fault, or that memory ran out.
     pub fn opened(self, alloc: Global, opening: Opening) -> Result<Config, OpeningFault>
+        // proved value, fits, fault: It adds an opening that fits to a configuration
         ensures value { IfOk result (λ config. config ≡ record self { opening = Some opening }) }
+        // proved fits, fault: No two slots have one version | two_slots_of_one_version
         ensures fits { OnOk result (IsOpening (length self.points) opening) }
         ensures fault { IfErr result (λ fault. Misfits (length self.points) opening fault) }
         ensures memory { IfErr result (λ fault. fault ≡ OpeningFault.OutOfMemory

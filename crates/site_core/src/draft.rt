@@ -127,6 +127,7 @@ impl Draft {
 
     /// Allocates no memory.
     pub fn run(self) -> Ready
+        // proved: It returns the draft with its result | ready_of_another_till
         ensures { result.draft ≡ self }
     {
         let input: &Input = &self.input;

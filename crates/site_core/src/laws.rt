@@ -15,11 +15,13 @@ ghost use Rattle.site_core.specs.declared.why.Why.{Why};
 
 /// A commit is stale only if something differs: where nothing does, no `Why` names a first difference.
 pub fn fresh_differs_nowhere()
+    // proved: Nothing can differ where it is Done
     ensures { (now : Basis) (draft : DraftValue) (why : Why) → IsFresh now draft → Differs now draft why → ⊥ }
 {}
 
 /// Between a draft and a site there is at most one first difference.
 pub fn one_difference_is_first()
+    // proved: One difference alone is the first
     ensures { (now : Basis) (draft : DraftValue) (a b : Why) → Differs now draft a → Differs now draft b → a ≡ b }
 {}
 
@@ -31,27 +33,32 @@ pub fn programs_alone_decide()
 
 /// An audit of a site's own history returns that site, unless memory runs out.
 pub fn audit_of_its_own_history()
+    // proved: An audit of a site's own history gives that very site
     ensures { OwnAudit }
 {}
 
 /// Closing a day changes nothing but entries' numbers: what follows is legal for the next day exactly if it could have
 /// followed the closed day, and leads to the same state, while both days stay below the bounds of one.
 pub fn closing_changes_only_numbers()
+    // proved: Nor what is a legal history, nor its state
     ensures { ClosingChangesOnlyNumbers }
 {}
 
 /// An event has the effect that it would have had if the preceding day had gone on, while both days together have fewer
 /// than 4,096 versions.
 pub fn event_effect_is_same_next_day()
+    // proved: Closing a day changes no effect of an event
     ensures { EventEffectIsSameNextDay }
 {}
 
 /// A site leaves its counters' bounds as it found them.
 pub fn bounds_stay()
+    // proved: Counters keep their bounds through a day
     ensures { BoundsStay }
 {}
 
 /// If nobody but the site's tills holds a transaction at first, nobody else does at the end.
 pub fn holders_stay()
+    // proved: If only the site's tills held transactions at first, so at the end
     ensures { HoldersStay }
 {}

@@ -66,6 +66,7 @@ impl Slots {
         requires few { before ≤ 4290000000 }
         requires rules { All (IsRule before) opened.items }
         requires places { length opened.items ≤ 16 }
+        // proved: Slots begin with the versions of an opening
         ensures { result ≡ opened_slots before opened.items }
     {
         Slots {
@@ -78,6 +79,7 @@ impl Slots {
 
     /// Installs a program as a new version, and returns its number. After an error the program is dropped.
     pub fn install(&mut self, slot: u32, program: Arc<Program>) -> Result<u32, SlotFault>
+        // proved step, refusal, unchanged: Versions are appended | number_is_used_again
         ensures step { IfOk result (λ number. Installs self.old slot (arc_value program) number self.new) }
         ensures refusal { Refuses self.old slot result }
         ensures unchanged { OnErr result (self.new ≡ self.old) }
@@ -137,6 +139,7 @@ impl Slots {
 
     /// Returns the versions in slots 0 to 15, from which `Slots::opened` can make new slots. Programs are shared.
     pub fn rules(&self, alloc: Global) -> Result<Vec<Option<Version>>, AllocError>
+        // proved each, good: It returns the version in each slot | replaced_version_is_carried
         ensures each { IfOk result
             (λ rules. rules.items ≡ map (λ slot. version_in self.now slot) (range_with_len 0 16)) }
         ensures good { IfOk result (λ rules. All (IsRule (self.now.before + length self.now.programs)) rules.items) }
