@@ -1,4 +1,4 @@
-//! The comparison of the site's current state with the state that a run was made on.
+//! The comparison of the site's current state with the state that a run was made on. Places are counted from 0.
 
 ghost use Rattle.std.specs.Prelude.{◌≡◌, ◌≢◌, ◌↔◌, ◌<◌, IsTrue, ◌^◌, length, MatchOption, MatchResult, Some, None};
 ghost use Rattle.std.specs.Prelude.{option_map, IfSome, ◌≤◌, drop, max};

@@ -266,6 +266,7 @@ impl DraftMemory {
     }
 }
 
+/// A draft that was run, with the program's answer and the counters after the run.
 #[derive(Drop)]
 pub struct Ready {
     draft: Draft,
@@ -294,12 +295,14 @@ impl Ready {
     ghost use Rattle.site_core.specs.Outside.{IsRunOf};
     ghost use Rattle.site_core.specs.Steps.{point_asked};
 
+    /// Returns 0 if the request names no point.
     pub fn point(&self) -> u32
         ensures { result ≡ point_asked self.now.draft.request }
     {
         point_asked(&self.draft.request)
     }
 
+    /// Returns the memory and the program of the run, for another draft.
     pub fn into_draft_memory(self) -> DraftMemory {
         let Ready { draft, .. } = self;
         let Draft {

@@ -18,6 +18,7 @@ use verifier::Program;
 /// The most versions that can be installed in all slots together, besides those that the slots begin with.
 pub const VERSIONS: usize = 4096;
 
+/// Slots are numbered from 0.
 pub const SLOTS: u32 = 16;
 
 /// Why a program wasn't installed in a slot, and nothing has changed.

@@ -172,6 +172,7 @@ impl Station {
         event_reply(outcome)
     }
 
+    /// Returns the reply to a till's request to show point `n`, counted from 1.
     pub fn show(&self, n: u32) -> Reply
         ensures { result ≡ show_reply self.now n }
     {
@@ -190,6 +191,7 @@ impl Station {
         }
     }
 
+    /// Returns point `n`, counted from 1.
     pub fn point(&self, n: u32) -> Option<&Point>
         ensures { option_copied result ≡ at_number self.now.points n }
     {
