@@ -18,12 +18,20 @@ macro_rules! head {
     };
 }
 
-pub fn add_row(html: &mut TextBuilder, name: Text, cells: &[Text]) {
-    html.fill("<tr><th scope=\"row\">{}</th>", &[name]);
+const ROW_HEAD: &str = "<tr><th scope=\"row\">{}</th>";
+
+const ROW_END: &str = "</tr>\n";
+
+fn add_cells(html: &mut TextBuilder, cells: &[Text]) {
     for cell in cells {
         html.fill("<td>{}</td>", &[*cell]);
     }
-    html.add("</tr>\n");
+}
+
+pub fn add_row(html: &mut TextBuilder, name: Text, cells: &[Text]) {
+    html.fill(ROW_HEAD, &[name]);
+    add_cells(html, cells);
+    html.add(ROW_END);
 }
 
 const FOOT: &str = "</tbody></table></div>\n";
@@ -121,22 +129,24 @@ pub(crate) fn add_unpaid(html: &mut TextBuilder, unpaid: &[Unpaid]) {
     html.add(FOOT);
 }
 
-/// Adds the version at `place` in `totals.versions`, which `entry` loaded after the moment `loaded`.
+/// Adds the version at `place` in `totals.versions`, which `entry` loaded after the moment `loaded`, where one is told.
 fn add_version(
     html: &mut TextBuilder,
     totals: &Totals,
     place: usize,
     rule: CarriedRule,
     entry: Text,
-    loaded: Text,
+    loaded: Option<Text>,
 ) {
     let Some(verdicts) = totals.verdicts.get(place) else {
         return;
     };
+    html.fill(ROW_HEAD, &[Text::Number(rule.version as u64)]);
+    add_cells(html, &[Text::Number(rule.slot as u64), entry]);
+    if let Some(loaded) = loaded {
+        add_cells(html, &[loaded]);
+    }
     let cells = [
-        Text::Number(rule.slot as u64),
-        entry,
-        loaded,
         Text::Number(verdicts.releases.granted),
         Text::Number(verdicts.releases.denied),
         Text::Number(verdicts.presets.granted),
@@ -144,10 +154,16 @@ fn add_version(
         Text::Number(verdicts.prices.granted),
         Text::Number(verdicts.prices.denied),
     ];
-    add_row(html, Text::Number(rule.version as u64), &cells);
+    add_cells(html, &cells);
+    html.add(ROW_END);
 }
 
-fn add_load(html: &mut TextBuilder, totals: &Totals, place: usize, load: &Load) {
+fn add_load(html: &mut TextBuilder, totals: &Totals, place: usize, load: &Load, is_told: bool) {
+    let loaded = if is_told {
+        Some(Text::Moment(load.moment))
+    } else {
+        None
+    };
     let rule = CarriedRule {
         slot: load.slot,
         version: load.version,
@@ -158,25 +174,52 @@ fn add_load(html: &mut TextBuilder, totals: &Totals, place: usize, load: &Load) 
         totals.carried.len().saturating_add(place),
         rule,
         Text::Number(load.number as u64),
-        Text::Moment(load.moment),
+        loaded,
     );
 }
 
 const VERSIONS: &str = head!(
     "versions";
+    "Version", "Slot", "Entry", "Releases granted", "denied", "Presets granted", "denied", "Prices granted", "denied"
+);
+
+const VERSIONS_WITH_MOMENTS: &str = head!(
+    "versions";
     "Version", "Slot", "Entry", "Loaded after", "Releases granted", "denied", "Presets granted", "denied",
     "Prices granted", "denied"
 );
 
+/// Whether a moment is told for one of these loads.
+fn has_moment(loads: &[Load]) -> bool {
+    for load in loads {
+        if load.moment > 0 {
+            return true;
+        }
+    }
+    false
+}
+
 /// First come the versions that were carried in, then those that were loaded.
 pub(crate) fn add_versions(html: &mut TextBuilder, totals: &Totals) {
-    html.add(VERSIONS);
+    let is_told = has_moment(&totals.loads);
+    html.add(if is_told {
+        VERSIONS_WITH_MOMENTS
+    } else {
+        VERSIONS
+    });
     for (place, rule) in totals.carried.iter().enumerate() {
-        let (entry, loaded) = (Text::Words("carried in"), Text::Words(""));
-        add_version(html, totals, place, *rule, entry, loaded);
+        let loaded = if is_told { Some(Text::Words("")) } else { None };
+        add_version(
+            html,
+            totals,
+            place,
+            *rule,
+            Text::Words("carried in"),
+            loaded,
+        );
     }
     for (place, load) in totals.loads.iter().enumerate() {
-        add_load(html, totals, place, load);
+        add_load(html, totals, place, load, is_told);
     }
     html.add(FOOT);
 }
