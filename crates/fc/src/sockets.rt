@@ -1,4 +1,5 @@
 //! The files of local sockets.
+use std::alloc::{AllocError, Global};
 use std::fmt::{self, Display};
 use std::fs::{self, DirEntry, FileType, Files, Permissions};
 use std::io::{self, ErrorKind};
@@ -96,10 +97,10 @@ fn check_path_free<H: Net>(rt: &HostRuntime, host: &H, path: &str) -> io::Result
     }
 }
 
-/// Returns whether an entry of a folder is a socket with the name `s`. The error is the system's.
-fn is_socket_s(entry: io::Result<DirEntry>) -> io::Result<bool> {
+/// Whether an entry of a folder is a socket with the name `s` or `o`.
+fn is_staged(entry: io::Result<DirEntry>) -> io::Result<bool> {
     let entry = entry?;
-    if entry.file_name() != "s" {
+    if entry.file_name() != "s" && entry.file_name() != "o" {
         return Ok(false);
     }
     match entry.file_type() {
@@ -108,14 +109,13 @@ fn is_socket_s(entry: io::Result<DirEntry>) -> io::Result<bool> {
     }
 }
 
-/// Returns whether a killed process could have left what is at the path `folder`: a folder that is empty, or has only a
-/// socket with the name `s`. The error is the system's.
+/// Whether a killed process could have left what is at the path `folder`: a folder with nothing but staged sockets.
 fn is_leftover_folder(rt: &HostRuntime, folder: &str) -> io::Result<bool> {
     if !find(rt, folder)?.kind.is_dir() {
         return Ok(false);
     }
     for entry in fs::read_dir(rt, folder)? {
-        match is_socket_s(entry) {
+        match is_staged(entry) {
             Ok(true) => (),
             other => return other,
         }
@@ -131,114 +131,147 @@ fn remove(rt: &HostRuntime, path: &str) -> io::Result<()> {
     }
 }
 
-/// If a killed process could have left `folder`, perhaps with the socket `socket` in it, removes both, makes the folder
-/// again, and returns true. Otherwise returns false, and removes nothing. The error is the system's, or that somebody
-/// listens at `socket`.
+/// Where a socket is bound before it has its own path: a folder, and in it the socket, and the one that it replaces.
+#[derive(Drop)]
+struct Staging {
+    folder: String,
+    socket: String,
+    replaced: String,
+}
+
+impl Staging {
+    fn beside(alloc: Global, path: &str) -> Result<Staging, AllocError> {
+        let folder = StagingFolder(path);
+        Ok(Staging {
+            folder: format!(in alloc; "{folder}")?,
+            socket: format!(in alloc; "{folder}/s")?,
+            replaced: format!(in alloc; "{folder}/o")?,
+        })
+    }
+}
+
+fn remove_if_free<H: Net>(rt: &HostRuntime, host: &H, path: &str) -> io::Result<()> {
+    check_path_free(rt, host, path)?;
+    remove(rt, path)
+}
+
+/// If a killed process could have left the folder, perhaps with sockets in it, makes it anew, and returns true. It's an
+/// error if somebody listens at one of these sockets.
 fn replace_leftover_folder<H: Net>(
     rt: &HostRuntime,
     host: &H,
-    folder: &str,
-    socket: &str,
+    staging: &Staging,
 ) -> io::Result<bool> {
-    if !is_leftover_folder(rt, folder)? {
+    if !is_leftover_folder(rt, &staging.folder)? {
         return Ok(false);
     }
-    check_path_free(rt, host, socket)?;
-    remove(rt, socket)?;
-    fs::remove_dir(rt, folder)?;
-    rt.create_dir_with_mode(folder, 0o700)?;
+    remove_if_free(rt, host, &staging.socket)?;
+    remove_if_free(rt, host, &staging.replaced)?;
+    fs::remove_dir(rt, &staging.folder)?;
+    rt.create_dir_with_mode(&staging.folder, 0o700)?;
     Ok(true)
 }
 
-/// Makes `folder`, which nobody else may enter. Replaces a folder that a killed process could have left there, perhaps
-/// with the socket `socket` in it. Returns false if anything else is at `folder`. The error is the system's, or that
-/// somebody listens at `socket`.
-fn make_folder<H: Net>(rt: &HostRuntime, host: &H, folder: &str, socket: &str) -> io::Result<bool> {
-    match rt.create_dir_with_mode(folder, 0o700) {
+/// Makes the folder, which nobody else may enter, also in place of one that a killed process could have left. Returns
+/// false if anything else is there.
+fn make_folder<H: Net>(rt: &HostRuntime, host: &H, staging: &Staging) -> io::Result<bool> {
+    match rt.create_dir_with_mode(&staging.folder, 0o700) {
         Ok(()) => Ok(true),
         Err(error) if error.kind() == ErrorKind::AlreadyExists => {
-            replace_leftover_folder(rt, host, folder, socket)
+            replace_leftover_folder(rt, host, staging)
         }
         Err(error) => Err(error),
     }
 }
 
-/// Gives the socket's file at `socket` a second name, `path`. If a socket at which nobody listens is already at `path`,
-/// removes that one first. Anything else at `path` is an error.
-fn link_to<H: Net>(rt: &HostRuntime, host: &H, socket: &str, path: &str) -> io::Result<()> {
-    match fs::hard_link(rt, socket, path) {
+/// Removes the socket at `path`, at which nobody listens. It is looked at once more at `replaced`, where no other process
+/// can put its own: one that was bound at `path` meanwhile has its name back, and is an error.
+fn take_away<H: Net>(rt: &HostRuntime, host: &H, path: &str, replaced: &str) -> io::Result<()> {
+    check_path_free(rt, host, path)?;
+    match fs::rename(rt, path, replaced) {
+        Ok(()) => (),
+        Err(error) if error.kind() == ErrorKind::NotFound => return Ok(()),
+        Err(error) => return Err(error),
+    }
+    let checked = check_path_free(rt, host, replaced);
+    if checked.is_err() {
+        let _ = fs::hard_link(rt, replaced, path);
+    }
+    let _ = fs::remove_file(rt, replaced);
+    checked
+}
+
+/// Gives the socket's file a second name, `path`, also in place of a socket at which nobody listens. Anything else at
+/// `path` is an error.
+fn link_to<H: Net>(rt: &HostRuntime, host: &H, staging: &Staging, path: &str) -> io::Result<()> {
+    match fs::hard_link(rt, &staging.socket, path) {
         Err(error) if error.kind() == ErrorKind::AlreadyExists => {
-            check_path_free(rt, host, path)?;
-            remove(rt, path)?;
-            fs::hard_link(rt, socket, path)
+            take_away(rt, host, path, &staging.replaced)?;
+            fs::hard_link(rt, &staging.socket, path)
         }
         put => put,
     }
 }
 
-/// Gives the file of a bound socket this mode, moves it from `socket` to `path`, and returns it. Replaces a socket at
-/// `path` at which nobody listens. Anything else at `path` is an error; the other errors are the system's.
+/// Gives the file of a bound socket this mode, moves it to `path`, and returns it.
 fn move_to<'a, H: Net>(
     rt: &'a HostRuntime,
     host: &H,
-    socket: &str,
+    staging: &Staging,
     path: &'a str,
     mode: u32,
 ) -> io::Result<SocketFile<'a>> {
-    fs::set_permissions(rt, socket, Permissions::from_mode(mode))?;
-    let there = find(rt, socket)?;
-    link_to(rt, host, socket, path)?;
-    // If the name `socket` can't be removed, `file` is dropped, which removes the name `path`.
+    fs::set_permissions(rt, &staging.socket, Permissions::from_mode(mode))?;
+    let there = find(rt, &staging.socket)?;
+    link_to(rt, host, staging, path)?;
+    // If the first name can't be removed, `file` is dropped, which removes the name `path`.
     let file = SocketFile {
         rt,
         path,
         device: there.device,
         inode: there.inode,
     };
-    match fs::remove_file(rt, socket) {
+    match fs::remove_file(rt, &staging.socket) {
         Ok(()) => Ok(file),
         Err(error) => Err(error),
     }
 }
 
-/// Binds a socket at `socket`, gives its file this mode, and moves the file to `path`. If that fails after the socket
-/// is bound, removes the file. The error is why it failed. The result is never `None`.
+/// Binds a socket, and moves its file to `path`; removes the file if that fails. The result is never `None`.
 fn bind_and_move<'a, H: Files + Net>(
     rt: &'a HostRuntime,
     host: &H,
-    socket: &str,
+    staging: &Staging,
     path: &'a str,
     mode: u32,
 ) -> io::Result<Option<Listening<'a>>> {
-    // If this fails, any socket at `socket` was bound by another process, so it isn't removed.
-    let listener = UnixListener::bind(host, socket)?;
-    match move_to(rt, host, socket, path, mode) {
+    // If this fails, any socket there was bound by another process, so it isn't removed.
+    let listener = UnixListener::bind(host, &staging.socket)?;
+    match move_to(rt, host, staging, path, mode) {
         Ok(file) => Ok(Some((listener, file))),
         Err(error) => {
-            let _ = fs::remove_file(rt, socket);
+            let _ = fs::remove_file(rt, &staging.socket);
             Err(error)
         }
     }
 }
 
-/// Makes `folder`, binds a socket in it, gives the socket's file this mode, moves the file to `path`, and removes the
-/// folder. Replaces a folder that a killed process could have left at `folder`. Returns `None` if anything else is
-/// already there. The error is why no socket was bound, or why its file wasn't moved.
+/// Makes the folder, binds a socket in it, moves its file to `path`, and removes the folder. Returns `None` if anything
+/// but a leftover folder is at the folder's path.
 fn bind_beside<'a, H: Files + Net>(
     rt: &'a HostRuntime,
     host: &H,
     path: &'a str,
-    folder: &str,
+    staging: &Staging,
     mode: u32,
 ) -> io::Result<Option<Listening<'a>>> {
-    let socket = format!(in rt.alloc(); "{folder}/s")?;
-    match make_folder(rt, host, folder, &socket) {
+    match make_folder(rt, host, staging) {
         Ok(true) => (),
         Ok(false) => return Ok(None),
         Err(error) => return Err(error),
     }
-    let made = bind_and_move(rt, host, &socket, path, mode);
-    let _ = fs::remove_dir(rt, folder);
+    let made = bind_and_move(rt, host, staging, path, mode);
+    let _ = fs::remove_dir(rt, &staging.folder);
     made
 }
 
@@ -259,6 +292,6 @@ pub fn listen_at<'a, H: Files + Net>(
         return Err(io::Error::other("the path has more than 104 bytes"));
     }
     check_path_free(rt, host, path)?;
-    let folder = format!(in rt.alloc(); "{}", StagingFolder(path))?;
-    bind_beside(rt, host, path, &folder, mode)
+    let staging = Staging::beside(rt.alloc(), path)?;
+    bind_beside(rt, host, path, &staging, mode)
 }
