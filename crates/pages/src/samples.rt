@@ -38,15 +38,15 @@ macro_rules! summary {
 
 /// Returns the metrics of a station at one moment.
 pub fn metrics(alloc: Global, station: &StationSnapshot<'_>) -> Result<String, AllocError> {
-    let left = station.left;
+    let opening = station.next_opening;
     let mut text = TextBuilder::new(alloc);
     add_journal(&mut text, station);
     add_refusals(&mut text, station.tally);
-    add_decisions(&mut text, station.tally, &left.rules);
-    add_points(&mut text, &left.points);
-    add_money(&mut text, left);
+    add_decisions(&mut text, station.tally, &opening.rules);
+    add_points(&mut text, &opening.points);
+    add_money(&mut text, opening);
     add_sales(&mut text, station);
-    add_counters(&mut text, left);
+    add_counters(&mut text, opening);
     add_peers(&mut text, station.role_counts);
     add_doors(&mut text, station.doors);
     add_times(&mut text, LOCK_WAITS, station.waits);
@@ -199,13 +199,13 @@ const CLEARED: &str = singles!(
     "fc_cleared_total" is a "counter": "Transactions that were ever cleared."
 );
 
-fn add_money(text: &mut TextBuilder, left: &Opening) {
+fn add_money(text: &mut TextBuilder, opening: &Opening) {
     text.fill(
         CLEARED,
-        &[Text::Number(left.cleared), Text::Number(left.clears)],
+        &[Text::Number(opening.cleared), Text::Number(opening.clears)],
     );
     text.add(head!("fc_price_thousandths" is a "gauge": "Price of a litre, in thousandths."));
-    for (place, price) in left.prices.iter().enumerate() {
+    for (place, price) in opening.prices.iter().enumerate() {
         if *price > 0 {
             let (product, price) = (numbered(place, 1), u64::from(*price));
             add_sample(
@@ -293,19 +293,19 @@ fn first_sums(sums: &[Sum], count: usize) -> &[Sum] {
 }
 
 fn add_sales(text: &mut TextBuilder, station: &StationSnapshot<'_>) {
-    let (sums, left) = (station.sums, station.left);
-    let points = first_sums(&sums.points, left.points.len());
+    let (sums, opening) = (station.sums, station.next_opening);
+    let points = first_sums(&sums.points, opening.points.len());
     let tills = first_sums(&sums.tills, station.tills as usize);
     add_sums!(text, "fc_sales" by "point": points, 1);
     add_sums!(text, "fc_till_sales" by "till": tills, 1);
     add_sums!(text, "fc_hour_sales" by "hour": &sums.hours, 0);
 }
 
-fn add_counters(text: &mut TextBuilder, left: &Opening) {
+fn add_counters(text: &mut TextBuilder, opening: &Opening) {
     text.add(head!("fc_counters" is a "gauge": "Value of a counter whose bound is over 0."));
     for counter in 0..32u32 {
-        if left.counters.bound(counter) > 0 {
-            let value = left.counters.get(counter);
+        if opening.counters.bound(counter) > 0 {
+            let value = opening.counters.get(counter);
             add_sample(
                 text,
                 "fc_counters{counter=\"{}\"} {}\n",
@@ -316,7 +316,7 @@ fn add_counters(text: &mut TextBuilder, left: &Opening) {
     }
     text.add(head!("fc_counters_bound" is a "gauge": "Bound of a counter."));
     for counter in 0..32u32 {
-        let bound = left.counters.bound(counter);
+        let bound = opening.counters.bound(counter);
         if bound > 0 {
             add_sample(
                 text,

@@ -32,18 +32,18 @@ const TITLE: &str = "<meta http-equiv=\"refresh\" content=\"5\">\n<title>The sta
 
 /// The page that shows a station at one moment. It has no script and refers to no other file.
 pub fn page(alloc: Global, station: &StationSnapshot<'_>) -> Result<String, AllocError> {
-    let left = station.left;
+    let opening = station.next_opening;
     let mut html = TextBuilder::new(alloc);
     html.add(HEAD);
     html.add(TITLE);
     html.add(STYLE);
     add_headline(&mut html, station);
-    add_points(&mut html, left);
-    add_unpaid(&mut html, &left.points);
+    add_points(&mut html, opening);
+    add_unpaid(&mut html, &opening.points);
     add_sales(&mut html, station);
-    add_prices(&mut html, &left.prices);
-    add_rules(&mut html, &left.rules, station.tally);
-    add_counters(&mut html, left);
+    add_prices(&mut html, &opening.prices);
+    add_rules(&mut html, &opening.rules, station.tally);
+    add_counters(&mut html, opening);
     add_refusals(&mut html, station.tally);
     add_peers(&mut html, station.role_counts);
     add_doors(&mut html, station.doors);
@@ -65,7 +65,7 @@ fn add_headline(html: &mut TextBuilder, station: &StationSnapshot<'_>) {
         ),
     }
     html.add("<ul class=\"figures\">\n");
-    let left = station.left;
+    let opening = station.next_opening;
     let entries = u64::from(station.entries);
     add_figure(html, "Entries", thousands(entries));
     add_figure(
@@ -73,8 +73,8 @@ fn add_headline(html: &mut TextBuilder, station: &StationSnapshot<'_>) {
         "Journal full, in per cent",
         Text::Number(entries.saturating_mul(100) / ENTRIES),
     );
-    add_figure(html, "Cleared so far", hundredths(left.cleared));
-    add_figure(html, "Transactions cleared", thousands(left.clears));
+    add_figure(html, "Cleared so far", hundredths(opening.cleared));
+    add_figure(html, "Transactions cleared", thousands(opening.clears));
     add_figure(html, "Tills", digits(station.tills));
     html.add("</ul>\n");
 }
@@ -106,11 +106,11 @@ fn add_point(html: &mut TextBuilder, place: usize, point: &Point, prices: &[u32;
     add_row(html, numbered(place, 1), &cells);
 }
 
-fn add_points(html: &mut TextBuilder, left: &Opening) {
+fn add_points(html: &mut TextBuilder, opening: &Opening) {
     html.add(section!("points" with title "Points" and columns
         "Point", "State", "Nozzle", "Price", "Pending order", "Preset", "Granted", "Money", "Litres"));
-    for (place, point) in left.points.iter().enumerate() {
-        add_point(html, place, point, &left.prices);
+    for (place, point) in opening.points.iter().enumerate() {
+        add_point(html, place, point, &opening.prices);
     }
     html.add(END);
 }
@@ -144,13 +144,13 @@ fn add_unpaid(html: &mut TextBuilder, points: &[Point]) {
 }
 
 fn add_sales(html: &mut TextBuilder, station: &StationSnapshot<'_>) {
-    let (sums, left) = (station.sums, station.left);
+    let (sums, opening) = (station.sums, station.next_opening);
     html.add("<section id=\"sales\"><h2>Sales of this day</h2>\n<ul class=\"figures\">\n");
     add_figure(html, "Sold", Text::Hundredths(sums.all.cents));
     add_figure(html, "Sales", Text::Thousands(sums.all.count as u128));
     add_figure(html, "Litres sold", Text::Hundredths(sums.all.centilitres));
     html.add("</ul>\n");
-    let count = left.points.len().min(sums.points.len());
+    let count = opening.points.len().min(sums.points.len());
     let points = &sums.points[..count];
     add_bars(html, points);
     add_parts(html, POINT_SALES, points, 1);
@@ -203,12 +203,12 @@ fn add_rules(html: &mut TextBuilder, rules: &[Option<Version>], tally: &Tally) {
     html.add(END);
 }
 
-fn add_counters(html: &mut TextBuilder, left: &Opening) {
+fn add_counters(html: &mut TextBuilder, opening: &Opening) {
     html.add(section!("counters" with title "Counters" and columns "Counter", "Value", "Bound"));
     for counter in 0..32u32 {
-        let bound = left.counters.bound(counter);
+        let bound = opening.counters.bound(counter);
         if bound > 0 {
-            let value = left.counters.get(counter);
+            let value = opening.counters.get(counter);
             add_row(html, digits(counter), &[thousands(value), thousands(bound)]);
         }
     }

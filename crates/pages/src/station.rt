@@ -10,7 +10,7 @@ pub struct StationSnapshot<'a> {
     pub tills: u32,
     pub entries: u32,
     /// What the next day would begin with if the site were closed now.
-    pub left: &'a Opening,
+    pub next_opening: &'a Opening,
     /// Whether a write to the journal, or a sync of its file, failed.
     pub has_failed: bool,
     /// `None` if the journal isn't kept in a file.
