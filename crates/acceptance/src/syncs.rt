@@ -1,6 +1,6 @@
 //! Tests that an answer waits until its line in the journal is synced, and that several threads share a sync. The tests
 //! make files whose syncs fail or wait.
-use group_sync::{Claim, CountedOut, Durable, GroupSync, HeldOut, MemoryDisk, Shared};
+use site_server::{Claim, CountedOut, Durable, GroupSync, HeldOut, MemoryDisk, SyncBeforeAnswer};
 use std::alloc::{AllocError, Global};
 use std::sync::atomic::{AtomicBool, AtomicU64, Ordering};
 use std::sync::{Mutex, Wait};
@@ -39,8 +39,8 @@ fn stays<J: LineOut, A: LineOut>(journal: &mut J, answers: &mut A) -> bool {
 /// Returns true if all this happens, and the file is synced exactly twice, the second time in vain.
 fn one_answer_leaves<R: Wait + Clock>(rt: &R, alloc: Global) -> bool {
     let group = GroupSync::new(MemoryDisk::new(1));
-    let shared = Shared { rt, group: &group };
-    let mut journal = CountedOut::new(memory(alloc), Shared { rt, group: &group });
+    let shared = SyncBeforeAnswer { rt, group: &group };
+    let mut journal = CountedOut::new(memory(alloc), SyncBeforeAnswer { rt, group: &group });
     let mut held = HeldOut::new(memory(alloc), &shared);
     let first = leaves(&mut journal, &mut held);
     // The first answer left after a sync of the journal's only line, and no line was written to the journal since then.
@@ -68,7 +68,7 @@ fn an_answer_leaves_once_its_line_is_synced(rt: HostRuntime) {
 }
 
 /// A journal under a lock, to which several threads write lines.
-type Journal<'a, R> = Mutex<CountedOut<MemoryOut, Shared<'a, R, MemoryDisk>>>;
+type Journal<'a, R> = Mutex<CountedOut<MemoryOut, SyncBeforeAnswer<'a, R, MemoryDisk>>>;
 
 /// Writes a line to a journal, and returns how many bytes have been written to it in all.
 fn bytes_written<R: Wait + Clock>(rt: &R, journal: &Journal<'_, R>) -> u64 {
@@ -103,7 +103,7 @@ fn beside_one_another<R: Wait + Clock + Threads + Sync>(
     let group = GroupSync::new(MemoryDisk::new(u64::MAX));
     let journal: Journal<'_, R> = Mutex::new(CountedOut::new(
         memory(alloc),
-        Shared { rt, group: &group },
+        SyncBeforeAnswer { rt, group: &group },
     ));
     let (forecourt, lines) = (&group, &journal);
     let all = map_indices(

@@ -4,6 +4,7 @@ pub mod Collecting
 pub mod Credit
 pub mod FirstWords
 pub mod Keeping
+pub mod LastRan
 pub mod Numbering
 pub mod Paths
 pub mod Posting

@@ -5,10 +5,13 @@ pub mod Draining
 pub mod Guard
 pub mod Guarding
 pub mod Limits
+pub mod Outputs
 pub mod Pace
 pub mod Pacing
 pub mod Pauses
 pub mod Plans
+pub mod Progress
+pub mod Reporting
 pub mod Starting
 pub mod Tasks
 pub mod Words

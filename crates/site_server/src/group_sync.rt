@@ -1,6 +1,5 @@
 //! Group sync: an answer is sent only once the journal is synced up to and including the line of the answer's entry.
 //! One sync serves all answers that wait when it begins.
-#![tactic(auto)]
 
 mod durable;
 mod group;
@@ -9,7 +8,7 @@ mod memory_disk;
 mod outputs;
 mod progress;
 mod release;
-mod shared;
+mod sync_before_answer;
 mod sync_waiters;
 
 pub use durable::Durable;
@@ -19,4 +18,4 @@ pub use memory_disk::MemoryDisk;
 pub use outputs::{CountedOut, HeldOut};
 pub use progress::Claim;
 pub use release::{AtOnce, Release, WriteMonitor};
-pub use shared::Shared;
+pub use sync_before_answer::SyncBeforeAnswer;

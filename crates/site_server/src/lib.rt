@@ -5,6 +5,7 @@ mod beginning;
 mod crew;
 mod doors;
 mod draining;
+mod group_sync;
 mod guard;
 mod judging;
 mod limiter;
@@ -24,7 +25,9 @@ mod workers;
 
 pub use crew::{Crew, OpenDoor};
 pub use doors::SocketDoors;
-pub use group_sync::{AtOnce, Claim, CountedOut, Durable, GroupSync, MemoryDisk, Release, Shared};
+pub use group_sync::{
+    AtOnce, Claim, CountedOut, Durable, GroupSync, HeldOut, MemoryDisk, Release, SyncBeforeAnswer,
+};
 pub use guard::GuardedReader;
 pub use limiter::Limiter;
 pub use line_session::SessionFault;

@@ -3,11 +3,11 @@ ghost use Rattle.std.specs.Prelude.{◌≡◌, IfSome, IsTrue, Some, map};
 ghost use Rattle.site_server.specs.Collecting.{MayRunWorker, RunEach};
 
 use crate::crew::Worker;
+use crate::group_sync::Release;
 use crate::notices::Notices;
 use crate::starting::ThreadCounts;
 use crate::tasks::WorkerTask;
 use crate::workers::Workers;
-use group_sync::Release;
 use site_lock::{Journal, Pass, SiteLedger};
 use std::marker::PhantomData;
 use std::snapshot::Snapshot;
@@ -31,8 +31,9 @@ impl<L: SiteLedger, J: Journal> Promise<Option<(Pass<L>, u64)>> for WorkerPromis
         done };
 }
 
-/// Runs these tasks; `threads` counts the threads of those before. When all have been asked for, it is decided whether
-/// the site is served. A task without a thread runs here, once those after it have ended. Returns whether all ran.
+/// Runs these tasks, the last one first; `threads` counts the threads of those behind them. When all have been asked for,
+/// it is decided whether the site is served. The first doors are those for tills, which have most workers to spare. A
+/// task without a thread runs here, once those before it have ended. Returns whether all ran.
 fn run_each<
     's,
     E,
@@ -50,15 +51,14 @@ fn run_each<
     ensures { IsTrue result → RunEach L.config J.may_fail workers.now.connections
         (map (λ p. p.waiting) tasks.old) (map (λ p. p.done) tasks.new) }
 {
-    let Some((task, rest)) = tasks.split_first_mut() else {
+    let Some((task, rest)) = tasks.split_last_mut() else {
         workers.start(threads);
         return true;
     };
-    let Some((pass, worker)) = task.waiting.take() else {
+    let Some(own) = task.waiting.take() else {
         return run_each(scope, workers, rest, threads);
     };
-    let (role, number) = (worker.role, pass.id());
-    let own = (pass, worker);
+    let (role, number) = (own.1.role, own.0.id());
     let promise = WorkerPromise::<L, J> {
         task: Snapshot::of(&own),
         connections: workers.connections,

@@ -6,6 +6,7 @@ ghost use Rattle.site_server.specs.Ending.{IsServed, NeverServes, RefusesWithFau
 ghost use Rattle.site_server.specs.Collecting.{AreWaiting, HasCrew, RunEach};
 
 use crate::crew::Crew;
+use crate::group_sync::Release;
 use crate::notices::Notices;
 use crate::running::run_in_threads;
 use crate::starting::StartGate;
@@ -13,7 +14,6 @@ use crate::tasks::{WorkerTask, collect_passes, tasks_of};
 use crate::watcher::Watcher;
 use crate::workers::Workers;
 use day_report::Sums;
-use group_sync::Release;
 use site_core::{Config, Site, Watched};
 use site_lock::{CloseRefusal, Forecourt, ForecourtBuilder, Journal, NoJournal, Pass, SiteLedger};
 use std::alloc::{AllocError, Global};

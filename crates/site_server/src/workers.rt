@@ -5,9 +5,9 @@ ghost use Rattle.site_server.specs.Tasks.{Worked};
 
 use crate::crew::Worker;
 use crate::doors::SocketDoors;
+use crate::group_sync::{HeldDoors, Release};
 use crate::notices::Notices;
 use crate::starting::{StartGate, ThreadCounts};
-use group_sync::{HeldDoors, Release};
 use line_session::serving::worker;
 use line_session::{Doors, MachineClock};
 use site_lock::{Forecourt, Journal, Pass, PassDesk, SiteLedger, Straight};

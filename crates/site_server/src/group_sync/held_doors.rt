@@ -1,8 +1,8 @@
 //! A source of connections whose answers are sent only once the journal is synced.
-ghost use Rattle.group_sync.specs.Reporting.{IsReportedAs, ReportsHeld};
+ghost use Rattle.site_server.specs.Reporting.{IsReportedAs, ReportsHeld};
 
-use crate::outputs::HeldOut;
-use crate::release::Release;
+use super::outputs::HeldOut;
+use super::release::Release;
 use line_session::{Doors, Ended, SessionFault};
 use till_request::DeviceFault;
 

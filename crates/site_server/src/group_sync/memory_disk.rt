@@ -1,8 +1,8 @@
 //! A file in memory, whose syncs can be made to fail.
 ghost use Rattle.std.specs.Prelude.{◌≡◌, IsTrue, OnOk, OnErr, is_err};
 
-use crate::durable::Durable;
-use crate::progress::Claim;
+use super::durable::Durable;
+use super::progress::Claim;
 use std::sync::atomic::{AtomicU64, Ordering};
 use till_request::DeviceFault;
 

@@ -1,5 +1,5 @@
-use Rattle.std.proofs.Common.{rules, arith, ◌≡◌, map, length, subst}
-use Rattle.site_server.specs.Collecting.{AreWaiting}
+use Rattle.std.proofs.Common.{rules, arith, map, length}
+use Rattle.site_server.specs.Collecting.{RunEach}
 use Rattle.site_server.proofs.Collecting.{all_done, are_all, have_worked, well_few}
 use Rattle.site_server.proofs.serving.work_all.Goals as goal
 
@@ -9,7 +9,27 @@ collect_passes-clean-requires-clause-few g c =
     let config = g.L.SiteLedger.config in
     let may_fail = g.J.Journal.may_fail in
     let crew = c.requires.waiting in
-    ?
+    let waiting = map (λ p. p.waiting) c.args.tasks.items in
+    let done = map (λ p. p.done) c.as_mut_slice.result.now in
+    let ran : RunEach config may_fail w.connections waiting done = search rules in
+    let all = all_done may_fail crew.0 w.connections w.forecourt config c.requires.config waiting done crew.2 ran in
+    let few = well_few may_fail crew.0 w.connections w.forecourt config c.requires.config 0 done all.0 c.prove_few.ensures in
+    omega (arith, few, all.1, crew.1)
 
 pub returns : goal.returns
-returns g c = ?
+returns g c = λ workers are.
+    let w = c.args.workers.now in
+    let config = g.L.SiteLedger.config in
+    let may_fail = g.J.Journal.may_fail in
+    let waiting = map (λ p. p.waiting) c.args.tasks.items in
+    let done = map (λ p. p.done) c.as_mut_slice.result.now in
+    let ran : RunEach config may_fail w.connections waiting done = search rules in
+    let all = all_done may_fail workers w.connections w.forecourt config c.requires.config waiting done are ran in
+    let worked = have_worked may_fail workers w.connections w.forecourt config c.requires.config done c.args.passes.items
+    c.collect_passes-clean.new.passes.items c.collect_passes-clean.result all.0 c.requires.room.0
+    c.collect_passes-clean.ensures.items c.collect_passes-clean.ensures.clean in (
+      worked,
+      are_all may_fail workers w.connections w.forecourt config c.requires.config (length workers) done c.args.passes.items
+          c.collect_passes-clean.new.passes.items c.collect_passes-clean.result all.0 all.1 c.requires.room.0
+          c.collect_passes-clean.ensures.items worked,
+    )

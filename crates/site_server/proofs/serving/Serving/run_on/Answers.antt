@@ -9,7 +9,7 @@ pub returns-clause-ok : goal.returns-clause-ok
 returns-clause-ok g c =
     let s = c.args.self in
     let plan = plan_of g.J.Journal.written g.J.Journal.may_fail s in
-    let back = c.join-returned.result.1 in
+    let back = c.in-Some.returned in
     let opened : c.open.result ≡ plan.from = search rules in
     let off : RunsAllTasks c.open.result plan.may_fail s.connections (map (λ p. p.waiting) c.in-Ok.prepared.tasks.items) back.passes.items back.clean = search rules in
     let all = subst (λ (o : Opened). RunsAllTasks o plan.may_fail s.connections (map (λ p. p.waiting) c.in-Ok.prepared.tasks.items) back.passes.items back.clean) opened off
@@ -22,9 +22,9 @@ pub returns-clause-err : goal.returns-clause-err
 returns-clause-err g c =
     let s = c.args.self in
     let plan = plan_of g.J.Journal.written g.J.Journal.may_fail s in
-    let back = c.join-returned.result.1 in
+    let back = c.in-Some.returned in
     let opened : c.open.result ≡ plan.from = search rules in
-    let off : RunsAllTasks c.open.result plan.may_fail s.connections (map (λ p. p.waiting) c.in-Ok.prepared.tasks.items) back.passes.items back.clean = c.join-returned.ensures.second in
+    let off : RunsAllTasks c.open.result plan.may_fail s.connections (map (λ p. p.waiting) c.in-Ok.prepared.tasks.items) back.passes.items back.clean = search rules in
     let all = subst (λ (o : Opened). RunsAllTasks o plan.may_fail s.connections (map (λ p. p.waiting) c.in-Ok.prepared.tasks.items) back.passes.items back.clean) opened off
     s.crew.workers.items c.in-Ok.ensures.tasks in
     if_err_more _ _ c.close.result
@@ -35,9 +35,9 @@ pub returns-clause-endless : goal.returns-clause-endless
 returns-clause-endless g c = λ endless.
     let s = c.args.self in
     let plan = plan_of g.J.Journal.written g.J.Journal.may_fail s in
-    let back = c.join-returned.result.1 in
+    let back = c.in-Some.returned in
     let opened : c.open.result ≡ plan.from = search rules in
-    let off : RunsAllTasks c.open.result plan.may_fail s.connections (map (λ p. p.waiting) c.in-Ok.prepared.tasks.items) back.passes.items back.clean = c.join-returned.ensures.second in
+    let off : RunsAllTasks c.open.result plan.may_fail s.connections (map (λ p. p.waiting) c.in-Ok.prepared.tasks.items) back.passes.items back.clean = search rules in
     let all = subst (λ (o : Opened). RunsAllTasks o plan.may_fail s.connections (map (λ p. p.waiting) c.in-Ok.prepared.tasks.items) back.passes.items back.clean) opened off
     s.crew.workers.items c.in-Ok.ensures.tasks in
     absurd (never_return plan (length s.crew.workers.items) back.passes.items back.clean endless s.crew.few.0 all.0 all.1)
