@@ -27,7 +27,7 @@ pub(crate) struct CsvRows<W: Write + Drop> {
 }
 
 /// Appends a field to the record `row`: the text of the cell, or an empty field for `Nothing`. The record must have no
-/// unfinished field. The error is that memory ran out.
+/// unfinished field.
 #[tactic(auto, unfolding(crate::specs::Cells::cell_text))]
 fn push_cell(row: &mut ByteRecord, cell: Cell) -> Result<(), AllocError>
     requires { partial_of row.old ≡ [] }
@@ -44,7 +44,7 @@ fn push_cell(row: &mut ByteRecord, cell: Cell) -> Result<(), AllocError>
     }
 }
 
-/// Replaces the fields of a record with the texts of these cells. The error is that memory ran out.
+/// Replaces the fields of a record with the texts of these cells.
 fn fill_record(row: &mut ByteRecord, cells: &[Cell]) -> Result<(), AllocError>
     ensures { OnOk result (fields_of row.new ≡ map cell_text cells.now) }
 {
@@ -55,7 +55,7 @@ fn fill_record(row: &mut ByteRecord, cells: &[Cell]) -> Result<(), AllocError>
     Ok(())
 }
 
-/// Replaces the fields of a record with the column names for this kind of rows. The error is that memory ran out.
+/// Replaces the fields of a record with the column names for this kind of rows.
 fn fill_header(row: &mut ByteRecord, rows: Rows) -> Result<(), AllocError>
     ensures { OnOk result (fields_of row.new ≡ columns rows) }
 {

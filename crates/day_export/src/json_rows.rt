@@ -20,7 +20,7 @@ pub(crate) struct JsonRows<W: Write + Drop> {
     pub(crate) out: W,
 }
 
-/// Returns the JSON value of a cell. The error is that memory ran out. If the cell isn't a word, there is no error.
+/// Returns the JSON value of a cell. If the cell isn't a word, there is no error.
 #[tactic(auto, unfolding(crate::specs::Text::cell_data))]
 fn cell_value(alloc: Global, cell: Cell) -> Result<Value, AllocError>
     ensures value { IfOk result (λ value. view value ≡ cell_data cell) }
@@ -34,7 +34,7 @@ fn cell_value(alloc: Global, cell: Cell) -> Result<Value, AllocError>
 }
 
 /// Puts the value of each cell into `members` under the name of its column, first to last. Names without a cell, and
-/// cells without a name, are ignored. The error is that memory ran out.
+/// cells without a name, are ignored.
 fn put_cells(
     members: &mut Map<String, Value>,
     alloc: Global,
@@ -54,7 +54,7 @@ fn put_cells(
     put_cells(members, alloc, names, cells)
 }
 
-/// Returns a row of the kind `rows`, with these cells, as a JSON object. The error is that memory ran out.
+/// Returns a row of the kind `rows`, with these cells, as a JSON object.
 fn object_of(alloc: Global, rows: Rows, cells: &[Cell]) -> Result<Value, AllocError>
     ensures { IfOk result (λ value. view value ≡ object_of (columns rows) cells.now) }
 {
@@ -63,8 +63,7 @@ fn object_of(alloc: Global, rows: Rows, cells: &[Cell]) -> Result<Value, AllocEr
     Ok(Value::Object(members))
 }
 
-/// Returns a row of the kind `rows`, with these cells, as a line of JSON that ends with LF. The error is that memory
-/// ran out.
+/// Returns a row of the kind `rows`, with these cells, as a line of JSON that ends with LF.
 fn line_of(alloc: Global, rows: Rows, cells: &[Cell]) -> Result<String, AllocError>
     ensures { IfOk result (λ line. string_bytes line ≡ row_bytes rows format.Json cells.now) }
 {

@@ -100,7 +100,7 @@ pub struct Unpaid {
 }
 
 /// Returns how often each of the numbers 20 to 34 is in `numbers`, 20 first. These are the numbers of the refusals S20
-/// to S34. The error is that memory ran out.
+/// to S34.
 fn refusal_counts(alloc: Global, numbers: &[u32]) -> Result<Vec<usize>, AllocError>
     ensures { IfOk result (λ counts. CountsRefusals counts.items numbers.now) }
 {
@@ -126,8 +126,7 @@ fn unpaid_as(point: usize, transaction: Option<Transaction>) -> Option<Unpaid>
 }
 
 /// Returns the unpaid transactions of all points. Those of point 1 come first, and of the two that a point can have,
-/// the older one comes first. The error is that memory ran out. If no point has an unpaid transaction, there is no
-/// error.
+/// the older one comes first.
 fn unpaid_of(alloc: Global, points: &[Point]) -> Result<Vec<Unpaid>, AllocError>
     ensures found { IfOk result (λ found. found.items ≡ unpaid_of points.now) }
     ensures none { unpaid_of points.now ≡ [] → IsOk result }
@@ -162,8 +161,7 @@ struct Versions {
     numbers: Vec<u32>,
 }
 
-/// Returns the numbers of the versions: first those of the rules in `carried`, then those of `loads`. The error is that
-/// memory ran out.
+/// Returns the numbers of the versions: first those of the rules in `carried`, then those of `loads`.
 fn numbers_of(
     alloc: Global,
     carried: &[CarriedRule],
@@ -194,7 +192,7 @@ fn versions_in(alloc: Global, config: &Config, loads: &[Load]) -> Result<Version
     })
 }
 
-/// Returns the totals of a replayed history. The error is that memory ran out.
+/// Returns the totals of a replayed history.
 pub fn add_up(alloc: Global, replayed: &Replayed<DayWatch>) -> Result<Totals, AllocError>
     ensures { IfOk result
         (λ t. (history : List Entry) → IsDay replayed.now history
@@ -226,8 +224,7 @@ pub fn add_up(alloc: Global, replayed: &Replayed<DayWatch>) -> Result<Totals, Al
 }
 
 /// Returns what the opening (the state that a day begins with) takes over from the day before. The opening must have at
-/// most 16 slots. The error is that memory ran out. If the opening has no unpaid transaction and no rule, there is no
-/// error.
+/// most 16 slots. If the opening has no unpaid transaction and no rule, there is no error.
 fn carried_by(alloc: Global, opening: &Opening) -> Result<CarriedIn, AllocError>
     requires { length opening.now.rules ≤ 16 }
     ensures found { IfOk result (λ found. found ≡ carried_in opening.now) }
@@ -244,8 +241,8 @@ fn carried_by(alloc: Global, opening: &Opening) -> Result<CarriedIn, AllocError>
 }
 
 /// Returns what the opening (the state that a day begins with) takes over from the day before, or `None` if the
-/// configuration has no opening. The error is that memory ran out. There is no error without an opening, or if the
-/// opening has no unpaid transaction and no rule.
+/// configuration has no opening. There is no error without an opening, or if the opening has no unpaid transaction and
+/// no rule.
 pub fn carried_in(alloc: Global, config: &Config) -> Result<Option<CarriedIn>, AllocError>
     ensures found { IfOk result (λ found. found ≡ option_map carried_in config.now.opening) }
     ensures none { IfSome config.now.opening

@@ -106,7 +106,7 @@ fn places_for(versions: &[u32]) -> usize
     places
 }
 
-/// Returns what each of these versions decided, in the order of `versions`. The error is that memory ran out.
+/// Returns what each of these versions decided, in the order of `versions`.
 pub fn verdicts_of(
     alloc: Global,
     decisions: &[Decision],

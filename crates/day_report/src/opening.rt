@@ -12,8 +12,7 @@ use site_core::{Config, Opening};
 use std::alloc::{AllocError, Global};
 
 /// Returns the points that a site of this configuration starts with: the points of the configuration's opening (the
-/// state that a day begins with), or, if there is no opening, a closed point for each point of the configuration. The
-/// error is that memory ran out.
+/// state that a day begins with), or, if there is no opening, a closed point for each point of the configuration.
 pub fn opening_points(alloc: Global, config: &Config) -> Result<Vec<Point>, AllocError>
     ensures { IfOk result (λ points. points.items ≡ (opening_state config.now).points) }
 {
@@ -23,7 +22,7 @@ pub fn opening_points(alloc: Global, config: &Config) -> Result<Vec<Point>, Allo
     }
 }
 
-/// Returns a closed point for each point of the configuration. The error is that memory ran out.
+/// Returns a closed point for each point of the configuration.
 fn closed_points(alloc: Global, config: &Config) -> Result<Vec<Point>, AllocError>
     ensures { IfOk result (λ points. points.items ≡ (fresh_state config.now).points) }
 {
@@ -36,7 +35,7 @@ fn new_points(alloc: Global, count: usize) -> Result<Vec<Point>, AllocError>
     vec![in alloc; Point::new(); count]
 }
 
-/// Returns a copy of the points of an opening (the state that a day begins with). The error is that memory ran out.
+/// Returns a copy of the points of an opening (the state that a day begins with).
 fn points_in(alloc: Global, opening: &Opening) -> Result<Vec<Point>, AllocError>
     ensures { IfOk result (λ points. points.items ≡ (opened_state opening.now).points) }
 {
@@ -75,7 +74,7 @@ fn carried_at(slot: u32, rule: &Option<Version>) -> Option<CarriedRule>
 }
 
 /// Returns the rules of the slots that aren't empty, in the order of the slots. `rules` has an item for each slot, slot
-/// 0 first, and must have at most 16 items. The error is that memory ran out. If all slots are empty there is no error.
+/// 0 first, and must have at most 16 items.
 pub(crate) fn rules_in(
     alloc: Global,
     rules: &[Option<Version>],
@@ -91,8 +90,7 @@ pub(crate) fn rules_in(
     Ok(found)
 }
 
-/// Returns the rules that a site of this configuration begins with, in the order of the slots. The error is that memory
-/// ran out. Without a rule there is no error.
+/// Returns the rules that a site of this configuration begins with, in the order of the slots.
 pub fn carried_rules(alloc: Global, config: &Config) -> Result<Vec<CarriedRule>, AllocError>
     ensures found { IfOk result (λ found. found.items ≡ carried_rules config.now) }
     ensures none { carried_rules config.now ≡ [] → IsOk result }

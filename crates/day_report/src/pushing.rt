@@ -3,8 +3,7 @@ ghost use Rattle.std.specs.Prelude.{◌≡◌, ◌++◌, ◌<◌, IsOk, None, On
 
 use std::alloc::AllocError;
 
-/// Adds the item, unless it is `None`, at the end of the list. The error is that memory ran out. Without an item there
-/// is no error.
+/// Adds the item, unless it is `None`, at the end of the list.
 pub(crate) fn push_some<T: Copy + Drop>(
     items: &mut Vec<T>,
     item: Option<T>,

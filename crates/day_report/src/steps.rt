@@ -158,7 +158,7 @@ fn step_at(axis: Axis, place: usize, mark: &Mark, steps: usize) -> Option<usize>
 }
 
 /// Appends `place` to `step_ends` until `step_ends` has an item for each step before `step`. If `step` is `None`,
-/// nothing is appended. The error is that memory ran out. If nothing is appended, there is no error.
+/// nothing is appended. If nothing is appended, there is no error.
 fn end_step(step_ends: &mut Vec<usize>, step: Option<usize>, place: usize) -> Result<(), AllocError>
     ensures cut { OnOk result (step_ends.new.items ≡ with_cut step_ends.old.items step place) }
     ensures none { IfSome step (λ step. step ≤ length step_ends.old.items) → IsOk result }
@@ -170,8 +170,8 @@ fn end_step(step_ends: &mut Vec<usize>, step: Option<usize>, place: usize) -> Re
 }
 
 /// Divides a history into the steps of a picture's axis. Returns for each step where it ends: the place, counted from
-/// 0, of the first entry of a later step, or the number of entries if there is none. The error is that memory ran out.
-/// If `steps` is 0, there is no error.
+/// 0, of the first entry of a later step, or the number of entries if there is none. If `steps` is 0, there is no
+/// error.
 fn step_ends(
     alloc: Global,
     marks: &[Mark],
@@ -232,7 +232,7 @@ fn replay_step(now: &mut [State], shown: &mut [State], marks: &[Mark])
     }
 }
 
-/// Returns the state of each point, point 1 first. The error is that memory ran out.
+/// Returns the state of each point, point 1 first.
 fn states_of(alloc: Global, points: &[Point]) -> Result<Vec<State>, AllocError>
     ensures { IfOk result (λ states. states.items ≡ map (λ (p : PointState). p.state) points.now) }
 {
@@ -257,7 +257,7 @@ fn step_states(alloc: Global, now: &mut [State], marks: &[Mark]) -> Result<Vec<S
 
 /// Returns the states that the picture of a day shows: for each step of the axis and each point, the state with the
 /// greatest `State::number` among those that the point has before the step's entries and after each of these entries.
-/// `marks` are those of the history of a site of this configuration. The error is that memory ran out.
+/// `marks` are those of the history of a site of this configuration.
 pub fn states_by_step(
     alloc: Global,
     config: &Config,
