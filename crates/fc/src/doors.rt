@@ -33,8 +33,7 @@ impl Display for Name {
     }
 }
 
-/// Writes the numbers of the fuelling points for which a bit is set in `points`, in the form `points 1 3`. Bit p,
-/// counted from 0, is the bit of point p + 1.
+/// Bit p of `points`, counted from 0, is the bit of point p + 1.
 fn write_points<W: fmt::Write>(f: &mut fmt::Formatter<W>, points: u32) -> fmt::Result {
     f.write_str("points")?;
     for place in 0..32u32 {
@@ -64,9 +63,8 @@ impl Display for DoorAddress<'_> {
     }
 }
 
-/// Writes one address of a `DoorListing`: a port, or the path of a socket. `are_ports` says whether all doors of the
-/// listing are ports. If so, writes a port alone, since the listing has `127.0.0.1:` once, at its start. Otherwise
-/// writes `127.0.0.1:` before a port.
+/// Writes one address of a `DoorListing`. If all doors are ports (`are_ports`), the listing has `127.0.0.1:` once, at
+/// its start.
 fn write_address<W: fmt::Write>(
     f: &mut fmt::Formatter<W>,
     address: &Address,
@@ -79,8 +77,7 @@ fn write_address<W: fmt::Write>(
     }
 }
 
-/// The list of a site's open doors, as it is printed for an operator. Last comes the site's page port (where a browser
-/// can look at the site), if it has one.
+/// The list of a site's open doors, and last its page port, if it has one.
 #[derive(Clone, Copy)]
 pub struct DoorListing<'a> {
     pub doors: &'a [Door],
@@ -109,8 +106,7 @@ impl Display for DoorListing<'_> {
     }
 }
 
-/// Returns the file mode of a socket for this role. Only the program's own user may connect to a socket for `Owner` or
-/// `All`. To the other sockets the user's group may connect too.
+/// To a socket for `Owner` or `All` only the program's own user may connect, to the others the user's group too.
 fn mode_of(role: Role) -> u32 {
     match role {
         Role::Owner | Role::All => 0o600,
@@ -118,7 +114,6 @@ fn mode_of(role: Role) -> u32 {
     }
 }
 
-/// Makes the error for a socket of `door` that can't be opened. `config_name` names the configuration's file.
 fn refuse_socket(alloc: Global, config_name: &str, door: &Door, error: io::Error) -> JobError {
     if error.kind() == ErrorKind::OutOfMemory && error.raw_os_error().is_none() {
         return JobError::OutOfMemory;
@@ -127,8 +122,7 @@ fn refuse_socket(alloc: Global, config_name: &str, door: &Door, error: io::Error
     JobError::at(alloc, Place::of(config_name), &words, FAILED)
 }
 
-/// Makes the error for a socket of `door` which is to be bound in a folder that can't be made, since something else is
-/// there. `config_name` names the configuration's file.
+/// Makes the error for a socket in a folder that can't be made, since something else is there.
 fn refuse_folder(
     alloc: Global,
     config_name: &str,
@@ -139,7 +133,6 @@ fn refuse_folder(
     JobError::at(alloc, Place::of(config_name), &words, FAILED)
 }
 
-/// Makes the error for a port that can't be opened.
 pub fn refuse_port(alloc: Global, port: u32, error: io::Error) -> JobError {
     JobError::message(alloc, &format_args!("port {port}: {error}"), FAILED)
 }
@@ -161,8 +154,6 @@ impl<'a> BoundDoors<'a> {
         self.add(door, Listener::Socket(listener))
     }
 
-    /// Opens `door`, and adds it to `self.doors`. Adds a socket's file to `self.files`. The error is that the door
-    /// can't be opened.
     fn open<H: Files + Net<Listener = TcpListener, Stream = TcpStream>>(
         &mut self,
         rt: &'a HostRuntime,
@@ -183,8 +174,7 @@ impl<'a> BoundDoors<'a> {
         }
     }
 
-    /// Opens `doors` in their order, adds each to `self.doors`, and adds a socket's file to `self.files`. The error is
-    /// that a door can't be opened; then no further one is.
+    /// After a door that can't be opened no further one is.
     fn open_all<H: Files + Net<Listener = TcpListener, Stream = TcpStream>>(
         &mut self,
         rt: &'a HostRuntime,
@@ -199,8 +189,7 @@ impl<'a> BoundDoors<'a> {
     }
 }
 
-/// Opens `doors` in their order. The error is that one can't be opened; then none of these doors stays open.
-/// `config_name` names the configuration's file.
+/// Opens `doors` in their order. If one can't be opened, none of these doors stays open.
 pub fn open_doors<'a, H: Files + Net<Listener = TcpListener, Stream = TcpStream>>(
     rt: &'a HostRuntime,
     host: &H,

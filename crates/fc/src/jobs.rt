@@ -16,8 +16,6 @@ use std::sync::Wait;
 use std::thread::Threads;
 use std::time::Clock;
 
-/// Does a job.
-///
 /// `host` must be the same runtime as `rt`, with a type that can start threads and open sockets. Only `main` can borrow
 /// the runtime with this type.
 pub fn do_job<
@@ -66,7 +64,6 @@ pub fn do_job<
     }
 }
 
-/// Serves a site.
 fn serve<
     H: Files + Net<Listener = TcpListener, Stream = TcpStream> + Threads + Wait + Clock + Sync,
 >(rt: &HostRuntime, host: &H, job: &ServeJob) -> Result<(), JobError> {

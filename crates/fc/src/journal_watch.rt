@@ -3,7 +3,6 @@ use crate::journal_file::JournalRecord;
 use std::sync::{Condvar, Mutex, Wait};
 use std::time::{Clock, Duration};
 
-/// How many seconds lie between two checks of the file.
 const INTERVAL_SECONDS: u64 = 1;
 
 /// Compares the file of a journal with what was written to it, once a second while the site is served, so that a file

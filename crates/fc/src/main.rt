@@ -1,7 +1,6 @@
 //! The program `fc`: parses the command line, does the job that it asks for, and returns an exit status.
 #![tactic(auto)]
 
-mod closing;
 mod doors;
 mod jobs;
 mod journal_file;
@@ -13,6 +12,7 @@ mod printed;
 mod serve;
 mod sockets;
 mod streams;
+mod unclosed_site;
 
 use file_jobs::command_line::command;
 use file_jobs::job_error::at_file;
@@ -24,14 +24,11 @@ use std::io::{self, ErrorKind};
 use std::process::ExitCode;
 use streams::{NOTHING, fill_closed_streams};
 
-/// Returns the arguments of the command line, the program's name first. The error is that an argument isn't UTF-8, or
-/// that memory ran out.
 fn arguments(rt: &HostRuntime) -> io::Result<Vec<String>> {
     let words = std::env::args(rt)?.collect(rt.alloc())?;
     Ok(words)
 }
 
-/// Returns the arguments with their control characters escaped, as messages show them. The error is that memory ran out.
 fn printable_words(rt: &HostRuntime, words: &[String]) -> Result<Vec<String>, AllocError> {
     let mut printable = Vec::new(rt.alloc());
     for word in words {
@@ -40,8 +37,7 @@ fn printable_words(rt: &HostRuntime, words: &[String]) -> Result<Vec<String>, Al
     Ok(printable)
 }
 
-/// Makes the error for arguments of the command line that aren't valid. `printable` are the arguments with their
-/// control characters escaped. The message repeats some of them and has several lines, so it is printed here.
+/// The message repeats some of the arguments and has several lines, so it is printed here.
 fn refuse_words(rt: &HostRuntime, printable: Vec<String>) -> JobError {
     match command(rt.alloc(), printable) {
         Err(CommandFault::Usage(text)) => {
@@ -54,7 +50,6 @@ fn refuse_words(rt: &HostRuntime, printable: Vec<String>) -> JobError {
     }
 }
 
-/// Returns the job that the arguments of the command line ask for. The error is that the arguments aren't valid.
 fn job_of(rt: &HostRuntime) -> Result<Job, JobError> {
     let words = match arguments(rt) {
         Ok(words) => words,

@@ -12,27 +12,24 @@ use std::sync::{Mutex, Wait};
 use std::time::{Clock, SystemTime, UNIX_EPOCH};
 use till_request::{LineFault, Role};
 
-/// The most reports that are printed in a second.
 const MOST_IN_SECOND: u32 = 10;
 
-/// The most reports on connections that speak another protocol that are printed in a minute.
 const MOST_STRANGERS_IN_MINUTE: u32 = 1;
 
-/// Prints reports for an operator on standard error, at most ten a second. Of the reports on connections that speak
-/// another protocol, at most one a minute is printed. Further reports are left out, and a line before the next printed
-/// report says how many. If a report can't be printed, the site is served all the same.
+/// Prints reports for an operator on standard error, at most ten a second, and at most one a minute on connections that
+/// speak another protocol. A line before the next printed one says how many were left out. If a report can't be
+/// printed, the site is served all the same.
 #[derive(Drop)]
 pub struct OperatorReports<'a, H: Wait + Clock> {
     rt: &'a HostRuntime,
     host: &'a H,
     limiter: Mutex<Limiter>,
-    /// Limits the reports on connections that speak another protocol, by the minute.
     strangers: Mutex<Limiter>,
     serve: &'a Serve,
     connections: Option<&'a ConnectionCounts>,
 }
 
-/// The name that is printed for the peer of a worker with this role, such as `till 3` or `a dispenser`.
+/// A peer's name, such as `till 3` or `a dispenser`.
 #[derive(Clone, Copy)]
 struct Peer(Role);
 
@@ -79,8 +76,7 @@ impl Display for ThreadsFound {
     }
 }
 
-/// Returns the number of the fault that ended a session, in brackets and with a blank before it, such as ` (L1)`.
-/// Returns an empty text if the fault has no number.
+/// Returns the number of the fault that ended a session, as ` (L1)`, or nothing if it has none.
 fn code_of(failure: SessionFailure) -> &'static str {
     match failure {
         SessionFailure::Line(LineFault::TooLong) => " (L1)",
@@ -96,8 +92,7 @@ fn code_of(failure: SessionFailure) -> &'static str {
     }
 }
 
-/// Returns the door whose worker has the pass with this number, or `None` if there is no such pass. The workers of
-/// `doors` have the passes from 1 on, door after door.
+/// The workers of `doors` have the passes from 1 on, door after door.
 fn door_at(doors: &[Door], pass: u32) -> Option<&Door> {
     let mut passes = 0u32;
     for door in doors {
@@ -110,10 +105,8 @@ fn door_at(doors: &[Door], pass: u32) -> Option<&Door> {
 }
 
 impl<'a, H: Wait + Clock> OperatorReports<'a, H> {
-    /// Makes a printer that has printed no report yet. If `connections` is given, the printer counts in it the
-    /// connections that open, the connections that end, the lines that are read, and the workers that have served their
-    /// last connection. `doors` are the site's doors, in the order of their workers' passes. `host` must be the same
-    /// runtime as `rt`.
+    /// `connections` counts connections, lines, and workers that have served their last connection. `doors` are in the
+    /// order of their workers' passes. `host` must be the same runtime as `rt`.
     pub fn new(
         rt: &'a HostRuntime,
         host: &'a H,
@@ -130,9 +123,7 @@ impl<'a, H: Wait + Clock> OperatorReports<'a, H> {
         }
     }
 
-    /// Returns the current time in whole seconds since the start of 1970. If the clock can't be read, or is before
-    /// 1970, returns 0. Of the reports for the operator that come one after another with the same result, at most ten
-    /// are printed.
+    /// Returns the seconds since the start of 1970, or 0 if the clock can't tell: then at most ten reports are printed.
     fn second(&self) -> u64 {
         match SystemTime::now(self.host) {
             Ok(time) => match time.duration_since(UNIX_EPOCH) {
@@ -143,23 +134,20 @@ impl<'a, H: Wait + Clock> OperatorReports<'a, H> {
         }
     }
 
-    /// Returns whether a report is allowed to be printed now. If so, first prints how many reports were left out since
-    /// the last printed one, if any.
+    /// Returns whether a report may be printed now. If so, first prints how many were left out.
     fn is_admitted(&self) -> bool {
         let admitted = self.limiter.lock(self.host).admit(self.second());
         self.print_held(admitted)
     }
 
-    /// Returns whether a report on a connection that speaks another protocol is allowed to be printed now. If so, first
-    /// prints how many such reports were left out since the last printed one, if any.
+    /// The same for a report on a connection that speaks another protocol.
     fn is_stranger_admitted(&self) -> bool {
         let minute = self.second() / 60;
         let admitted = self.strangers.lock(self.host).admit(minute);
         self.print_held(admitted)
     }
 
-    /// Prints how many reports a limiter held back, if `admitted` is a number over 0. Returns whether `admitted` is a
-    /// number.
+    /// Prints how many reports were left out, if `admitted` is over 0. Returns whether it is a number.
     fn print_held(&self, admitted: Option<u64>) -> bool
         ensures { result ≡ is_some admitted }
     {

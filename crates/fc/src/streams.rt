@@ -16,12 +16,10 @@ fn is_closed<S: AsFd>(stream: &S) -> bool {
     }
 }
 
-/// Opens `/dev/null` in the place of each standard stream that is closed, so that no file that is opened later gets its
-/// number, and no message is written into that file. The stream stays as useless as it was: standard input is opened to
-/// be written to, and the others are opened to be read. Nothing is opened if no stream is closed.
-///
-/// No other file may have been opened before, since the system gives each file the lowest number that is free. The
-/// error is that `/dev/null` can't be opened.
+/// Opens `/dev/null` in the place of each standard stream that is closed, so that no message is written into a file
+/// that got its number. The stream stays as useless as it was: standard input is opened to be written to, and the
+/// others to be read. No other file may have been opened before, since the system gives each file the lowest number
+/// that is free.
 pub fn fill_closed_streams(rt: &HostRuntime) -> io::Result<()> {
     if is_closed(&rt.stdin()) {
         hold(File::options().write(true).open(rt, NOTHING)?);

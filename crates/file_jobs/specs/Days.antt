@@ -16,8 +16,8 @@ use Rattle.days.specs.Fitting.{BeginsWith}
 use Rattle.file_jobs.specs.declared.folder.Part.{Part}
 use Rattle.file_jobs.specs.declared.folder.Part.TheVariants as part
 use Rattle.file_jobs.specs.declared.folder.Span.{Span}
-use Rattle.file_jobs.specs.declared.newest.DayToServe.{DayToServe}
-use Rattle.file_jobs.specs.declared.newest.DayToServe.TheVariants as going
+use Rattle.file_jobs.specs.declared.newest.DayPlan.{DayPlan}
+use Rattle.file_jobs.specs.declared.newest.DayPlan.TheVariants as plan
 
 abbrev pub is_written : Option (List ℕ) → Bool
 is_written None = false
@@ -69,14 +69,14 @@ is_dot byte = byte == 46
 unfoldable pub day_named : List ℕ → Option ℕ
 day_named name = if shows_day (after_first is_dot name) then day_of (before_first is_dot name) else None
 
--- The day with which a station goes on. `This n` means day n. `After n` means the day after day n if day n has an
--- entry, or else day n. The result is:
--- - `This 1` if the station's folder has no day
--- - or else `After n` for the newest day n, if a new day is asked for
--- - or else `This n` for the newest day n
-abbrev pub day_to_serve : Option Span → Bool → DayToServe
-day_to_serve None is_new = going.This 1
-day_to_serve (Some span) is_new = if is_new then going.After span.newest else going.This span.newest
+-- What is to be done to find the day with which a station goes on. `Serve n` means day n. `Close n` means that day n is
+-- closed, and the day after it is served; a day without an entry isn't closed, and is served again. The result is:
+-- - `Serve 1` if the station's folder has no day
+-- - or else `Close n` for the newest day n, if a new day is asked for
+-- - or else `Serve n` for the newest day n
+abbrev pub day_plan : Option Span → Bool → DayPlan
+day_plan None is_new = plan.Serve 1
+day_plan (Some span) is_new = if is_new then plan.Close span.newest else plan.Serve span.newest
 
 -- the oldest and the newest day of a folder once this day is added; None stands for a folder without a day
 abbrev pub with_day : Option Span → ℕ → Span
@@ -96,9 +96,9 @@ abbrev pub day_after : ℕ → ℕ → Option ℕ
 day_after day newest = if nat_lt day newest then Some (day + 1) else None
 
 -- `day` is the day to serve. The day after a day is served only once that day is closed, and it isn't if it has no entry.
-abbrev pub IsServed : DayToServe → ℕ → Type 0
-IsServed (going.This n) day = day ≡ n
-IsServed (going.After n) day = (day ≡ n) ⊎ (day ≡ n + 1)
+abbrev pub IsServed : DayPlan → ℕ → Type 0
+IsServed (plan.Serve n) day = day ≡ n
+IsServed (plan.Close n) day = (day ≡ n) ⊎ (day ≡ n + 1)
 
 -- the configuration in the text of a day's file, or the fault of that text; None if the day has no such file
 abbrev pub own_config : Option (List ℕ) → Option (Result ConfigValue ConfigFault)

@@ -14,10 +14,10 @@ use Rattle.clap.specs.declared.error.kind.ErrorKind.TheVariants as kind
 use Rattle.clap.specs.declared.builder.value_parser.ValueParser.TheVariants as parser
 use Rattle.bpf_model.specs.declared.context.Layout.{Layout}
 use Rattle.bpf_model.specs.declared.context.Layout.TheVariants as layouts
-use Rattle.file_jobs.specs.declared.job.Rows.{Rows}
-use Rattle.file_jobs.specs.declared.job.Rows.TheVariants as kinds
-use Rattle.file_jobs.specs.declared.job.Format.{Format}
-use Rattle.file_jobs.specs.declared.job.Format.TheVariants as formats
+use Rattle.day_export.specs.declared.cells.Rows.{Rows}
+use Rattle.day_export.specs.declared.cells.Rows.TheVariants as kinds
+use Rattle.day_export.specs.declared.cells.Format.{Format}
+use Rattle.day_export.specs.declared.cells.Format.TheVariants as formats
 use Rattle.file_jobs.specs.declared.job.Job.{Job}
 use Rattle.file_jobs.specs.declared.job.Job.TheVariants as job
 use Rattle.file_jobs.specs.declared.job.ServeJob.{ServeJob}
@@ -280,14 +280,14 @@ parsed_request (Some p) = subcommand_request p.0 p.1
 abbrev pub named : Option (String Global) → Option Text
 named file = option_map string_bytes file
 
--- the request that a job of `fc serve` carries out
+-- the request that a job of `fc serve` stands for
 abbrev pub serve_request : ServeJob → JobRequest
 serve_request (served.Printed opening config) = serve (named opening) (string_bytes config)
 serve_request (served.Kept opening config journal) = serve_kept (named opening) (string_bytes config) (string_bytes journal)
 serve_request (served.Synced opening config journal) = serve_synced (named opening) (string_bytes config) (string_bytes journal)
 serve_request (served.Days folder config is_synced is_new_day) = serve_days is_synced is_new_day (string_bytes folder) (string_bytes config)
 
--- The request that a job carries out. It is None for the help and the version, which are texts to show.
+-- The request that a job stands for. It is None for the help and the version, which are texts to show.
 abbrev pub requested : Job → Option JobRequest
 requested job.NoWords = Some nothing
 requested (job.Asm file) = Some (asm (string_bytes file))

@@ -2,7 +2,7 @@
 -- moment that was set last. An act is entered as an event of pass 1 at that moment, except in these cases, which leave
 -- the site unchanged:
 -- - The verifier refuses the program of a load: the answer is the line of the verifier's fault.
--- - Memory runs out while the act is carried out: the answer is `S31`.
+-- - Memory runs out while the act is entered: the answer is `S31`.
 -- - The journal is full: the answer is `S29`.
 use Rattle.std.specs.Prelude.{◌≡◌, ◌≢◌, ◌⊎◌, ⊤, ℕ, List, [], ◌∷◌, ◌++◌, length, codes, Option, Some, None, Result, Ok, Err}
 use Rattle.std.specs.Fmt.{decimal}

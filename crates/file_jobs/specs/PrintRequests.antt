@@ -1,14 +1,5 @@
--- Definitions: which rows `fc export` prints for its arguments and in which format, and what `fc asm`, `fc dis` and `fc
--- verify` print (source: this project).
+-- Definitions: what `fc asm`, `fc dis` and `fc verify` print (source: this project).
 use Rattle.std.specs.Prelude.{◌≢◌, ◌⊎◌, ℕ, List, [], Result, Ok, Err}
-use Rattle.file_jobs.specs.declared.job.Rows.{Rows}
-use Rattle.file_jobs.specs.declared.job.Rows.TheVariants as asked
-use Rattle.file_jobs.specs.declared.job.Format.{Format}
-use Rattle.file_jobs.specs.declared.job.Format.TheVariants as form
-use Rattle.day_export.specs.declared.cells.Rows.{Rows as DayRows}
-use Rattle.day_export.specs.declared.cells.Rows.TheVariants as rows
-use Rattle.day_export.specs.declared.cells.Format.{Format as RowFormat}
-use Rattle.day_export.specs.declared.cells.Format.TheVariants as format
 use Rattle.bpf_asm.specs.Numbered.{numbered_from}
 use Rattle.bpf_asm.specs.ProgramFile.{program_in}
 use Rattle.bpf_asm.specs.Text.{canonical_text}
@@ -21,15 +12,6 @@ use Rattle.file_jobs.specs.declared.printing.PrintRequest.TheVariants as request
 use Rattle.file_jobs.specs.declared.job_error.JobError.{JobError}
 use Rattle.file_jobs.specs.declared.job_error.JobError.TheVariants as job_error
 use Rattle.file_jobs.specs.JobErrors.{Ends, EndsOrRunsOut}
-
-abbrev pub rows_of : Rows → DayRows
-rows_of asked.Sales = rows.Sales
-rows_of asked.Decisions = rows.Decisions
-rows_of asked.Events = rows.Events
-
-abbrev pub format_of : Format → RowFormat
-format_of form.Csv = format.Csv
-format_of form.Json = format.Json
 
 -- The request accepts a file with these bytes, and prints this text of it.
 abbrev pub Accepts : PrintRequest → List ℕ → List ℕ → Type 0

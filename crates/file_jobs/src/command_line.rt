@@ -9,11 +9,12 @@ ghost use Rattle.file_jobs.specs.JobRequest.{rows_named, serve_by, serve_days_by
 ghost use Rattle.file_jobs.specs.JobRequest.{audit_message, serve_message};
 ghost use Rattle.file_jobs.specs.Refusing.{Asks, Finds, FindsFiles, IsJobOfLine, ReadsMask, IsNoJobMessage, IsRefusalOf};
 
-use crate::job::{CommandFault, Format, Job, Rows, ServeJob};
+use crate::job::{CommandFault, Job, ServeJob};
 use crate::subcommands::fc;
 use bpf_model::context::Layout;
 use clap::ArgMatches;
 use clap::error::ErrorKind;
+use day_export::{Format, Rows};
 use std::alloc::{AllocError, Global};
 
 fn file_of(alloc: Global, matches: &ArgMatches, id: &str) -> Result<Option<String>, AllocError>

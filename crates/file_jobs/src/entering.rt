@@ -1,4 +1,4 @@
-//! Carries out the acts of a script on a site.
+//! Enters the acts of a script in a site.
 ghost use Rattle.std.specs.Prelude.{◌≡◌, ℕ, None, Option, Some};
 ghost use Rattle.verifier.specs.Refusals.{refusal_numbers};
 ghost use Rattle.bpf_model.specs.Program.{ProgramText, as_loaded};
@@ -74,7 +74,7 @@ fn unrefused(answer: Answer) -> Entered
     }
 }
 
-/// Carries out an act on a site. The site is unchanged if the program is refused, the journal is full, or memory ran
+/// Enters an act in a site. The site is unchanged if the program is refused, the journal is full, or memory ran
 /// out.
 pub fn enter(alloc: Global, site: &mut Site, moment: u64, act: &Act) -> Entered
     ensures answered { ActAnswered site.old moment act.now result.answer site.new }

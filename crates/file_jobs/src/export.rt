@@ -1,14 +1,13 @@
 //! What `fc export` does.
-ghost use Rattle.std.specs.Prelude.{◌≡◌, [], IfErr, IsErrAnd, IsTrue, option_map};
+ghost use Rattle.std.specs.Prelude.{[], IfErr, IsErrAnd, IsTrue, option_map};
 ghost use Rattle.file_jobs.specs.StandardInput.{reads_twice};
-ghost use Rattle.file_jobs.specs.PrintRequests.{rows_of, format_of};
 ghost use Rattle.file_jobs.specs.JobErrors.{Ends};
 
 use crate::audited::audited_site;
 use crate::job_error::printed;
-use crate::{Format, JobError, Rows, SiteFiles};
-use day_export::RowsFault;
+use crate::{JobError, SiteFiles};
 use day_export::writing::write_rows;
+use day_export::{Format, Rows, RowsFault};
 use day_report::Sales;
 use site_core::Watched;
 use std::io::{self, BufWriter, Write};
@@ -25,33 +24,14 @@ pub fn export_files(
         → IsErrAnd result (Ends 2 []) }
 {
     let day = audited_site(rt, site, journal, Sales::new(rt.alloc()))?;
-    print_rows(rt, &day, rows_of(rows), format_of(format))
-}
-
-fn rows_of(rows: Rows) -> day_export::Rows
-    ensures { result ≡ rows_of rows }
-{
-    match rows {
-        Rows::Sales => day_export::Rows::Sales,
-        Rows::Decisions => day_export::Rows::Decisions,
-        Rows::Events => day_export::Rows::Events,
-    }
-}
-
-fn format_of(format: Format) -> day_export::Format
-    ensures { result ≡ format_of format }
-{
-    match format {
-        Format::Csv => day_export::Format::Csv,
-        Format::Json => day_export::Format::Json,
-    }
+    print_rows(rt, &day, rows, format)
 }
 
 fn print_rows(
     rt: &HostRuntime,
     day: &Watched<Sales>,
-    rows: day_export::Rows,
-    format: day_export::Format,
+    rows: Rows,
+    format: Format,
 ) -> Result<(), JobError>
     ensures { IfErr result (Ends 3 []) }
 {

@@ -166,7 +166,7 @@ pub trait DayFiles {
     /// For proofs: the folder's files, or `None` if proofs don't know them.
     ghost files: { Self → Option FolderText };
 
-    /// Returns the folder that messages name, and in which a day is ended.
+    /// Returns the folder that messages name, and in which a day is closed.
     fn as_folder(&self) -> Folder<'_>;
 
     /// Returns the oldest and the newest of the days that have a journal or an opening.

@@ -2,22 +2,8 @@
 ghost use Rattle.std.specs.Prelude.{◌≡◌};
 
 use bpf_model::context::Layout;
+use day_export::{Format, Rows};
 use std::alloc::AllocError;
-
-/// The rows of a journal that `export` prints.
-#[derive(Clone, Copy)]
-pub enum Rows {
-    Sales,
-    Decisions,
-    Events,
-}
-
-/// The form in which `export` prints rows.
-#[derive(Clone, Copy)]
-pub enum Format {
-    Csv,
-    Json,
-}
 
 /// The job that a command line asks for. A `String` names a file or a folder, except in `Show`. `opening` is what the
 /// site keeps from the day before, and `folder` has the files of a station's days.
@@ -93,7 +79,7 @@ pub enum ServeJob {
         config: String,
         journal: String,
     },
-    /// Serve the newest day of a folder, or day 1 if it has none. If `is_new_day` and the newest day has an entry, end
+    /// Serve the newest day of a folder, or day 1 if it has none. If `is_new_day` and the newest day has an entry, close
     /// that day first, and serve the next one.
     Days {
         folder: String,

@@ -1,16 +1,16 @@
-//! Ends the newest day of a station, or goes on with it.
+//! Closes the newest day of a station, or goes on with it.
 ghost use Rattle.std.specs.Prelude.{◌≡◌, ◌≢◌, ◌⊎◌, ◌+◌, ◌++◌, Ok, Some, [], false, IfOk, IfErr, codes, is_some, option_map};
 ghost use Rattle.std.specs.Fmt.{decimal};
 ghost use Rattle.file_jobs.specs.JobErrors.{Ends, EndsOrRunsOut, Refuses};
 ghost use Rattle.days.specs.Chain.{BeginsBy};
-ghost use Rattle.file_jobs.specs.Days.{day_to_serve, BeginsDay, FolderText, GoesOn, IsServed};
+ghost use Rattle.file_jobs.specs.Days.{day_plan, BeginsDay, FolderText, GoesOn, IsServed};
 ghost use Rattle.file_jobs.specs.Days.{IsConfigOf, file_of, is_written, kept_config, own_config, span_of};
 
 use crate::files::text_in;
 use crate::folder::{DayFile, DayFiles, Folder, Part, Span, day_after};
 use crate::job_error::{JobError, at_file};
 use crate::messages::{Place, print_message};
-use crate::open_journals::{Kept, close_journal};
+use crate::open_journals::{OpenJournal, open_to_close};
 use crate::opening::{begin_with, refuse_fault, refuse_words};
 use crate::settings::settings_in;
 use crate::statuses::FAILED;
@@ -24,14 +24,14 @@ use std::io::Read;
 /// The day that is served: the configuration with which its site begins, and whether that is the one of the folder,
 /// which the day keeps.
 #[derive(Drop)]
-pub struct Newest {
+pub struct DayToServe {
     pub number: u32,
     pub config: Config,
     pub is_kept: bool,
 }
 
 /// Returns the day that a station goes on with: the newest of its folder, or day 1. If `is_new_day` and the newest day
-/// has an entry, ends that day and returns the next one.
+/// has an entry, closes that day and returns the next one.
 ///
 /// `given` is the configuration that `word` names, and `text` its text. It is for a day that has none in the folder, or
 /// no entry. Any other day keeps the folder's; if the two differ, this prints so.
@@ -42,9 +42,9 @@ pub fn newest_day<F: DayFiles>(
     text: &[u8],
     given: Config,
     is_new_day: bool,
-) -> Result<Newest, JobError>
+) -> Result<DayToServe, JobError>
     ensures number { (texts : FolderText) → F.files folder.now ≡ Some texts
-        → IfOk result (λ newest. IsServed (day_to_serve (span_of texts) is_new_day) newest.number) }
+        → IfOk result (λ newest. IsServed (day_plan (span_of texts) is_new_day) newest.number) }
     ensures begun { (texts : FolderText) → F.files folder.now ≡ Some texts
         → IfOk result (λ newest. GoesOn texts given newest.number newest.config) }
     ensures kept { (texts : FolderText) → F.files folder.now ≡ Some texts
@@ -57,7 +57,7 @@ pub fn newest_day<F: DayFiles>(
     let number = number_of(rt, folder, &given, text, is_new_day)?;
     let (config, is_kept) = config_for(rt, folder, number, word, given)?;
     match begin_day(rt, folder, number, config) {
-        Ok(config) => Ok(Newest {
+        Ok(config) => Ok(DayToServe {
             number,
             config,
             is_kept,
@@ -111,25 +111,25 @@ fn print_other_config(
     Ok(())
 }
 
-/// What is to be done to find the day to serve: `Serve(n)` day n, or `End(n)`, which ends day n and serves the one
+/// What is to be done to find the day to serve: `Serve(n)` day n, or `Close(n)`, which closes day n and serves the one
 /// after it, or day n itself if it has no entry.
 #[derive(Clone, Copy)]
-enum DayToServe {
-    This(u32),
-    After(u32),
+enum DayPlan {
+    Serve(u32),
+    Close(u32),
 }
 
-fn day_to_serve(span: Option<Span>, is_new_day: bool) -> DayToServe
-    ensures { result ≡ day_to_serve span is_new_day }
+fn day_plan(span: Option<Span>, is_new_day: bool) -> DayPlan
+    ensures { result ≡ day_plan span is_new_day }
 {
     match span {
-        None => DayToServe::This(1),
-        Some(span) if is_new_day => DayToServe::After(span.newest),
-        Some(span) => DayToServe::This(span.newest),
+        None => DayPlan::Serve(1),
+        Some(span) if is_new_day => DayPlan::Close(span.newest),
+        Some(span) => DayPlan::Serve(span.newest),
     }
 }
 
-/// Returns the number of the day that a station goes on with. Before, ends the newest day, if `is_new_day` and it has
+/// Returns the number of the day that a station goes on with. Before, closes the newest day, if `is_new_day` and it has
 /// an entry.
 fn number_of<F: DayFiles>(
     rt: &HostRuntime,
@@ -139,12 +139,12 @@ fn number_of<F: DayFiles>(
     is_new_day: bool,
 ) -> Result<u32, JobError>
     ensures served { (texts : FolderText) → F.files folder.now ≡ Some texts
-        → IfOk result (IsServed (day_to_serve (span_of texts) is_new_day)) }
+        → IfOk result (IsServed (day_plan (span_of texts) is_new_day)) }
     ensures refused { IfErr result (Refuses 1) }
 {
-    let newest = match day_to_serve(folder.span(rt)?, is_new_day) {
-        DayToServe::This(day) => return Ok(day),
-        DayToServe::After(newest) => newest,
+    let newest = match day_plan(folder.span(rt)?, is_new_day) {
+        DayPlan::Serve(day) => return Ok(day),
+        DayPlan::Close(newest) => newest,
     };
     let (config, day) = match kept_config(rt, folder, newest)? {
         Some(kept) => (kept, None),
@@ -153,7 +153,7 @@ fn number_of<F: DayFiles>(
     close_day(rt, folder, newest, config, ConfigTexts { day, next: text })
 }
 
-/// The texts of the configurations that are written into the folder as a day is ended: that of the day itself, unless
+/// The texts of the configurations that are written into the folder as a day is closed: that of the day itself, unless
 /// the folder has it, and that of the next day.
 #[derive(Clone, Copy)]
 struct ConfigTexts<'a> {
@@ -266,7 +266,7 @@ impl Display for OfDay {
     }
 }
 
-/// Ends day `number`, unless it has no entry, and returns the day that is then the newest. `config` is the day's,
+/// Closes day `number`, unless it has no entry, and returns the day that is then the newest. `config` is the day's,
 /// without an opening.
 fn close_day<F: DayFiles>(
     rt: &HostRuntime,
@@ -281,30 +281,30 @@ fn close_day<F: DayFiles>(
     let path = folder.as_folder().file(rt, number, Part::Journal)?;
     let config = begin_day(rt, folder, number, config)?;
     // The day's journal stays locked until the opening of the next day is written.
-    let closing = close_journal(rt, &config, &path)?;
-    put_close(rt, folder.as_folder(), number, &closing, texts)
+    let journal = open_to_close(rt, &config, &path)?;
+    finish_close(rt, folder.as_folder(), number, &journal, texts)
 }
 
-/// Returns the day that is the newest once day `number` is ended, which it isn't without an entry: checks that the next
+/// Returns the day that is the newest once day `number` is closed, which it isn't without an entry: checks that the next
 /// day hasn't begun, syncs the day's journal, and writes `texts` and the next day's opening.
-fn put_close(
+fn finish_close(
     rt: &HostRuntime,
     folder: Folder<'_>,
     number: u32,
-    closing: &Kept<'_, Closed>,
+    journal: &OpenJournal<'_, Closed>,
     texts: ConfigTexts<'_>,
 ) -> Result<u32, JobError>
-    ensures empty { closing.now.audited.site.history ≡ [] → result ≡ Ok number }
-    ensures closed { closing.now.audited.site.history ≢ [] → IfOk result (λ newest. newest ≡ number + 1) }
+    ensures empty { journal.now.audited.site.history ≡ [] → result ≡ Ok number }
+    ensures closed { journal.now.audited.site.history ≢ [] → IfOk result (λ newest. newest ≡ number + 1) }
     ensures newest { IfOk result (λ newest. (newest ≡ number) ⊎ (newest ≡ number + 1)) }
     ensures refused { IfErr result (Refuses 1) }
 {
-    if closing.audited.site.history().is_empty() {
+    if journal.audited.site.history().is_empty() {
         return Ok(number);
     }
     check_newest(rt, folder, number)?;
-    at_file(rt.alloc(), closing.path, closing.file.sync_all())?;
-    begin_next_day(rt, folder, number, &closing.audited, texts)
+    at_file(rt.alloc(), journal.path, journal.file.sync_all())?;
+    begin_next_day(rt, folder, number, &journal.audited, texts)
 }
 
 /// After an error the next day hasn't begun, unless only a sync of the folder failed.

@@ -1,4 +1,4 @@
-//! The line handler of a play: it carries out each line of a script on a site, and writes the answer.
+//! The line handler of a play: it does what each line of a script says, and writes the answer.
 ghost use Rattle.std.specs.Prelude.{◌≡◌, ◌⊎◌, ◌≤◌, ℕ, All, length, take, OnOk, OnErr, IfOk, IfErr, IfSome, Err, string_bytes};
 ghost use Rattle.std.specs.Io.KnownBytes.{Appends};
 ghost use Rattle.till_request.specs.Count.{RoseBy, one_if};

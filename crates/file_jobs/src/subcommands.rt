@@ -222,7 +222,7 @@ const AFTER: &str = "Example: fc play site.toml day.script
 
 Faults: A assembler text, C closing a site, F an entry that is not legal, H hexadecimal, J journal text,
 K configuration, L line, N device, O days that don't follow one another, S refusal of the site, V program refused.
-docs/use/reference.md names each.
+docs/use/messages.md names each, and every message.
 Status: 0 done, 1 the input is refused, 2 the words are wrong, 3 a device failed or memory ran out.";
 
 fn argument_of<'a>(alloc: Global, argument: Argument) -> Arg<'a>

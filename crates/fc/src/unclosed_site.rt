@@ -3,7 +3,6 @@ use file_jobs::{FAILED, JobError, Place};
 use site_server::{CloseRefusal, ServeFault};
 use std::alloc::Global;
 
-/// Makes the error for a site that can't be closed. `config_name` names the configuration's file.
 fn refuse_close(alloc: Global, config_name: &str, why: CloseRefusal) -> JobError {
     let place = Place::of(config_name);
     match why {
@@ -16,7 +15,6 @@ fn refuse_close(alloc: Global, config_name: &str, why: CloseRefusal) -> JobError
     }
 }
 
-/// Makes the error for a served site that wasn't closed. `config_name` names the configuration's file.
 pub fn unclosed(alloc: Global, config_name: &str, why: ServeFault) -> JobError {
     match why {
         ServeFault::NotClosed(why) => refuse_close(alloc, config_name, why),
@@ -25,8 +23,7 @@ pub fn unclosed(alloc: Global, config_name: &str, why: ServeFault) -> JobError {
             let words = "not served: the system gave too few threads for a worker of each role";
             JobError::at(alloc, Place::of(config_name), &words, FAILED)
         }
-        // This case never happens: the journal `NoJournal` can't fail, and with another journal the caller handles this
-        // fault itself.
+        // Never here: the journal `NoJournal` can't fail, and with another the caller handles this fault itself.
         ServeFault::Journal => JobError::silent(alloc, FAILED),
     }
 }
