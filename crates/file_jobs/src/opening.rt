@@ -1,6 +1,11 @@
 //! Reads the opening that a site begins with, and says why one is refused.
+<<<<<<< HEAD
 ghost use Rattle.std.specs.Prelude.{◌≡◌, ◌≢◌, ◌≤◌, ◌++◌, ◌∷◌, ℕ, List, [], Some, decimal, IfOk, IfErr, vec_len};
 ghost use Rattle.verifier.specs.Refusals.{refusal_numbers};
+=======
+ghost use Rattle.std.specs.Prelude.{◌≡◌, ◌≢◌, ◌≤◌, ◌++◌, ◌∷◌, ℕ, List, [], Some, decimal, length, IfOk, IfErr, vec_len};
+ghost use Rattle.reg_types.specs.Refusals.{refusal_numbers};
+>>>>>>> b941dce9 (Clauses say which files are too long, and how much may be removed after a journal's last LF)
 ghost use Rattle.file_jobs.specs.AuditOutput.{program_text};
 ghost use Rattle.days.specs.Chain.{BeginsBy};
 ghost use Rattle.days.specs.File.{IsOpeningFile};
@@ -68,6 +73,8 @@ pub fn opening_bytes<R: Read + Drop>(
     ensures limit { MOST_OPENING ≡ 262144 }
     ensures few { IfOk result (λ bytes. vec_len bytes ≤ MOST_OPENING) }
     ensures all { (text : List ℕ) → R.remaining source ≡ Some text → IfOk result (λ bytes. bytes.items ≡ text) }
+    ensures short { (text : List ℕ) → R.remaining source ≡ Some text → length text ≤ MOST_OPENING
+        → IfErr result (Ends 3 []) }
     ensures refused { IfErr result (Refuses 1) }
 {
     bytes_in(rt, word, source, MOST_OPENING, &"over 262,144 bytes")
