@@ -1,11 +1,6 @@
 //! Reads the opening that a site begins with, and says why one is refused.
-<<<<<<< HEAD
-ghost use Rattle.std.specs.Prelude.{◌≡◌, ◌≢◌, ◌≤◌, ◌++◌, ◌∷◌, ℕ, List, [], Some, decimal, IfOk, IfErr, vec_len};
-ghost use Rattle.verifier.specs.Refusals.{refusal_numbers};
-=======
 ghost use Rattle.std.specs.Prelude.{◌≡◌, ◌≢◌, ◌≤◌, ◌++◌, ◌∷◌, ℕ, List, [], Some, decimal, length, IfOk, IfErr, vec_len};
-ghost use Rattle.reg_types.specs.Refusals.{refusal_numbers};
->>>>>>> b941dce9 (Clauses say which files are too long, and how much may be removed after a journal's last LF)
+ghost use Rattle.verifier.specs.Refusals.{refusal_numbers};
 ghost use Rattle.file_jobs.specs.AuditOutput.{program_text};
 ghost use Rattle.days.specs.Chain.{BeginsBy};
 ghost use Rattle.days.specs.File.{IsOpeningFile};
