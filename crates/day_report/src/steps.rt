@@ -90,6 +90,7 @@ fn first_or(first: u64, moment: u64) -> u64
 /// An entry whose moment is 0 has no moment.
 #[tactic(auto, unfolding(crate::specs::Picture::axis_of))]
 pub fn axis_of(marks: &[Mark]) -> Axis
+    // proved: It finds the axis of a picture
     ensures { result ≡ axis_of marks.now }
 {
     let mut first = 0;
@@ -117,6 +118,7 @@ pub fn axis_of(marks: &[Mark]) -> Axis
 /// - otherwise `steps`, which is after the last step, if `at` isn't below `most`
 /// - otherwise `at * steps / most`, rounded down
 pub fn step_of(at: u64, most: u128, steps: usize) -> usize
+    // proved step, within_limit: It finds the step that a place on the axis belongs to
     ensures step { result ≡ step_of at most steps }
     ensures within_limit { result ≤ steps }
 {
@@ -264,8 +266,10 @@ pub fn states_by_step(
     marks: &[Mark],
     axis: Axis,
 ) -> Result<Bands, AllocError>
+    // proved steps, points: A picture has the steps of its axis, and each point
     ensures steps { IfOk result (λ bands. bands.steps ≡ steps_along axis) }
     ensures points { IfOk result (λ bands. bands.points ≡ length (opening_state config.now).points) }
+    // proved: A step shows each point's greatest state | point_keeps_its_state
     ensures states { IfOk result
         (λ bands. Shows axis (opening_states config.now) marks.now bands.states.items) }
 {

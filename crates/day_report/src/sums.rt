@@ -82,6 +82,8 @@ impl Sums {
     /// Counts the sale that an entry made, if it made one.
     pub fn count(&mut self, entry: &Entry, change: &Change)
         requires { HasRoom self.old }
+        // proved: Each sale is added to its point, till and hour | sale_goes_to_the_next_till
+        // proved: Hours are counted from 0 | hours_begin_at_one
         ensures { (steps : List StepValue) → AddsUp self.old (sales_in steps)
             → AddsUp self.new (sales_in (steps ++ (record { entry = entry.now; change = change.now }) ∷ [])) }
     {

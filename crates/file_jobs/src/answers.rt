@@ -55,6 +55,7 @@ impl<'a> Answers<'a> {
     /// Writes the answers that are still buffered. A play that ended well then ends with `Write` if they can't be
     /// written.
     pub fn end(&self, ended: Result<Ended, SessionFault>) -> Result<Ended, SessionFault>
+        // proved: A play's end is as it was, or that a write failed
         ensures { MatchResult ended (λ e. (result ≡ Ok e) ⊎ (result ≡ Err SessionFault.Write)) (λ fault. result
             ≡ Err fault) }
     {

@@ -15,6 +15,7 @@ use days::writing::opening_text;
 
 /// Audits the journal in the file that `journal` names, and prints the opening of the next day.
 pub fn carry_files(rt: &HostRuntime, site: SiteFiles<'_>, journal: &str) -> Result<(), JobError>
+    // proved: Nor in any job that reads one
     ensures { IsTrue (reads_twice site.entry.config.now (option_map (λ w. w.now) site.entry.opening) journal.now)
         → IsErrAnd result (Ends 2 []) }
 {

@@ -138,6 +138,7 @@ impl<'a, F: DayFiles + Drop> DaysIn for FolderIn<'a, F> {
 /// Audits all days of the folder that `path` names, and prints that they are legal. `word` names the configuration for
 /// the days that have none in the folder.
 pub fn audit_folder(rt: &HostRuntime, path: &str, word: &str) -> Result<(), JobError>
+    // proved: An audit of all days wants a folder: status 2
     ensures { is_input path.now ≡ true → IsErrAnd result (Ends 2 []) }
 {
     let folder = Folder::named(rt, path)?;
@@ -155,7 +156,9 @@ pub fn audit_in<F: DayFiles + Drop>(
     folder: F,
     config: Config,
 ) -> Result<Chained, JobError>
+    // proved: Each day has its own files | another_days_configuration_is_audited
     ensures legal { (texts : FolderText) → F.files folder ≡ Some texts → IfOk result (AreLegal texts config) }
+    // proved: No day's configuration is refused
     ensures configs { (texts : FolderText) → F.files folder ≡ Some texts → IfOk result (λ _. NoConfigIsRefused texts) }
 {
     match folder.span(rt)? {

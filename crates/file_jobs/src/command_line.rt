@@ -468,14 +468,19 @@ fn job_from_error(kind: ErrorKind, made: Result<String, AllocError>) -> Result<J
 
 /// Returns the job that a command line asks for, whose first word is the program's name.
 pub fn command(alloc: Global, words: Vec<String>) -> Result<Job, CommandFault>
+    // proved requested, faultless: A job comes of words without a fault
+    // proved: 1 and 2 are the layouts
+    // proved: Three words name the rows that are exported
     ensures requested { IfOk result
         (λ job. IsSome (requested job) → parsed_request (subcommand_of fc_app (map string_bytes words.items)) ≡
         requested job) }
+    // proved shown, helps, refused: Else help or a usage
     ensures shown { IfOk result (λ job. requested job ≡ None → takes fc_app (map string_bytes words.items) ≡ false) }
     ensures faultless { IfOk result (λ job. IsSome (requested job)
         → fault_of fc_app (map string_bytes words.items) ≡ []) }
     ensures helps { IfOk result (λ job. requested job ≡ None → MayShow (fault_of fc_app (map string_bytes
         words.items))) }
+    // proved: It says what is missing where nothing is asked
     ensures refused { IfErr result
         (RefusesBy (fault_of fc_app (map string_bytes words.items))
         (subcommand_of fc_app (map string_bytes words.items))) }

@@ -78,6 +78,7 @@ fn unrefused(answer: Answer) -> Entered
 /// out.
 pub fn enter(alloc: Global, site: &mut Site, moment: u64, act: &Act) -> Entered
     ensures answered { ActAnswered site.old moment act.now result.answer site.new }
+    // proved: It says why a script's load is refused, if it is | no_refusal_is_returned
     ensures refused { IsLoadRefusal act.now result.answer result.refusal }
 {
     match event_of(alloc, act) {

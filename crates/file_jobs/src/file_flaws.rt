@@ -66,6 +66,7 @@ impl fmt::Display for FileFlaw<'_> {
 impl FileFlaw<'_> {
     /// Returns the line that is printed on standard output of a file with this flaw, without its LF.
     pub fn line(&self, alloc: Global) -> Result<String, AllocError>
+        // proved line, memory: It gives the line that is printed of a refused file
         ensures line { IfOk result (λ line. string_bytes line ++ codes "\n" ≡ line_of self.now) }
         ensures memory { self.now ≡ FileFlaw.OutOfMemory → IsErr result }
     {

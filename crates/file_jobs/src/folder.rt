@@ -50,6 +50,7 @@ pub struct Folder<'a> {
 impl<'a> Folder<'a> {
     /// Returns the folder that an argument names, which must not be standard input.
     pub fn named(rt: &HostRuntime, word: &'a str) -> Result<Folder<'a>, JobError>
+        // proved folder, input, named: Standard input is no folder: status 2
         ensures folder { IfOk result (λ folder. folder.path.now ≡ word.now) }
         ensures input { IfErr result (λ job_error. (is_input word.now ≡ true)
             × Ends 2 [] job_error) }
@@ -64,6 +65,7 @@ impl<'a> Folder<'a> {
 
     /// Returns the path of a day's file, whether the folder has it or not.
     pub fn file(self, rt: &HostRuntime, day: u32, part: Part) -> Result<String, AllocError>
+        // proved: It gives the path of a day's file
         ensures { IfOk result (λ path. string_bytes path ≡ path_of self.entry.path.now day part) }
     {
         let (path, ending) = (self.path, part.ending());

@@ -89,7 +89,9 @@ impl JobError {
 
     /// For input that is refused for a fault: its number `code`, as `K1`, is printed on standard output too.
     pub fn refused<D: Display>(alloc: Global, place: Place<'_>, words: &D, code: &str) -> JobError
+        // proved: A fault's number is printed, with status 1
         ensures ends { EndsOrRunsOut 1 (code.now ++ 10 ∷ []) result }
+        // proved: Its message has place, words and number | message_without_its_number
         ensures says { IfSome (D.output words.now)
             (λ text. Says (words_at place.entry (numbered_words text code.now)) result) }
     {
@@ -132,6 +134,7 @@ impl JobError {
 
     /// For a file that can't be used.
     pub fn of_file(alloc: Global, word: &str, error: &io::Error) -> JobError
+        // proved: A file that can't be used has status 3
         ensures { Ends 3 [] result }
     {
         if error.kind() == ErrorKind::OutOfMemory && error.raw_os_error().is_none() {
@@ -152,6 +155,7 @@ impl JobError {
 
     /// For standard output that can't be written. Nothing is printed if its reader closed the pipe.
     pub fn unwritten(alloc: Global, failure: Option<&io::Error>) -> JobError
+        // proved: So has an output that can't be written
         ensures { Ends 3 [] result }
     {
         match failure {
@@ -186,6 +190,7 @@ impl JobError {
     /// Prints the message on `errors`, where a failed write is ignored, and then the line for standard output on
     /// `output`. Returns the exit status: `FAILED` if that line can't be written, which is printed on `errors` too.
     pub fn print<E: Write, O: Write>(&self, alloc: Global, errors: &mut E, output: &mut O) -> u8
+        // proved status, printed, nothing: An error's line is written, else the status is 3
         ensures status { (result ≡ status_of self.now) ⊎ (result ≡ 3) }
         ensures printed { result ≢ 3 → Appends (O.contents output.old) (O.contents output.new) (output_of self.now) }
         ensures nothing { output_of self.now ≡ [] → (result ≡ status_of self.now) × (output.new ≡ output.old) }

@@ -39,6 +39,7 @@ impl fmt::Display for JournalFlaw {
 
 /// Returns the place of an entry, counted from 1, and in words what is wrong with it.
 pub fn explained(alloc: Global, flaw: EntryFlaw) -> Result<(u32, JournalFlaw), AllocError>
+    // proved: What an audit found, in words | flaw_is_told_of_the_next_entry
     ensures explains { IfOk result (λ p. Explains flaw p.0 p.1) }
 {
     match flaw {

@@ -43,12 +43,15 @@ pub fn newest_day<F: DayFiles>(
     given: Config,
     is_new_day: bool,
 ) -> Result<DayToServe, JobError>
+    // proved: The newest day is served, or the next if it is written | first_day_is_served
     ensures number { (texts : FolderText) → F.files folder.now ≡ Some texts
         → IfOk result (λ newest. IsServed texts (day_plan (span_of texts) is_new_day) newest.number) }
+    // proved begun, kept: It goes on with what it keeps, and its opening
     ensures begun { (texts : FolderText) → F.files folder.now ≡ Some texts
         → IfOk result (λ newest. GoesOn texts given newest.number newest.config) }
     ensures kept { (texts : FolderText) → F.files folder.now ≡ Some texts
         → IfOk result (λ newest. newest.is_kept ≡ is_some (kept_config texts newest.number)) }
+    // proved first, later, refused: A day begins as given, unless the folder says how
     ensures first { IfOk result (λ newest. newest.is_kept ≡ false → newest.number ≡ 1 → newest.config ≡ given) }
     ensures later { IfOk result
         (λ newest. newest.is_kept ≡ false → newest.number ≢ 1 → BeginsDay given newest.number newest.config) }
@@ -249,6 +252,7 @@ pub const UNOPENED: &str = "the day has no opening";
 
 /// Makes the error O1 for a day that doesn't follow the day before it.
 pub fn refuse_link<D: Display>(alloc: Global, place: Place<'_>, day: u32, words: &D) -> JobError
+    // proved: Days that don't follow one another: O1, the day, status 1
     ensures { EndsOrRunsOut 1 (codes "O1 " ++ (decimal day ++ codes "\n")) result }
 {
     JobError::refused_as(alloc, place, words, "O1", &format_args!("O1 {day}"))
@@ -383,6 +387,7 @@ pub fn check_newest(rt: &HostRuntime, folder: Folder<'_>, number: u32) -> Result
 }
 
 pub fn refuse_uncarried(alloc: Global, journal: &str, why: Uncarried) -> JobError
+    // proved ends, memory: A day that leaves no opening: status 1, unless memory ran out
     ensures ends { why ≢ Uncarried.Fault OpeningFault.OutOfMemory → Ends 1 [] result }
     ensures memory { why ≡ Uncarried.Fault OpeningFault.OutOfMemory → result ≡ JobError.OutOfMemory }
 {

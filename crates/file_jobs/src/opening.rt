@@ -66,6 +66,7 @@ pub fn opening_bytes<R: Read + Drop>(
     source: R,
 ) -> Result<Vec<u8>, JobError>
     ensures limit { MOST_OPENING ≡ 262144 }
+    // proved few, refused: An opening has at most 262,144
     ensures few { IfOk result (λ bytes. vec_len bytes ≤ MOST_OPENING) }
     ensures all { (text : List ℕ) → R.remaining source ≡ Some text → IfOk result (λ bytes. bytes.items ≡ text) }
     ensures short { (text : List ℕ) → R.remaining source ≡ Some text → length text ≤ MOST_OPENING
@@ -95,6 +96,7 @@ fn opening_in<R: Read + Drop>(
 /// Makes the error for a refused opening: a line is wrong or missing (J1), the last one has no LF (J2), or a program is
 /// refused (F2). Behind the fault's number stand the line's and, for a program, the verifier's fault.
 pub fn refuse_opening(alloc: Global, word: &str, flaw: OpeningFlaw) -> JobError
+    // proved refused, status: So is a text that is no opening
     ensures refused { RefusesOpening flaw result }
     ensures status { Refuses 1 result }
 {
@@ -149,6 +151,7 @@ fn refuse_rule(
 
 /// Makes the error for an opening with which a site of a given configuration can't begin.
 pub fn refuse_unfit(alloc: Global, word: &str, unfit: Unfit) -> JobError
+    // proved ends, memory: An opening that doesn't fit has status 1, unless memory ran out
     ensures ends { unfit ≢ Unfit.Fault OpeningFault.OutOfMemory → Ends 1 [] result }
     ensures memory { unfit ≡ Unfit.Fault OpeningFault.OutOfMemory → result ≡ JobError.OutOfMemory }
 {

@@ -86,6 +86,7 @@ fn broken_off(
 
 /// Plays a script on a new site. Standard input has the configuration, and then the script.
 pub fn play_input(rt: &HostRuntime) -> Result<(), JobError>
+    // proved: A play that isn't done has status 1 or 3
     ensures { IfErr result (Refuses 1) }
 {
     if rt.stdin().is_terminal() {

@@ -19,7 +19,9 @@ use verifier::{Layout, Refusal};
 
 /// Returns what `fc asm` prints of an assembler text: its units, each as a line of 16 hexadecimal digits.
 pub fn asm_file<'a>(alloc: Global, text: &'a [u8]) -> Result<String, FileFlaw<'a>>
+    // proved printed, flaw: It gives what `asm` prints | good_text_is_refused_by_nothing
     ensures printed { IfOk result (λ printed. Assembles text.now (string_bytes printed)) }
+    // proved flaw, length: It says why a text is refused
     ensures flaw { IfErr result (IsAsmFlaw text.now) }
     ensures length { 65536 < length text.now → result ≡ Err (FileFlaw.File ProgramFileFault.TooLong) }
 {
@@ -34,8 +36,10 @@ pub fn asm_file<'a>(alloc: Global, text: &'a [u8]) -> Result<String, FileFlaw<'a
 
 /// Returns what `fc dis` prints of a program file: its text. Jumps and types aren't checked.
 pub fn dis_file(alloc: Global, file: &[u8]) -> Result<String, FileFlaw<'static>>
+    // proved: It gives what `dis` prints
     ensures printed { IfOk result
         (λ printed. Disassembles canonical_text (program_in file.now) (string_bytes printed)) }
+    // proved flaw, length: The same for `dis`
     ensures flaw { IfErr result (IsDisFlaw (program_in file.now)) }
     ensures length { 65536 < length file.now → result ≡ Err (FileFlaw.File ProgramFileFault.TooLong) }
 {
@@ -45,6 +49,7 @@ pub fn dis_file(alloc: Global, file: &[u8]) -> Result<String, FileFlaw<'static>>
 
 /// Returns what `fc dis --units` prints: the text of `dis_file`, with the number of its first unit before each line.
 pub fn dis_units_file(alloc: Global, file: &[u8]) -> Result<String, FileFlaw<'static>>
+    // proved printed, flaw: It gives what `dis --units` prints | units_are_not_numbered
     ensures printed { IfOk result
         (λ printed. Disassembles (numbered_from 0) (program_in file.now) (string_bytes printed)) }
     ensures flaw { IfErr result (IsDisFlaw (program_in file.now)) }
@@ -78,8 +83,11 @@ pub fn verify_file(
     counters: u32,
     context: Layout,
 ) -> Result<String, FileFlaw<'static>>
+    // proved: It gives what `verify` prints
+    // proved printed, flaw: The verdict is `verify`'s | good_program_is_refused_by_its_mask
     ensures printed { IfOk result
         (λ printed. Verifies (program_in file.now) counters context (string_bytes printed)) }
+    // proved flaw, length: It says why `verify` refuses a program file: `verify`'s own refusal
     ensures flaw { IfErr result (IsVerifyFlaw (program_in file.now) counters context) }
     ensures length { 65536 < length file.now → result ≡ Err (FileFlaw.File ProgramFileFault.TooLong) }
 {

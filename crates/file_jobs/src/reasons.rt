@@ -106,6 +106,7 @@ fn words_of(kind: Kind) -> &'static str
 impl RefusedProgram {
     /// Returns the number of the fault (1 for V1, to 20 for V20), or 0 if memory ran out.
     pub fn number(&self) -> u32
+        // proved: It returns the V number
         ensures { result ≡ number_in (refusal_numbers self.now.refusal) }
     {
         match self.refusal.fault_numbers() {
@@ -188,9 +189,11 @@ pub fn explain_refusal(
     bytes: &[u8],
     refusal: Refusal,
 ) -> Result<RefusedProgram, AllocError>
+    // proved refusal, line: It shows the instruction | refusal_without_its_instruction
     ensures refusal { IfOk result (λ reported. reported.refusal ≡ refusal) }
     ensures line { IfOk result
         (λ reported. option_map string_bytes reported.line ≡ line_named bytes.now (unit_in (refusal_numbers refusal))) }
+    // proved: It says what an argument has to be
     ensures wanted { IfOk result (λ reported. reported.wanted ≡ wanted_in (units bytes.now) refusal) }
     ensures unitless { unit_in (refusal_numbers refusal) ≡ None → IsOk result }
 {

@@ -22,6 +22,7 @@ pub fn audited<T>(
     audit: Result<Result<T, EntryFlaw>, JournalFault>,
     failure: Option<&io::Error>,
 ) -> Result<T, JobError>
+    // proved audited, status: So an audit's result is handed on, or refused
     ensures audited { MatchResult audit
         (λ found. MatchResult found (λ value. result ≡ Ok value) (λ flaw. IsErrAnd result (EndsOrRunsOut 1 (line_of_flaw flaw))))
         (λ fault. IsErrAnd result (RefusesText fault)) }
@@ -40,6 +41,7 @@ pub fn refuse_text(
     fault: JournalFault,
     failure: Option<&io::Error>,
 ) -> JobError
+    // proved refused, status: A text that is no journal is refused by its fault
     ensures refused { RefusesText fault result }
     ensures status { Refuses 1 result }
 {
@@ -68,6 +70,7 @@ fn code_of(flaw: &EntryFlaw) -> &'static str {
 
 /// The line on standard output begins with the fault's number and the entry's place, counted from 1, as in `F3 5`.
 pub fn refuse_entry(alloc: Global, word: &str, flaw: EntryFlaw) -> JobError
+    // proved: A history that no site can have has status 1, and its first flaw's line
     ensures refused { EndsOrRunsOut 1 (line_of_flaw flaw) result }
 {
     let code = code_of(&flaw);

@@ -50,8 +50,10 @@ impl<'a> SiteFiles<'a> {
 
 /// Reads the configuration of a site, and then its opening.
 pub fn day_of(rt: &HostRuntime, site: SiteFiles<'_>) -> Result<Day, JobError>
+    // proved twice, once: Standard input can't be read twice: status 2
     ensures twice { IsTrue (is_input site.entry.config.now && may_be_input (option_map (λ w. w.now) site.entry.opening))
         → IsErrAnd result (Ends 2 []) }
+    // proved first, opened: Without an opening it is day 1, else it begins with the opening
     ensures first { site.entry.opening ≡ None → IfOk result (λ day. day.number ≡ 1) }
     ensures opened { IsSome site.entry.opening
         → IfOk result (λ day. (config : ConfigValue) × BeginsDay config day.number day.config) }
@@ -86,6 +88,7 @@ fn refuse_twice(alloc: Global) -> JobError
 
 /// Reads the text of a configuration, in the file that `word` names.
 pub fn settings_in(rt: &HostRuntime, word: &str, text: &[u8]) -> Result<Settings, JobError>
+    // proved read, refused: A configuration is refused with status 1
     ensures read { IfOk result (λ settings. config_of text.now ≡ Ok (settings_view settings)) }
     ensures refused { IfErr result (Refuses 1) }
 {
@@ -118,6 +121,7 @@ pub fn day_and(
     site: SiteFiles<'_>,
     other: &str,
 ) -> Result<(Day, Source), JobError>
+    // proved twice, once: Nor where a journal is read too
     ensures twice { IsTrue (reads_twice site.entry.config.now (option_map (λ w. w.now) site.entry.opening) other.now)
         → IsErrAnd result (Ends 2 []) }
     ensures once { reads_twice site.entry.config.now (option_map (λ w. w.now) site.entry.opening) other.now ≡ false

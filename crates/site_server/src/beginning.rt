@@ -78,6 +78,7 @@ impl Beginning {
     pub(crate) fn pass_on(&mut self, buffer: &mut [u8]) -> usize
         requires { self.old.verdict ≢ Verdict.Unclear }
         ensures count { result ≡ min (length self.old.kept) (length buffer.new) }
+        // proved passed, kept: All of a client | first_bytes_of_a_client_are_lost
         ensures passed { take result buffer.new ≡ take result self.old.kept }
         ensures kept { self.new.kept ≡ drop result self.old.kept }
         ensures verdict { self.new.verdict ≡ self.old.verdict }

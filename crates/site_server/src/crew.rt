@@ -72,8 +72,10 @@ impl Crew {
     /// Makes a crew: for each door as many workers as it asks for, in the order of the doors. `None` if that is none,
     /// or over 96.
     pub fn new(alloc: Global, doors: Vec<OpenDoor>) -> Result<Option<Crew>, AllocError>
+        // proved there, workers, memory: It has its doors' workers, 1 to 96 | door_lacks_a_worker
         ensures there { IfOk result (λ made. IsSome made ↔ IsCrew (length (all_posts doors.items))) }
         ensures memory { OnErr result (IsCrew (length (all_posts doors.items))) }
+        // proved: Each worker has its door's bound | door_has_no_bound
         ensures workers { IfOk result (λ made. IfSome made (λ crew. posts_of crew.workers.items ≡ all_posts doors.items)) }
     {
         if !(1..=96).contains(&count_workers(&doors)) {

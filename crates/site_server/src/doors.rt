@@ -81,10 +81,12 @@ impl<'a, R: Wait + Clock, N: Notices> SocketDoors<'a, R, N> {
         pass: u32,
         idle_seconds: u32,
     ) -> SocketDoors<'a, R, N>
+        // proved door, role, pass, idle: It keeps the door, role, pass and limit
         ensures door { result.door.now ≡ door.now }
         ensures role { result.role ≡ role }
         ensures pass { result.pass ≡ pass }
         ensures idle { result.idle_seconds ≡ idle_seconds }
+        // proved asked, pause: No door is asked for yet
         ensures asked { result.asked ≡ 0 }
         ensures pause { result.pause ≡ 0 }
     {

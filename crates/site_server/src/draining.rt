@@ -12,6 +12,7 @@ use till_request::LineFault;
 /// Whether a session ended while its peer may still be sending: all its reads were made (N3), or its last line was too
 /// long (L1).
 pub(crate) fn is_drained(outcome: &Result<Ended, SessionFault>) -> bool
+    // proved: It is drained behind L1 and N3 alone | failed_write_is_drained
     ensures { result ≡ is_drained outcome.now }
 {
     match outcome {

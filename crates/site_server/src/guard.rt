@@ -70,6 +70,7 @@ pub struct GuardedReader<'a, N: Notices, R: Read> {
 impl<'a, N: Notices, R: Read> GuardedReader<'a, N, R> {
     /// Nothing may have been read from `reader` yet.
     pub(crate) fn new(reader: R, notices: &'a N, role: Role, pass: u32) -> GuardedReader<'a, N, R>
+        // proved: No byte of a stranger | bytes_of_a_stranger_are_passed_on
         ensures admitted { ahead_of result.beginning (R.remaining result.reader)
             ≡ option_map (λ bytes. admitted bytes) (R.remaining reader) }
         ensures role { result.role ≡ role }

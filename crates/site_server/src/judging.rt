@@ -136,6 +136,8 @@ fn either(first: Verdict, second: Verdict) -> Verdict
 
 /// After 8,402 bytes it's never unclear who the peer is, nor after a whole line.
 pub(crate) fn judge(bytes: &[u8]) -> Verdict
+    // proved: A verdict holds whatever comes behind | a_method_is_let_in
+    // proved: A path is no second word of ours | page_names_its_own_method
     ensures { IsVerdict bytes.now result }
 {
     either(judge_opening(bytes), judge_path(bytes))

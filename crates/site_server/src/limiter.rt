@@ -42,6 +42,7 @@ impl Limiter {
     /// Whether a line of this period (a number of seconds or minutes, say) is let through: if so, how many were held
     /// back since the last one that was.
     pub fn admit(&mut self, period: u64) -> Option<u64>
+        // proved admitted, after: So many lines of a period pass | one_line_more_in_a_period
         ensures admitted { result ≡ may_print self.old period }
         ensures after { self.new ≡ after_line self.old period }
     {

@@ -46,7 +46,9 @@ impl Bucket {
     /// a second.
     pub fn take_turn(&mut self, bound: u32, now: u64) -> Turn
         requires { 0 < bound }
+        // proved turn, after: A line takes credit, or waits | one_line_more_a_second
         ensures turn { result ≡ turn_at bound now self.old }
+        // proved: Clocks don't go back | clock_that_goes_back_gives_credit
         ensures after { self.new ≡ bucket_after bound now self.old }
     {
         let bound_wide = u64::from(bound);
@@ -65,6 +67,7 @@ impl Bucket {
 /// A law: however often a line is asked for, the lines that are read keep to the bound, and one that waits is allowed
 /// after its pause.
 pub fn law_of_pace()
+    // proved bounded, prompt: The law of pace holds
     ensures bounded { (bound : ℕ) (moments : List ℕ) (bucket : Bucket) → IsBounded bound moments bucket }
     ensures prompt { (bound : ℕ) (now : ℕ) (bucket : Bucket) → IsPrompt bound now bucket }
 {}

@@ -212,12 +212,18 @@ impl<J: Journal + Send> Serving<J> {
         alloc: Global,
         outside: ServingHooks<'_, N, A, W>,
     ) -> Result<Served<J>, Unclosed<J>>
+        // proved: Each pass serves its worker's role | all_workers_serve_the_owner
+        // proved: It leaves the site described above | half_of_the_connections_are_served
         ensures ok { IfOk result
             (λ served. IsServed (plan_of J.written J.may_fail self) served.clean served.site (J.written
             served.journal)) }
+        // proved: Else it says why it doesn't | site_is_closed_without_its_passes
+        // proved: A failed journal is named | failed_journal_is_a_refused_close
         ensures err { IfErr result (λ unclosed. ServingFails (plan_of J.written J.may_fail self) unclosed.why) }
+        // proved: Out of memory, all is as before | out_of_memory_is_returned_after_serving
         ensures memory { IfErr result
             (λ unclosed. unclosed.why ≡ ServeFault.OutOfMemory → unclosed.back ≡ Some (self.watched, self.journal)) }
+        // proved: Without end it doesn't return
         ensures endless { self.connections ≡ None
             → IsErrAnd result (λ unclosed. NeverServes unclosed.why) }
     {

@@ -108,6 +108,7 @@ impl ThreadCounts {
 
     /// Whether each role with workers has a thread for one of them. A site is served only then.
     pub fn serves_each_role(self) -> bool
+        // proved: Each role has a thread | role_without_a_thread_is_served
         ensures { result ≡ serves_each_role self }
     {
         !self.tills.is_unserved() && !self.dispensers.is_unserved() && !self.owner.is_unserved()
