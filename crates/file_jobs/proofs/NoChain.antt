@@ -1,6 +1,6 @@
 -- A day whose own configuration is refused is in no chain of days: no opening has the text that `day_with` takes it to
 -- have.
-use Rattle.std.proofs.Common.{◌≡◌, ℕ, ◌+◌, ◌-◌, ◌≤◌, ⊥, zero, suc, nat_lt, [], Some, Err, unwrap_or, arith, ap, subst, sym, ◌∙◌, ⊎_elim, rules}
+use Rattle.std.proofs.Common.{◌≡◌, ℕ, ◌+◌, ◌-◌, ◌≤◌, zero, suc, nat_lt, [], Some, Err, unwrap_or, arith, ap, subst, sym, ◌∙◌, ⊎_elim, rules}
 use Rattle.std.proofs.lemmas.Bool.{cases_Bool, ltb-true, ltb-false}
 use Rattle.site_core.specs.Limits.{ConfigValue}
 use Rattle.site_core.specs.Site.{SiteValue}

@@ -79,8 +79,8 @@ pub enum ServeJob {
         config: String,
         journal: String,
     },
-    /// Serve the newest day of a folder, or day 1 if it has none. If `is_new_day` and the newest day has an entry, close
-    /// that day first, and serve the next one.
+    /// Serve the newest day of a folder, or day 1 if it has none. If `is_new_day` and the newest day has an entry,
+    /// close that day first, and serve the next one.
     Days {
         folder: String,
         config: String,

@@ -292,8 +292,8 @@ fn close_day<F: DayFiles>(
     finish_close(rt, folder.as_folder(), number, &journal, texts)
 }
 
-/// Returns the day that is the newest once day `number` is closed, which it isn't without an entry: checks that the next
-/// day hasn't begun, syncs the day's journal, and writes `texts` and the next day's opening.
+/// Returns the day that is the newest once day `number` is closed, which it isn't without an entry: checks that the
+/// next day hasn't begun, syncs the day's journal, and writes `texts` and the next day's opening.
 fn finish_close(
     rt: &HostRuntime,
     folder: Folder<'_>,
