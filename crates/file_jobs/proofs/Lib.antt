@@ -8,4 +8,3 @@ pub mod Fronts
 pub mod Journals
 pub mod LongLines
 pub mod FolderDays
-pub mod NoChain
