@@ -1,4 +1,4 @@
-use Rattle.std.proofs.Common.{rules, arith}
+use Rattle.std.proofs.Common.{rules}
 use Rattle.site_server.proofs.LastRan.{all_ran, none_ran, ran_if_some}
 use Rattle.site_server.proofs.running.+run_each.Goals as goal
 

@@ -1,4 +1,5 @@
-use Rattle.std.proofs.Common.{rules, arith, map, length}
+use Rattle.std.proofs.Common.{rules, arith, ◌≡◌, ap, map, length}
+use Rattle.std.proofs.lemmas.List.{length-map}
 use Rattle.site_server.specs.Collecting.{RunEach}
 use Rattle.site_server.proofs.Collecting.{all_done, are_all, have_worked, well_few}
 use Rattle.site_server.proofs.serving.work_all.Goals as goal
@@ -15,6 +16,28 @@ collect_passes-clean-requires-clause-few g c =
     let all = all_done may_fail crew.0 w.connections w.forecourt config c.requires.config waiting done crew.2 ran in
     let few = well_few may_fail crew.0 w.connections w.forecourt config c.requires.config 0 done all.0 c.prove_few.ensures in
     omega (arith, few, all.1, crew.1)
+
+pub collect_passes-clean-requires-clause-room : goal.collect_passes-clean-requires-clause-room
+collect_passes-clean-requires-clause-room g c =
+    let w = c.args.workers.now in
+    let config = g.L.SiteLedger.config in
+    let may_fail = g.J.Journal.may_fail in
+    let crew = c.requires.waiting in
+    let waiting = map (λ p. p.waiting) c.args.tasks.items in
+    let done = map (λ p. p.done) c.as_mut_slice.result.now in
+    let ran : RunEach config may_fail w.connections waiting done = search rules in
+    let all = all_done may_fail crew.0 w.connections w.forecourt config c.requires.config waiting done crew.2 ran in
+    let none : length c.args.passes.items ≡ 0 = ap length c.requires.room.0 in
+    omega (
+      arith,
+      none,
+      c.args.passes.ok.0,
+      all.1,
+      crew.2.0,
+      length-map c.as_mut_slice.result.now (λ p. p.done),
+      length-map c.args.tasks.items (λ p. p.waiting),
+      c.requires.room.1,
+    )
 
 pub returns : goal.returns
 returns g c = λ workers are.
