@@ -1,6 +1,6 @@
 -- Definitions: the names of a day's files, the days that a folder has, and how a day begins (source: this project). A
 -- file's name begins with the day's number: six digits, such as `000002`, or more if the number needs more.
-use Rattle.std.specs.Prelude.{◌≡◌, ◌≢◌, ◌⊎◌, ℕ, ◌+◌, ◌-◌, ◌==◌, ◌||◌, List, [], ◌∷◌, ◌++◌, length, codes, decimal, replicate, fold, min, max, nat_lt, Bool, false}
+use Rattle.std.specs.Prelude.{◌≡◌, ◌≢◌, ◌⊎◌, ℕ, ◌+◌, ◌-◌, ◌==◌, ◌||◌, List, [], ◌∷◌, ◌++◌, length, codes, decimal, replicate, fold, min, max, nat_lt, Bool, false, true}
 use Rattle.std.specs.Prelude.{Option, Some, None, option_map, Result, Ok, bytes_eq, if◌then◌else◌}
 use Rattle.std.specs.List.{before_first, after_first}
 use Rattle.std.specs.Map.{lookup}
@@ -95,10 +95,11 @@ span_of folder = fold (λ span file. with_found span (day_named file.0)) None fo
 abbrev pub day_after : ℕ → ℕ → Option ℕ
 day_after day newest = if nat_lt day newest then Some (day + 1) else None
 
--- `day` is the day to serve. The day after a day is served only once that day is closed, and it isn't if it has no entry.
-abbrev pub IsServed : DayPlan → ℕ → Type 0
-IsServed (plan.Serve n) day = day ≡ n
-IsServed (plan.Close n) day = (day ≡ n) ⊎ (day ≡ n + 1)
+-- `day` is the day to serve. The day after day n is served only if the journal of day n isn't empty: only then is day n
+-- closed.
+abbrev pub IsServed : FolderText → DayPlan → ℕ → Type 0
+IsServed folder (plan.Serve n) day = day ≡ n
+IsServed folder (plan.Close n) day = (day ≡ n) ⊎ ((day ≡ n + 1) × (is_written (file_of folder n part.Journal) ≡ true))
 
 -- the configuration in the text of a day's file, or the fault of that text; None if the day has no such file
 abbrev pub own_config : Option (List ℕ) → Option (Result ConfigValue ConfigFault)

@@ -43,9 +43,9 @@ pub fn newest_day<F: DayFiles>(
     given: Config,
     is_new_day: bool,
 ) -> Result<DayToServe, JobError>
-    // proved: The newest day is served, or the next | first_day_is_served
+    // proved: The newest day is served, or the next if it is written | first_day_is_served
     ensures number { (texts : FolderText) → F.files folder.now ≡ Some texts
-        → IfOk result (λ newest. IsServed (day_plan (span_of texts) is_new_day) newest.number) }
+        → IfOk result (λ newest. IsServed texts (day_plan (span_of texts) is_new_day) newest.number) }
     // proved begun, kept: It goes on with what it keeps, and its opening
     ensures begun { (texts : FolderText) → F.files folder.now ≡ Some texts
         → IfOk result (λ newest. GoesOn texts given newest.number newest.config) }
@@ -142,15 +142,18 @@ fn number_of<F: DayFiles>(
     is_new_day: bool,
 ) -> Result<u32, JobError>
     ensures served { (texts : FolderText) → F.files folder.now ≡ Some texts
-        → IfOk result (IsServed (day_plan (span_of texts) is_new_day)) }
+        → IfOk result (IsServed texts (day_plan (span_of texts) is_new_day)) }
     ensures refused { IfErr result (Refuses 1) }
 {
     let newest = match day_plan(folder.span(rt)?, is_new_day) {
         DayPlan::Serve(day) => return Ok(day),
         DayPlan::Close(newest) => newest,
     };
-    let (config, day) = match kept_config(rt, folder, newest)? {
-        Some(kept) => (kept, None),
+    if !is_written(rt, folder, newest)? {
+        return Ok(newest);
+    }
+    let (config, day) = match own_config(rt, folder, newest)? {
+        Some(own) => (own, None),
         None => (given.copied(rt.alloc())?, Some(text)),
     };
     close_day(rt, folder, newest, config, ConfigTexts { day, next: text })
