@@ -8,3 +8,4 @@ pub mod Fronts
 pub mod Journals
 pub mod LongLines
 pub mod FolderDays
+pub mod NoChain

@@ -39,6 +39,12 @@ AreLegal folder given chained =
     × IsChain span.oldest (days_left folder given (Some span.oldest) span.newest) chained.entries
     × (chained.days ≡ length (days_left folder given (Some span.oldest) span.newest))
 
+-- No day of a folder, from the oldest to the newest, has a configuration of its own that is refused.
+abbrev pub NoConfigIsRefused : FolderText → Type 0
+NoConfigIsRefused folder =
+    (span : Span) (day : ℕ) (fault : ConfigFault) → span_of folder ≡ Some span → span.oldest ≤ day → day ≤ span.newest
+    → own_config (file_of folder day part.Config) ≢ Some (Err fault)
+
 -- The first `n` bytes of both texts are the same. If both texts are longer, their next bytes differ.
 pub record AgreeFor (text left : List ℕ) (n : ℕ) : Type 0 where
   pub within : n ≤ length text

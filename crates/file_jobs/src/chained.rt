@@ -9,7 +9,7 @@ ghost use Rattle.file_jobs.specs.StandardInput.{is_input};
 ghost use Rattle.file_jobs.specs.Days.{FolderText, IsConfigOf, file_of, own_config};
 ghost use Rattle.file_jobs.specs.JobErrors.{Ends, EndsOrRunsOut, Refuses};
 ghost use Rattle.file_jobs.specs.PlaysAndDays.{RefusesBeginning, RefusesJournal, RefusesDays};
-ghost use Rattle.file_jobs.specs.Chained.{AgreeFor, AreLegal, IsOtherLine, day_in, days_left};
+ghost use Rattle.file_jobs.specs.Chained.{AgreeFor, AreLegal, IsOtherLine, NoConfigIsRefused, day_in, days_left};
 
 use crate::files::{lines_in, text_of};
 use crate::job_error::printed;
@@ -157,7 +157,9 @@ pub fn audit_in<F: DayFiles + Drop>(
     config: Config,
 ) -> Result<Chained, JobError>
     // proved: Each day has its own files | another_days_configuration_is_audited
-    ensures { (texts : FolderText) → F.files folder ≡ Some texts → IfOk result (AreLegal texts config) }
+    ensures legal { (texts : FolderText) → F.files folder ≡ Some texts → IfOk result (AreLegal texts config) }
+    // proved: No day's configuration is refused
+    ensures configs { (texts : FolderText) → F.files folder ≡ Some texts → IfOk result (λ _. NoConfigIsRefused texts) }
 {
     match folder.span(rt)? {
         Some(span) => audit_span(rt, folder, config, span),
