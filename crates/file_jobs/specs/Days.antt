@@ -1,6 +1,6 @@
 -- Definitions: the names of a day's files, the days that a folder has, and how a day begins (source: this project). A
 -- file's name begins with the day's number: six digits, such as `000002`, or more if the number needs more.
-use Rattle.std.specs.Prelude.{◌≡◌, ◌≢◌, ◌⊎◌, ℕ, ◌+◌, ◌-◌, ◌==◌, ◌||◌, List, [], ◌∷◌, ◌++◌, length, codes, decimal, replicate, fold, min, max, nat_lt, Bool, false, true}
+use Rattle.std.specs.Prelude.{◌≡◌, ◌≢◌, ◌⊎◌, ℕ, ◌+◌, ◌-◌, ◌==◌, ◌||◌, List, [], ◌∷◌, ◌++◌, length, codes, decimal, replicate, map, fold, min, max, nat_lt, Bool, false, true}
 use Rattle.std.specs.Prelude.{Option, Some, None, option_map, Result, Ok, bytes_eq, if◌then◌else◌}
 use Rattle.std.specs.List.{before_first, after_first}
 use Rattle.std.specs.Map.{lookup}
@@ -16,6 +16,7 @@ use Rattle.days.specs.Fitting.{BeginsWith}
 use Rattle.file_jobs.specs.declared.folder.Part.{Part}
 use Rattle.file_jobs.specs.declared.folder.Part.TheVariants as part
 use Rattle.file_jobs.specs.declared.folder.Span.{Span}
+use Rattle.file_jobs.specs.declared.memory_folder.MemoryFile.{MemoryFile}
 use Rattle.file_jobs.specs.declared.newest.DayPlan.{DayPlan}
 use Rattle.file_jobs.specs.declared.newest.DayPlan.TheVariants as plan
 
@@ -41,6 +42,10 @@ path_of folder day part = folder ++ (47 ∷ file_name day part)
 -- A folder of days as a value: the name and the bytes of each file.
 abbrev pub FolderText : Type 0
 FolderText = List (List ℕ × List ℕ)
+
+-- the folder of these files in memory
+abbrev pub texts_of : List MemoryFile → FolderText
+texts_of files = map (λ file. (file.name.now, file.bytes.now)) files
 
 -- the bytes of a day's file, or None if the folder has no such file
 abbrev pub file_of : FolderText → ℕ → Part → Option (List ℕ)

@@ -23,7 +23,7 @@ pub enum Part {
 }
 
 impl Part {
-    fn ending(self) -> &'static str
+    pub(crate) fn ending(self) -> &'static str
         ensures { result.now ≡ ending_of self }
     {
         match self {
@@ -273,7 +273,7 @@ fn span_of(rt: &HostRuntime, folder: &str) -> io::Result<Option<Span>> {
 }
 
 /// Adds to `span` the day whose journal or opening is called `name`, if it is a day's.
-fn with_name(span: Option<Span>, name: &str) -> Option<Span>
+pub(crate) fn with_name(span: Option<Span>, name: &str) -> Option<Span>
     ensures { result ≡ with_found span (day_named name.now) }
 {
     match day_named(name) {
