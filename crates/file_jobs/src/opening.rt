@@ -1,5 +1,5 @@
 //! Reads the opening that a site begins with, and says why one is refused.
-ghost use Rattle.std.specs.Prelude.{◌≡◌, ◌≢◌, ◌≤◌, ◌++◌, ◌∷◌, ℕ, List, [], Some, decimal, IfOk, IfErr, vec_len};
+ghost use Rattle.std.specs.Prelude.{◌≡◌, ◌≢◌, ◌≤◌, ◌++◌, ◌∷◌, ℕ, List, [], Some, decimal, length, IfOk, IfErr, vec_len};
 ghost use Rattle.verifier.specs.Refusals.{refusal_numbers};
 ghost use Rattle.file_jobs.specs.AuditOutput.{program_text};
 ghost use Rattle.days.specs.Chain.{BeginsBy};
@@ -69,6 +69,8 @@ pub fn opening_bytes<R: Read + Drop>(
     // proved few, refused: An opening has at most 262,144
     ensures few { IfOk result (λ bytes. vec_len bytes ≤ MOST_OPENING) }
     ensures all { (text : List ℕ) → R.remaining source ≡ Some text → IfOk result (λ bytes. bytes.items ≡ text) }
+    ensures short { (text : List ℕ) → R.remaining source ≡ Some text → length text ≤ MOST_OPENING
+        → IfErr result (Ends 3 []) }
     ensures refused { IfErr result (Refuses 1) }
 {
     bytes_in(rt, word, source, MOST_OPENING, &"over 262,144 bytes")
