@@ -44,7 +44,7 @@ impl Display for Peer {
     }
 }
 
-/// How many workers have a thread, in all and for each role that has workers.
+/// How many workers have a thread, in all and for each role.
 #[derive(Clone, Copy)]
 struct ThreadsFound(ThreadCounts);
 
@@ -58,21 +58,16 @@ impl Display for ThreadsFound {
         let all = self.0.all();
         write!(
             f,
-            "the system gave threads to {} of {} workers:",
-            all.threads, all.workers
-        )?;
-        let mut between = " ";
-        for (name, role) in [
-            ("tills", tills),
-            ("dispensers", dispensers),
-            ("owner", owner),
-        ] {
-            if role.workers > 0 {
-                write!(f, "{between}{name} {} of {}", role.threads, role.workers)?;
-                between = ", ";
-            }
-        }
-        Ok(())
+            "the system gave threads to {} of {} workers: tills {} of {}, dispensers {} of {}, owner {} of {}",
+            all.threads,
+            all.workers,
+            tills.threads,
+            tills.workers,
+            dispensers.threads,
+            dispensers.workers,
+            owner.threads,
+            owner.workers
+        )
     }
 }
 
