@@ -1,23 +1,17 @@
 #!/usr/bin/env python3
-"""Sends lines to a site, one after another, and prints the answer to each.
+"""Sends lines to a site, one after another, and prints the answer to each. The status is 1 where one was refused (its
+answer has a number of S, L or V), or where no answer came.
 
     ask.py PORT|PATH LINE..     a port of 127.0.0.1, or the path of a local socket
 """
 
-import socket
+import re
 import sys
 
-PATIENCE = 10  # seconds that an answer may take
+sys.dont_write_bytecode = True
+from controller import connected
 
-
-def connected(where):
-    """Connects to the port or to the path of a local socket that `where` is, and returns the connection."""
-    if where.isdigit():
-        return socket.create_connection(("127.0.0.1", int(where)), timeout=PATIENCE)
-    made = socket.socket(socket.AF_UNIX)
-    made.settimeout(PATIENCE)
-    made.connect(where)
-    return made
+REFUSED = re.compile(r"(\d+ )?[SLV]\d+( |$)")
 
 
 def main():
@@ -26,6 +20,7 @@ def main():
     except OSError as error:
         raise SystemExit(f"no connection to {sys.argv[1]}: {error}")
     answers = site.makefile("r", encoding="ascii", newline="\n")
+    refused = False
     for line in sys.argv[2:]:
         try:
             site.sendall(f"{line}\n".encode("ascii"))
@@ -34,7 +29,9 @@ def main():
             answer = ""
         if not answer.endswith("\n"):
             raise SystemExit(f"no answer to '{line}'")
-        print(answer, end="")
+        print(answer, end="", flush=True)
+        refused = refused or REFUSED.match(answer) is not None
+    sys.exit(refused)
 
 
 main()
