@@ -72,7 +72,7 @@ static void *drive(void *arg) {
         uint64_t before = nanos();
         ask(peer->socket, peer->group->line, answer);
         peer->times[i] = nanos() - before;
-        if (!strstr(answer, " granted ") && !strstr(answer, " point ")) {
+        if (!strstr(answer, " granted ") && !strstr(answer, " point ") && !strstr(answer, " unpaid ")) {
             fprintf(stderr, "an answer that was not looked for: %s", answer);
             exit(1);
         }

@@ -1,7 +1,7 @@
 #!/bin/sh
-# Lines per second and the time that an answer takes, of a site served over loopback: a preset, which runs a program, and
-# a `show`, on 1 and on 8 connections, each of which sends a line and waits for its answer; and `show` on 8 connections
-# beside presets on 8, by a short rule and by a long one. Takes under two minutes.
+# Lines per second and the time that an answer takes, of a site served over loopback: a preset, which runs a program, a
+# `show`, and looks, on 1 and on 8 connections, each of which sends a line and waits for its answer; `show` on 8
+# connections beside presets on 8, by a short rule and by a long one, and looks beside presets. Takes some two minutes.
 #
 #     bench/serve.sh [LINES [--journal]]      LINES of each connection, 20000 where it isn't said; --journal: kept in a file
 #
@@ -197,7 +197,7 @@ if [ "$kept" = --null ]; then
     done
     exit
 fi
-for line in 'till 1 preset 1 5000' 'till 1 show 1'; do
+for line in 'till 1 preset 1 5000' 'till 1 show 1' 'look point 1' 'look unpaid'; do
     for connections in 1 8; do
         measure "$connections" "$two" "$connections" "$line"
     done
@@ -205,3 +205,6 @@ done
 echo 'a show beside presets by a rule of 2 instructions, and by one of 500'
 measure 16 "$two" 8 'till 1 preset 1 5000' 8 'till 1 show 1'
 measure 16 "$long" 8 'till 1 preset 1 5000' 8 'till 1 show 1'
+echo 'presets beside looks'
+measure 16 "$two" 8 'till 1 preset 1 5000' 8 'look point 1'
+measure 16 "$two" 8 'till 1 preset 1 5000' 8 'look unpaid'
