@@ -196,6 +196,10 @@ def night_limit(site, it):
     return it.asked if 6 <= site.hour() <= 21 else 3000
 
 
+def no_fuel_without_a_price(site, it):
+    return it.asked if it.price else 0
+
+
 def no_price_change_while_fuelling(site, it):
     return 0 if site.points[1].state == 4 or site.points[2].state == 4 else it.asked
 
