@@ -6,10 +6,11 @@ use Rattle.fuelling_point.specs.States.{is_busy}
 use Rattle.fuelling_point.specs.Table.{PointState}
 
 -- A point whose newest transaction has the number `last` can have the unpaid transaction `t`: the number of `t` is from
--- 1 to `last`, and its amount in cents and its volume in centilitres are at most 999,999,999.
+-- 1 to `last`, its product is at most 8, and its amount in cents and its volume in centilitres are at most 999,999,999.
 pub record IsUnpaid (last : ℕ) (t : Transaction) : Type 0 where
   pub some : 1 ≤ t.number
   pub number : t.number ≤ last
+  pub product : t.product ≤ 8
   pub amount : t.amount ≤ 999999999
   pub volume : t.volume ≤ 999999999
 

@@ -29,8 +29,8 @@ pub struct Snapshot {
 
 impl Snapshot {
     /// Whether a point can have these values: `nozzle` is at most 8; amounts and volumes are at most 999,999,999;
-    /// unpaid transactions are numbered from 1 to `last`, the older one smaller; there is a newer only with an older;
-    /// at most one is unpaid while a delivery is authorised or under way.
+    /// unpaid transactions are numbered from 1 to `last`, the older one smaller, and their products are at most 8;
+    /// there is a newer only with an older; at most one is unpaid while a delivery is authorised or under way.
     pub fn is_of_point(&self) -> bool
         ensures { IsTrue result ↔ IsSnapshot self.now }
     {
@@ -56,7 +56,7 @@ fn are_places(first: Option<Transaction>, second: Option<Transaction>, state: St
     }
 }
 
-/// Whether there is none, or its number is 1 to `last`, and cents and centilitres are in range.
+/// Whether there is none, or its number is 1 to `last`, and product, cents and centilitres are in range.
 fn is_free_or_unpaid(place: Option<Transaction>, last: u32) -> bool
     ensures { IsTrue result ↔ IsFreeOrUnpaid last place }
 {
@@ -64,6 +64,7 @@ fn is_free_or_unpaid(place: Option<Transaction>, last: u32) -> bool
         None => true,
         Some(t) => t.number >= 1
             && t.number <= last
+            && t.product <= 8
             && t.amount <= GREATEST
             && t.volume <= GREATEST,
     }

@@ -21,7 +21,7 @@ use Rattle.site_core.specs.declared.question.Question.{Question}
 use Rattle.site_core.specs.declared.question.RequestAction.{RequestAction}
 use Rattle.site_core.specs.declared.question.RequestAction.TheVariants as action
 use Rattle.site_core.specs.Limits.{ConfigValue}
-use Rattle.site_core.specs.State.{SiteState, at_number, opening_state, view_of, with_point}
+use Rattle.site_core.specs.State.{SiteState, at_number, opening_state, view_of, with_point, price_of}
 use Rattle.site_core.specs.Context.{context}
 use Rattle.site_core.specs.History.{in_force}
 use Rattle.site_core.specs.Days.{IsHeldWithin}
@@ -62,7 +62,8 @@ module _ (tills : ℕ) (P : SiteState → Type 0) (stays : Stays tills P) where
   granted s till r q (Some p) at well h =
       let g : ℕ = granted_amount q.kind q.asked r p.preset in
       subst (λ (x : ℕ × SiteState). P x.1) (sym (grant-some s till r q p at))
-      (stays.at_point s q.point p (after_command p till (command_of q.kind g)) at (grant_held tills till g p q.kind) h)
+      (stays.at_point s q.point p (after_command (price_of s p.nozzle) p till (command_of q.kind g)) at
+      (grant_held tills till (price_of s p.nozzle) g p q.kind) h)
 
   judged : (s : SiteState) (till moment : ℕ) (q : Question) (v : Version) (r : ℕ) (c : Counters) (b : Bool) → (r == 0) ≡ b → HasPointOrValidPrice s q
       → P (record s { counters = c }) → Leaves (verdict s till moment q v r c)
@@ -96,7 +97,8 @@ module _ (tills : ℕ) (P : SiteState → Type 0) (stays : Stays tills P) where
       → Leaves (till_command_effect s till n c)
   by_command s till n c None at le h = subst Leaves (sym (till_command_effect-none s till n c at)) h
   by_command s till n c (Some p) at le h =
-      subst Leaves (sym (till_command_effect-some s till n c p at)) (by_answer s n p (command_step p till c) at (command_held tills till p c le) h)
+      subst Leaves (sym (till_command_effect-some s till n c p at)) (by_answer s n p (command_step (price_of s p.nozzle) p till c) at
+      (command_held tills till (price_of s p.nozzle) p c le) h)
 
   by_report : (s : SiteState) (n : ℕ) (p : PointState) (a : StepResult (Option Order)) → at_number s.points n ≡ Some p → (IsHeldWithin tills p → LeavesHeld tills a)
       → P s → Leaves (event_effect s n a)
@@ -106,7 +108,8 @@ module _ (tills : ℕ) (P : SiteState → Type 0) (stays : Stays tills P) where
   by_event : (s : SiteState) (n : ℕ) (event : DispenserEvent) (o : Option PointState) → at_number s.points n ≡ o → P s → Leaves (dispenser_effect s n event)
   by_event s n event None at h = subst Leaves (sym (dispenser_effect-none s n event at)) h
   by_event s n event (Some p) at h =
-      subst Leaves (sym (dispenser_effect-some s n event p at)) (by_report s n p (event_step p event) at (event_held tills p event) h)
+      subst Leaves (sym (dispenser_effect-some s n event p at)) (by_report s n p (event_step (price_of s p.nozzle) p event) at
+      (event_held tills (price_of s p.nozzle) p event) h)
 
   by_action : (config : ConfigValue) (past : List Entry) (s : SiteState) (till moment : ℕ) (a : RequestAction) → till ≤ tills → P s
       → Leaves (effect_of config past s till moment a)

@@ -18,7 +18,7 @@ use Rattle.till_request.specs.declared.act.Reply.TheVariants as reply
 use Rattle.bpf_model.specs.Machine.{Counters}
 use Rattle.site_core.specs.SlotsValue.{Version}
 use Rattle.site_core.specs.declared.question.Question.{Question}
-use Rattle.site_core.specs.State.{SiteState, at_number, with_point}
+use Rattle.site_core.specs.State.{SiteState, at_number, price_of, with_point}
 use Rattle.site_core.specs.Bounds.{Bounded}
 use Rattle.site_core.specs.Context.{context}
 use Rattle.site_core.specs.Decide.{Effect, denied, grant, granted_amount, command_of, after_command, verdict, counts}
@@ -32,7 +32,8 @@ after-is (Ok (q, given)) p new outcome h = sym h.1
 after-is (Err f) p new outcome h = sym h.1
 
 pub grant-some : (s : SiteState) (till r : ℕ) (q : Question) (p : PointState) → at_number s.points q.point ≡ Some p
-    → grant s till q r ≡ (let g : ℕ = granted_amount q.kind q.asked r p.preset in (g, with_point s q.point (after_command p till (command_of q.kind g))))
+    → grant s till q r ≡ (let g : ℕ = granted_amount q.kind q.asked r p.preset in
+    (g, with_point s q.point (after_command (price_of s p.nozzle) p till (command_of q.kind g))))
 unfolding grant
 grant-some s till r q p at = rw (at, grant)
 
@@ -43,12 +44,12 @@ grant-none s till r q none = rw (none, grant)
 
 pub grant-is : (s : SiteState) (till r : ℕ) (q : Question) (p new : PointState) (outcome : Result (Option ℕ) PointFault) → 1 ≤ q.point
     → q.point ≤ length s.points → p ≡ get_or s.points (q.point - 1) p
-    → FollowsTable (command_step p till (command_of q.kind (granted_amount q.kind q.asked r p.preset))) p outcome new
+    → FollowsTable (command_step (price_of s p.nozzle) p till (command_of q.kind (granted_amount q.kind q.asked r p.preset))) p outcome new
     → grant s till q r ≡ (granted_amount q.kind q.asked r p.preset, with_point s q.point new)
 grant-is s till r q p new outcome one le is answers =
     let g : ℕ = granted_amount q.kind q.asked r p.preset in
     grant-some s till r q p (at_number-read s.points q.point p one le is) ∙ ap
-    (λ x. (g, with_point s q.point x)) (after-is (command_step p till (command_of q.kind g)) p new outcome answers)
+    (λ x. (g, with_point s q.point x)) (after-is (command_step (price_of s p.nozzle) p till (command_of q.kind g)) p new outcome answers)
 
 -- If a state's numbers are within their bounds after k entries, and one point gets at most one more transaction, then
 -- the new state's numbers are within their bounds after k + 1 entries.

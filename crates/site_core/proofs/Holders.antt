@@ -15,7 +15,8 @@ use Rattle.fuelling_point.specs.declared.kinds.State.TheVariants.{Inoperative, C
 use Rattle.fuelling_point.specs.declared.kinds.Transaction.{Transaction}
 use Rattle.fuelling_point.specs.States.{has_flowed, is_busy, is_ready}
 use Rattle.fuelling_point.specs.Table.{StepResult, PointState, command_step, event_step, find_number, held_by, is_authorise, is_authorised, is_closed, is_inoperative}
-use Rattle.fuelling_point.specs.Table.{flowed, add_unpaid_delivery, ready_state, end_delivery_in, state_after_down, state_after_up, takes_flow, takes_up, without}
+use Rattle.fuelling_point.specs.Table.{flowed, add_unpaid_delivery, ready_state, end_delivery_in, left_unpaid, state_after_down, state_after_up, takes_flow, takes_up}
+use Rattle.fuelling_point.specs.Table.{without}
 use Rattle.site_core.specs.Days.{IsHeldWithin}
 use Rattle.site_core.specs.Decide.{after_command, command_of}
 use Rattle.site_core.specs.declared.question.Kind.{Kind}
@@ -30,20 +31,18 @@ abbrev pub LeavesHeld : {T : Type 0} → ℕ → StepResult T → Type 0
 LeavesHeld tills (Ok o) = IsHeldWithin tills o.0
 LeavesHeld tills (Err f) = Unit {0}
 
-keep_held : (tills : ℕ) (p : PointState) (b : Bool) → IsHeldWithin tills p
-    → IsHeldWithin tills (if b then
-    record p { last = p.last + 1; unpaid = p.unpaid ++ record { number = p.last + 1; amount = p.amount; volume = p.volume; holder = 0 } ∷ [] } else p)
-keep_held tills p true h =
-    All-push (IsHeld tills) p.unpaid (record { number = p.last + 1; amount = p.amount; volume = p.volume; holder = 0 }) h (omega arith)
-keep_held tills p false h = h
+keep_held : (tills price : ℕ) (p : PointState) (b : Bool) → IsHeldWithin tills p
+    → IsHeldWithin tills (if b then record p { last = p.last + 1; unpaid = p.unpaid ++ left_unpaid price p ∷ [] } else p)
+keep_held tills price p true h = All-push (IsHeld tills) p.unpaid (left_unpaid price p) h (omega arith)
+keep_held tills price p false h = h
 
-rest_if : (tills : ℕ) (next : State) (p : PointState) (b : Bool) → IsHeldWithin tills p
-    → IsHeldWithin tills (if b then record (add_unpaid_delivery p) { state = next; limit = 0; amount = 0; volume = 0; taken = false } else record p { state = next })
-rest_if tills next p true h = keep_held tills p (has_flowed p.state && nat_lt 0 p.amount) h
-rest_if tills next p false h = h
+rest_if : (tills price : ℕ) (next : State) (p : PointState) (b : Bool) → IsHeldWithin tills p → IsHeldWithin tills
+    (if b then record (add_unpaid_delivery price p) { state = next; limit = 0; amount = 0; volume = 0; taken = false } else record p { state = next })
+rest_if tills price next p true h = keep_held tills price p (has_flowed p.state && nat_lt 0 p.amount) h
+rest_if tills price next p false h = h
 
-rest_held : (tills : ℕ) (next : State) (p : PointState) → IsHeldWithin tills p → IsHeldWithin tills (end_delivery_in next p)
-rest_held tills next p h = rest_if tills next p (is_busy p.state) h
+rest_held : (tills price : ℕ) (next : State) (p : PointState) → IsHeldWithin tills p → IsHeldWithin tills (end_delivery_in price next p)
+rest_held tills price next p h = rest_if tills price next p (is_busy p.state) h
 
 tested : {T : Type 0} (tills : ℕ) (b : Bool) (x y : StepResult T) → LeavesHeld tills x → LeavesHeld tills y → LeavesHeld tills (if b then x else y)
 tested tills true x y h k = h
@@ -109,32 +108,32 @@ cleared_held tills till number p (Some t) h =
     tested tills (t.holder == till) (Ok (record p { unpaid = without number p.unpaid }, Some t.amount)) (Err NotYourTransaction)
     (All-filter (λ (u : Transaction). not (u.number == number)) (IsHeld tills) p.unpaid h) tt
 
-released_held : (tills granted : ℕ) (p : PointState) → IsHeldWithin tills p → LeavesHeld tills (command_step p 0 (command.Release granted))
+released_held : (tills granted : ℕ) (p : PointState) → IsHeldWithin tills p → LeavesHeld tills (command_step 0 p 0 (command.Release granted))
 released_held tills granted p h =
     let ok : StepResult (Option ℕ) = Ok (record p { state = Authorised; limit = granted; preset = 0; order = Some (order.Authorise granted); taken = false }, None) in
     tested tills (is_ready p.state) (if nat_lt (length p.unpaid) 2 then ok else Err TransactionsFull) (Err (WrongState p.state))
     (tested tills (nat_lt (length p.unpaid) 2) ok (Err TransactionsFull) h tt) tt
 
-preset_held : (tills granted : ℕ) (p : PointState) → IsHeldWithin tills p → LeavesHeld tills (command_step p 0 (command.Preset granted))
+preset_held : (tills granted : ℕ) (p : PointState) → IsHeldWithin tills p → LeavesHeld tills (command_step 0 p 0 (command.Preset granted))
 preset_held tills granted p h = tested tills (is_ready p.state) (Ok (record p { preset = granted }, None)) (Err (WrongState p.state)) h tt
 
 -- If each of a point's unpaid transactions is held by nobody or by one of the tills, this stays true after a command of
 -- one of the tills.
-pub command_held : (tills till : ℕ) (p : PointState) (c : Command) → till ≤ tills → IsHeldWithin tills p → LeavesHeld tills (command_step p till c)
-command_held tills till p command.OpenPoint le h =
+pub command_held : (tills till price : ℕ) (p : PointState) (c : Command) → till ≤ tills → IsHeldWithin tills p → LeavesHeld tills (command_step price p till c)
+command_held tills till price p command.OpenPoint le h =
     tested tills (is_closed p.state) (Ok (record p { state = ready_state p.nozzle }, None)) (Err (WrongState p.state)) h tt
-command_held tills till p command.ClosePoint le h =
+command_held tills till price p command.ClosePoint le h =
     tested tills (is_ready p.state) (Ok (record p { state = Closed; preset = 0 }, None)) (Err (WrongState p.state)) h tt
-command_held tills till p (command.Release granted) le h = released_held tills granted p h
-command_held tills till p (command.Preset granted) le h = preset_held tills granted p h
-command_held tills till p command.Suspend le h = suspended_held tills p p.state h
-command_held tills till p command.Resume le h = resumed_held tills p p.state (nat_lt p.amount p.limit) h
-command_held tills till p command.Stop le h =
-    tested tills (is_busy p.state) (Ok (record (end_delivery_in (ready_state p.nozzle) p) { order = Some order.Stop }, None)) (Err (WrongState p.state))
-    (rest_held tills (ready_state p.nozzle) p h) tt
-command_held tills till p (command.Lock number) le h = locked_held tills till number p (find_number number p.unpaid) le h
-command_held tills till p (command.Unlock number) le h = unlocked_held tills till number p (find_number number p.unpaid) h
-command_held tills till p (command.Clear number) le h = cleared_held tills till number p (find_number number p.unpaid) h
+command_held tills till price p (command.Release granted) le h = released_held tills granted p h
+command_held tills till price p (command.Preset granted) le h = preset_held tills granted p h
+command_held tills till price p command.Suspend le h = suspended_held tills p p.state h
+command_held tills till price p command.Resume le h = resumed_held tills p p.state (nat_lt p.amount p.limit) h
+command_held tills till price p command.Stop le h =
+    tested tills (is_busy p.state) (Ok (record (end_delivery_in price (ready_state p.nozzle) p) { order = Some order.Stop }, None)) (Err (WrongState p.state))
+    (rest_held tills price (ready_state p.nozzle) p h) tt
+command_held tills till price p (command.Lock number) le h = locked_held tills till number p (find_number number p.unpaid) le h
+command_held tills till price p (command.Unlock number) le h = unlocked_held tills till number p (find_number number p.unpaid) h
+command_held tills till price p (command.Clear number) le h = cleared_held tills till number p (find_number number p.unpaid) h
 
 after_if : (tills : ℕ) (p : PointState) (a : StepResult (Option ℕ)) → IsHeldWithin tills p → LeavesHeld tills a
     → IsHeldWithin tills (elim a as (λ _. PointState) [ Ok o ↦ o.0 | Err _ ↦ p ])
@@ -142,10 +141,10 @@ after_if tills p (Ok o) h k = k
 after_if tills p (Err f) h k = h
 
 -- If each of a point's unpaid transactions is held by nobody or by one of the tills, this stays true after a grant.
-pub grant_held : (tills till g : ℕ) (p : PointState) (k : Kind) → IsHeldWithin tills p → IsHeldWithin tills (after_command p till (command_of k g))
-grant_held tills till g p Release h = after_if tills p (command_step p till (command.Release g)) h (released_held tills g p h)
-grant_held tills till g p Preset h = after_if tills p (command_step p till (command.Preset g)) h (preset_held tills g p h)
-grant_held tills till g p Price h = after_if tills p (command_step p till (command.Preset g)) h (preset_held tills g p h)
+pub grant_held : (tills till price g : ℕ) (p : PointState) (k : Kind) → IsHeldWithin tills p → IsHeldWithin tills (after_command price p till (command_of k g))
+grant_held tills till price g p Release h = after_if tills p (command_step price p till (command.Release g)) h (released_held tills g p h)
+grant_held tills till price g p Preset h = after_if tills p (command_step price p till (command.Preset g)) h (preset_held tills g p h)
+grant_held tills till price g p Price h = after_if tills p (command_step price p till (command.Preset g)) h (preset_held tills g p h)
 
 flow_held : (tills amount volume : ℕ) (p : PointState) (s : State) (b : Bool) → IsHeldWithin tills p
     → IsHeldWithin tills (elim s as (λ _. PointState) [
@@ -166,18 +165,18 @@ order_held tills p (Some x) h = h
 
 -- If each of a point's unpaid transactions is held by nobody or by one of the tills, this stays true after a
 -- dispenser's event.
-pub event_held : (tills : ℕ) (p : PointState) (e : DispenserEvent) → IsHeldWithin tills p → LeavesHeld tills (event_step p e)
-event_held tills p (event.Up n) h =
+pub event_held : (tills price : ℕ) (p : PointState) (e : DispenserEvent) → IsHeldWithin tills p → LeavesHeld tills (event_step price p e)
+event_held tills price p (event.Up n) h =
     tested tills (p.nozzle == 0 && nat_le 1 n && nat_le n 8 && takes_up p.state) (Ok (record p { nozzle = n; state = state_after_up p.state }, None))
     (Err Unexpected) h tt
-event_held tills p event.Down h =
-    tested tills (not (p.nozzle == 0)) (Ok (record (end_delivery_in (state_after_down p.state) p) { nozzle = 0; order = None }, None)) (Err Unexpected)
-    (rest_held tills (state_after_down p.state) p h) tt
-event_held tills p event.Started h =
+event_held tills price p event.Down h =
+    tested tills (not (p.nozzle == 0)) (Ok (record (end_delivery_in price (state_after_down p.state) p) { nozzle = 0; order = None }, None)) (Err Unexpected)
+    (rest_held tills price (state_after_down p.state) p h) tt
+event_held tills price p event.Started h =
     tested tills (is_authorised p.state && not (p.nozzle == 0) && p.taken) (Ok (record p { state = Started }, None)) (Err Unexpected) h tt
-event_held tills p (event.Flowed amount volume) h =
+event_held tills price p (event.Flowed amount volume) h =
     tested tills (takes_flow p.state && nat_le p.amount amount && nat_le amount 999999999 && nat_le p.volume volume && nat_le volume 999999999)
     (Ok (flowed amount volume p, None)) (Err Unexpected) (flow_held tills amount volume p p.state (nat_lt p.limit amount) h) tt
-event_held tills p event.Fault h = rest_held tills Inoperative p h
-event_held tills p event.Repaired h = tested tills (is_inoperative p.state) (Ok (record p { state = Closed }, None)) (Err Unexpected) h tt
-event_held tills p event.TakeOrder h = order_held tills p p.order h
+event_held tills price p event.Fault h = rest_held tills price Inoperative p h
+event_held tills price p event.Repaired h = tested tills (is_inoperative p.state) (Ok (record p { state = Closed }, None)) (Err Unexpected) h tt
+event_held tills price p event.TakeOrder h = order_held tills p p.order h

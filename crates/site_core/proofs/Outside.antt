@@ -22,7 +22,7 @@ use Rattle.site_core.specs.declared.question.Question.{Question}
 use Rattle.site_core.specs.declared.question.RequestAction.{RequestAction}
 use Rattle.site_core.specs.declared.question.RequestAction.TheVariants as action
 use Rattle.site_core.specs.Limits.{ConfigValue}
-use Rattle.site_core.specs.State.{SiteState, at_number, view_of}
+use Rattle.site_core.specs.State.{SiteState, at_number, price_of, view_of}
 use Rattle.site_core.specs.Context.{context}
 use Rattle.site_core.specs.History.{loaded, in_force, versions}
 use Rattle.site_core.specs.Decide.{Effect, replied, no_such_till, is_decided, is_till, decided, verdict, run_result, grant}
@@ -110,7 +110,7 @@ answer-run s n (Err fault) = refl
 till_command_effect-run : (s : SiteState) (till n : ℕ) (c : Command) (o : Option PointState) → at_number s.points n ≡ o
     → (till_command_effect s till n c).run ≡ None
 till_command_effect-run s till n c None at = ap (λ (e : Effect). e.run) (till_command_effect-none s till n c at)
-till_command_effect-run s till n c (Some p) at = ap (λ (e : Effect). e.run) (till_command_effect-some s till n c p at) ∙ answer-run s n (command_step p till c)
+till_command_effect-run s till n c (Some p) at = ap (λ (e : Effect). e.run) (till_command_effect-some s till n c p at) ∙ answer-run s n (command_step (price_of s p.nozzle) p till c)
 
 refused-run : (config : ConfigValue) (past : List Entry) (s : SiteState) (till moment : ℕ) (x : Asked) → result_ok x ≡ None
     → (decided config past s till moment x).run ≡ None

@@ -12,7 +12,8 @@ use Rattle.fuelling_point.specs.declared.kinds.Command.{Command}
 use Rattle.fuelling_point.specs.declared.kinds.Order.{Order}
 use Rattle.fuelling_point.specs.declared.kinds.DispenserEvent.{DispenserEvent}
 use Rattle.till_request.specs.declared.act.Reply.TheVariants as reply
-use Rattle.site_core.specs.State.{SiteState, at_number, with_point}
+use Rattle.site_core.specs.State.{SiteState, at_number, price_of, with_point}
+use Rattle.site_core.specs.Context.{field_or_zero}
 use Rattle.site_core.specs.declared.question.Question.{Question}
 use Rattle.site_core.specs.Decide.{replied, no_such_point, asked_at, asked_at_point}
 use Rattle.site_core.specs.Step.{clears_by, till_command_effect, command_effect, dispenser_effect, event_effect, order_reply, event_reply, fault_reply, shown, show_reply}
@@ -30,7 +31,7 @@ till_command_effect-none s till n command none = rw (none, till_command_effect)
 
 -- If the point exists, then the effect of a command follows from what the point returns for it (`command_effect`).
 pub till_command_effect-some : (s : SiteState) (till n : ℕ) (command : Command) (p : PointState) → at_number s.points n ≡ Some p
-    → till_command_effect s till n command ≡ command_effect s n (command_step p till command)
+    → till_command_effect s till n command ≡ command_effect s n (command_step (price_of s p.nozzle) p till command)
 unfolding till_command_effect
 till_command_effect-some s till n command p some = rw (some, till_command_effect)
 
@@ -58,22 +59,32 @@ same_points s n p is =
     let back : slice_set s.points (n - 1) p ≡ s.points = ap (λ x. slice_set s.points (n - 1) x) is ∙ set-get_or s.points (n - 1) p in
     ap (λ (x : List PointState). record s { points = x }) (sym back)
 
+-- The price of the product that the lifted nozzle of point n carries; 0 if there is no such point.
+abbrev pub lifted_price : SiteState → ℕ → ℕ
+lifted_price s n = field_or_zero (at_number s.points n) (λ p. price_of s p.nozzle)
+
+pub lifted_price-is : (s now : SiteState) (n price : ℕ) (p : PointState) → s ≡ now → price ≡ lifted_price now n → 1 ≤ n → n ≤ length s.points
+    → p ≡ get_or s.points (n - 1) p → price ≡ price_of s p.nozzle
+lifted_price-is s now n price p same priced one le is =
+    priced ∙ ap (λ (x : SiteState). lifted_price x n) (sym same)
+    ∙ ap (λ (o : Option PointState). field_or_zero o (λ q. price_of s q.nozzle)) (at_number-read s.points n p one le is)
+
 -- A command that the point refuses is answered with the point's refusal.
 pub till_command_effect-err : (s : SiteState) (till n : ℕ) (command : Command) (p new : PointState) (fault : PointFault) → 1 ≤ n → n ≤ length s.points
-    → p ≡ get_or s.points (n - 1) p → FollowsTable (command_step p till command) p (Err fault) new
+    → p ≡ get_or s.points (n - 1) p → FollowsTable (command_step (price_of s p.nozzle) p till command) p (Err fault) new
     → till_command_effect s till n command ≡ replied (fault_reply fault) (with_point s n new)
 till_command_effect-err s till n command p new fault one le is answers =
-    let e = err_effect s n (command_step p till command) p new fault answers in
+    let e = err_effect s n (command_step (price_of s p.nozzle) p till command) p new fault answers in
     till_command_effect-some s till n command p (at_number-read s.points n p one le is) ∙ e.0 ∙ ap
     (λ x. replied (fault_reply fault) x) (same_points s n p is ∙ ap (λ x. with_point s n x) (sym e.1))
 
 -- A command that the point carries out is answered with Done. If the command cleared an amount, this is added to the
 -- total of cleared amounts, and 1 to the count of cleared transactions.
 pub till_command_effect-ok : (s : SiteState) (till n : ℕ) (command : Command) (p new : PointState) (cleared : Option ℕ) → 1 ≤ n → n ≤ length s.points
-    → p ≡ get_or s.points (n - 1) p → FollowsTable (command_step p till command) p (Ok cleared) new → till_command_effect s till n command ≡ replied reply.Done
+    → p ≡ get_or s.points (n - 1) p → FollowsTable (command_step (price_of s p.nozzle) p till command) p (Ok cleared) new → till_command_effect s till n command ≡ replied reply.Done
     (record (with_point s n new) { cleared = s.cleared + unwrap_or cleared 0; clears = s.clears + clears_by cleared })
 till_command_effect-ok s till n command p new cleared one le is answers =
-    till_command_effect-some s till n command p (at_number-read s.points n p one le is) ∙ ok_effect s n (command_step p till command) p new cleared answers
+    till_command_effect-some s till n command p (at_number-read s.points n p one le is) ∙ ok_effect s n (command_step (price_of s p.nozzle) p till command) p new cleared answers
 
 -- An event at a point that doesn't exist is answered with `no_such_point`, and the site stays as it was.
 pub dispenser_effect-none : (s : SiteState) (n : ℕ) (event : DispenserEvent) → at_number s.points n ≡ None → dispenser_effect s n event ≡ replied no_such_point s
@@ -81,7 +92,7 @@ unfolding dispenser_effect
 dispenser_effect-none s n event none = rw (none, dispenser_effect)
 
 pub dispenser_effect-some : (s : SiteState) (n : ℕ) (event : DispenserEvent) (p : PointState) → at_number s.points n ≡ Some p
-    → dispenser_effect s n event ≡ event_effect s n (event_step p event)
+    → dispenser_effect s n event ≡ event_effect s n (event_step (price_of s p.nozzle) p event)
 unfolding dispenser_effect
 dispenser_effect-some s n event p some = rw (some, dispenser_effect)
 
@@ -99,17 +110,17 @@ event_ok s n (Ok (q, given)) p new order h =
 event_ok s n (Err f) p new order h = absurd (let e : Ok order ≡ Err f = h.0 in cc)
 
 pub dispenser_effect-err : (s : SiteState) (n : ℕ) (event : DispenserEvent) (p new : PointState) (fault : PointFault) → 1 ≤ n → n ≤ length s.points
-    → p ≡ get_or s.points (n - 1) p → FollowsTable (event_step p event) p (Err fault) new
+    → p ≡ get_or s.points (n - 1) p → FollowsTable (event_step (price_of s p.nozzle) p event) p (Err fault) new
     → dispenser_effect s n event ≡ replied (fault_reply fault) (with_point s n new)
 dispenser_effect-err s n event p new fault one le is answers =
-    let e = event_err s n (event_step p event) p new fault answers in
+    let e = event_err s n (event_step (price_of s p.nozzle) p event) p new fault answers in
     dispenser_effect-some s n event p (at_number-read s.points n p one le is) ∙ e.0 ∙ ap
     (λ x. replied (fault_reply fault) x) (same_points s n p is ∙ ap (λ x. with_point s n x) (sym e.1))
 
 pub dispenser_effect-ok : (s : SiteState) (n : ℕ) (event : DispenserEvent) (p new : PointState) (order : Option Order) → 1 ≤ n → n ≤ length s.points
-    → p ≡ get_or s.points (n - 1) p → FollowsTable (event_step p event) p (Ok order) new → dispenser_effect s n event ≡ replied (order_reply order) (with_point s n new)
+    → p ≡ get_or s.points (n - 1) p → FollowsTable (event_step (price_of s p.nozzle) p event) p (Ok order) new → dispenser_effect s n event ≡ replied (order_reply order) (with_point s n new)
 dispenser_effect-ok s n event p new order one le is answers =
-    dispenser_effect-some s n event p (at_number-read s.points n p one le is) ∙ event_ok s n (event_step p event) p new order answers
+    dispenser_effect-some s n event p (at_number-read s.points n p one le is) ∙ event_ok s n (event_step (price_of s p.nozzle) p event) p new order answers
 
 pub show-none : (s : SiteState) (n : ℕ) → at_number s.points n ≡ None → show_reply s n ≡ no_such_point
 unfolding show_reply
@@ -121,7 +132,7 @@ show-some s n p one le is = let some = at_number-read s.points n p one le is in 
 
 -- An event is answered with what the point returns for it: its order, Done, or its refusal.
 pub dispenser_effect-is : (s : SiteState) (n : ℕ) (event : DispenserEvent) (p new : PointState) (outcome : Result (Option Order) PointFault) → 1 ≤ n
-    → n ≤ length s.points → p ≡ get_or s.points (n - 1) p → FollowsTable (event_step p event) p outcome new
+    → n ≤ length s.points → p ≡ get_or s.points (n - 1) p → FollowsTable (event_step (price_of s p.nozzle) p event) p outcome new
     → dispenser_effect s n event ≡ replied (event_reply outcome) (with_point s n new)
 dispenser_effect-is s n event p new (Ok order) one le is answers = dispenser_effect-ok s n event p new order one le is answers
 dispenser_effect-is s n event p new (Err fault) one le is answers = dispenser_effect-err s n event p new fault one le is answers

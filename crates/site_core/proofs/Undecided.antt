@@ -25,7 +25,7 @@ use Rattle.site_core.specs.declared.question.Question.{Question}
 use Rattle.site_core.specs.declared.question.RequestAction.{RequestAction}
 use Rattle.site_core.specs.declared.question.RequestAction.TheVariants as action
 use Rattle.site_core.specs.Limits.{ConfigValue}
-use Rattle.site_core.specs.State.{SiteState, at_number, first_busy, view_of}
+use Rattle.site_core.specs.State.{SiteState, at_number, first_busy, price_of, view_of}
 use Rattle.site_core.specs.Context.{context}
 use Rattle.site_core.specs.History.{versions_before, in_force, versions}
 use Rattle.site_core.specs.Decide.{Effect, replied, refused, no_such_till, is_decided, is_till, is_within, has_room, bad_amount, transactions_full, wrong_state}
@@ -114,7 +114,7 @@ till_command_effect-iff-run : (s : SiteState) (till n : ℕ) (c : Command) (o : 
     → DecidedIffRun (till_command_effect s till n c)
 till_command_effect-iff-run s till n c None at = subst DecidedIffRun (sym (till_command_effect-none s till n c at)) refl
 till_command_effect-iff-run s till n c (Some p) at =
-    subst DecidedIffRun (sym (till_command_effect-some s till n c p at)) (command-iff-run s n (command_step p till c))
+    subst DecidedIffRun (sym (till_command_effect-some s till n c p at)) (command-iff-run s n (command_step (price_of s p.nozzle) p till c))
 
 pub order-no : (order : Option Order) → is_decided (order_reply order) ≡ false
 order-no None = refl
@@ -127,7 +127,7 @@ event-iff-run s n (Err fault) = fault-no fault
 dispenser_effect-iff-run : (s : SiteState) (n : ℕ) (event : DispenserEvent) (o : Option PointState) → at_number s.points n ≡ o
     → DecidedIffRun (dispenser_effect s n event)
 dispenser_effect-iff-run s n event None at = subst DecidedIffRun (sym (dispenser_effect-none s n event at)) refl
-dispenser_effect-iff-run s n event (Some p) at = subst DecidedIffRun (sym (dispenser_effect-some s n event p at)) (event-iff-run s n (event_step p event))
+dispenser_effect-iff-run s n event (Some p) at = subst DecidedIffRun (sym (dispenser_effect-some s n event p at)) (event-iff-run s n (event_step (price_of s p.nozzle) p event))
 
 pub show-no : (s : SiteState) (n : ℕ) (o : Option PointState) → at_number s.points n ≡ o → is_decided (show_reply s n) ≡ false
 unfolding show_reply

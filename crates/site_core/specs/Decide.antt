@@ -20,7 +20,7 @@ use Rattle.bpf_model.specs.Runs.{Outcome, Ended}
 use Rattle.bpf_model.specs.Program.{outcome}
 use Rattle.bpf_model.specs.Layouts.{bytes_of}
 use Rattle.site_core.specs.Limits.{ConfigValue}
-use Rattle.site_core.specs.State.{SiteState, at_number, with_point, first_busy, view_of}
+use Rattle.site_core.specs.State.{SiteState, at_number, price_of, with_point, first_busy, view_of}
 use Rattle.site_core.specs.Context.{context}
 use Rattle.site_core.specs.declared.question.Kind.{Kind}
 use Rattle.site_core.specs.declared.question.Kind.TheVariants.{Release, Preset, Price}
@@ -168,9 +168,10 @@ granted_amount Release asked r preset = if preset == 0 then min asked r else min
 granted_amount Preset asked r preset = min asked r
 granted_amount Price asked r preset = asked
 
--- The point after a command. A point that refuses the command is unchanged.
-abbrev pub after_command : PointState → ℕ → Command → PointState
-after_command p till command = elim (command_step p till command) [ Ok o ↦ o.0 | Err _ ↦ p ]
+-- The point after a command at this price of the product that its lifted nozzle carries. A point that refuses the
+-- command is unchanged.
+abbrev pub after_command : ℕ → PointState → ℕ → Command → PointState
+after_command price p till command = elim (command_step price p till command) [ Ok o ↦ o.0 | Err _ ↦ p ]
 
 abbrev pub command_of : Kind → ℕ → Command
 command_of Release granted = command.Release granted
@@ -183,7 +184,7 @@ grant s till q r =
     elim (at_number s.points q.point) [
       | Some p ↦
           let g : ℕ = granted_amount q.kind q.asked r p.preset in
-          (g, with_point s q.point (after_command p till (command_of q.kind g)))
+          (g, with_point s q.point (after_command (price_of s p.nozzle) p till (command_of q.kind g)))
       | None ↦ (q.asked, record s { prices = slice_set s.prices (q.product - 1) q.asked })
     ]
 

@@ -15,7 +15,7 @@ use Rattle.till_request.specs.declared.act.Act.TheVariants as act
 use Rattle.till_request.specs.declared.act.Reply.{Reply}
 use Rattle.till_request.specs.declared.act.Reply.TheVariants as reply
 use Rattle.site_core.specs.Limits.{ConfigValue}
-use Rattle.site_core.specs.State.{SiteState, at_number, with_point}
+use Rattle.site_core.specs.State.{SiteState, at_number, price_of, with_point}
 use Rattle.site_core.specs.History.{versions, versions_before}
 use Rattle.site_core.specs.declared.question.RequestAction.{RequestAction}
 use Rattle.site_core.specs.declared.question.RequestAction.TheVariants as action
@@ -49,10 +49,11 @@ command_effect s n (Err fault) = replied (fault_reply fault) s
 command_effect s n (Ok (point, cleared)) =
     replied reply.Done (record (with_point s n point) { cleared = s.cleared + unwrap_or cleared 0; clears = s.clears + clears_by cleared })
 
--- The effect of a till's command that needs no decision. The reply is S20 if there is no point n.
+-- The effect of a till's command that needs no decision. The reply is S20 if there is no point n. The point is told the
+-- price of the product that its lifted nozzle carries.
 unfoldable pub till_command_effect : SiteState → ℕ → ℕ → Command → Effect
 till_command_effect s till n command =
-    elim (at_number s.points n) [ None ↦ replied no_such_point s | Some p ↦ command_effect s n (command_step p till command) ]
+    elim (at_number s.points n) [ None ↦ replied no_such_point s | Some p ↦ command_effect s n (command_step (price_of s p.nozzle) p till command) ]
 
 abbrev pub order_reply : Option Order → Reply
 order_reply None = reply.Done
@@ -67,10 +68,11 @@ abbrev pub event_effect : SiteState → ℕ → StepResult (Option Order) → Ef
 event_effect s n (Err fault) = replied (fault_reply fault) s
 event_effect s n (Ok (point, order)) = replied (order_reply order) (with_point s n point)
 
--- The effect of a dispenser's event. The reply is S20 if there is no point n.
+-- The effect of a dispenser's event. The reply is S20 if there is no point n. The point is told the price of the product
+-- that its lifted nozzle carries.
 unfoldable pub dispenser_effect : SiteState → ℕ → DispenserEvent → Effect
 dispenser_effect s n event =
-    elim (at_number s.points n) [ None ↦ replied no_such_point s | Some p ↦ event_effect s n (event_step p event) ]
+    elim (at_number s.points n) [ None ↦ replied no_such_point s | Some p ↦ event_effect s n (event_step (price_of s p.nozzle) p event) ]
 
 -- The effect of a till's request, given what the request leads to.
 abbrev pub effect_of : ConfigValue → List Entry → SiteState → ℕ → ℕ → RequestAction → Effect

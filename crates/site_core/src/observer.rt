@@ -10,8 +10,6 @@ pub struct Change {
     pub point: u32,
     pub before: Option<Point>,
     pub after: Option<Point>,
-    /// The prices before the entry, in thousandths of the currency per litre, 0 for none.
-    pub prices: [u32; 8],
 }
 
 /// Is shown what each entry did while a history is replayed.

@@ -85,7 +85,8 @@ fn is_same_place(a: Option<Transaction>, b: Option<Transaction>) -> bool
     match (a, b) {
         (None, None) => true,
         (Some(a), Some(b)) => {
-            (a.number, a.amount, a.volume, a.holder) == (b.number, b.amount, b.volume, b.holder)
+            (a.number, a.product, a.price, a.amount, a.volume, a.holder)
+                == (b.number, b.product, b.price, b.amount, b.volume, b.holder)
         }
         _ => false,
     }

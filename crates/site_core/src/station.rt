@@ -142,8 +142,9 @@ impl Station {
         if !self.has_point(n) {
             return NO_SUCH_POINT;
         }
+        let price = self.lifted_price(n);
         let point = &mut self.points[n as usize - 1];
-        let outcome = point.on_command(till, command);
+        let outcome = point.on_command(till, command, price);
         set_if_changed(&mut self.view.points[n as usize - 1], seen(point));
         match outcome {
             Err(fault) => fault_reply(fault),
@@ -166,8 +167,9 @@ impl Station {
         if !self.has_point(n) {
             return NO_SUCH_POINT;
         }
+        let price = self.lifted_price(n);
         let point = &mut self.points[n as usize - 1];
-        let outcome = point.on_event(event);
+        let outcome = point.on_event(event, price);
         set_if_changed(&mut self.view.points[n as usize - 1], seen(point));
         event_reply(outcome)
     }
@@ -283,6 +285,16 @@ impl Station {
             self.view.prices[product as usize - 1]
         } else {
             0
+        }
+    }
+
+    /// Returns the price of the product that the lifted nozzle of point `n` carries, or 0.
+    fn lifted_price(&self, n: u32) -> u32
+        ensures { result ≡ field_or_zero (at_number self.now.points n) (λ p. price_of self.now p.nozzle) }
+    {
+        match self.point(n) {
+            None => 0,
+            Some(point) => self.price_of(point.nozzle()),
         }
     }
 
@@ -471,9 +483,10 @@ impl Station {
             self.view.prices[question.product as usize - 1] = question.asked as u32;
             return question.asked;
         }
+        let price = self.lifted_price(n);
         let point = &mut self.points[n as usize - 1];
         let granted = granted_amount(question.kind, question.asked, r0, point.preset());
-        let _ = point.on_command(till, command_of(question.kind, granted));
+        let _ = point.on_command(till, command_of(question.kind, granted), price);
         set_if_changed(&mut self.view.points[n as usize - 1], seen(point));
         granted
     }

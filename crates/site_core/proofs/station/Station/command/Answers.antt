@@ -1,10 +1,10 @@
 use Rattle.std.proofs.Common.{◌≡◌, ◌+◌, ◌-◌, ◌<◌, ◌≤◌, length, arith, Some, None, Ok, Err, ap, ◌∙◌, subst, sym}
 use Rattle.std.proofs.lemmas.Bool.{OnFalse_at, OnTrue_at}
-use Rattle.fuelling_point.specs.Table.{command_step}
+use Rattle.fuelling_point.specs.Table.{PointState, command_step}
 use Rattle.fuelling_point.specs.Promises.{FollowsTable}
-use Rattle.site_core.specs.State.{SiteState}
+use Rattle.site_core.specs.State.{SiteState, price_of}
 use Rattle.site_core.proofs.Filling.{keeps-seen, place-below}
-use Rattle.site_core.proofs.Points.{till_command_effect-none, till_command_effect-err, till_command_effect-ok}
+use Rattle.site_core.proofs.Points.{lifted_price-is, till_command_effect-none, till_command_effect-err, till_command_effect-ok}
 use Rattle.site_core.proofs.station.Station.command.Goals as goal
 
 pub returns-then-not-has_point-clause-effect : goal.returns-then-not-has_point-clause-effect
@@ -19,12 +19,16 @@ returns-in-Err-clause-effect c =
       cleared = c.self.inside.cleared;
       clears = c.self.inside.clears;
     } in
-    let answer : FollowsTable (command_step c.index_mut-point.result.now c.args.till c.args.command) c.index_mut-point.result.now (Err c.in-Err.fault)
-    c.on_command-outcome.new.self = rw c.in-Err.is at c.on_command-outcome.ensures.answer in
     let there : (1 ≤ c.args.n) × (c.args.n ≤ length c.args.self.now.points) = OnTrue_at c.if-not-has_point.false c.has_point.ensures.there in
     let one : 1 ≤ c.args.n = there.0 in
     let le : c.args.n ≤ length c.self.inside.points.items = subst (λ (s : SiteState). c.args.n ≤ length s.points) (sym c.self.view_is) there.1 in
-    rw (← c.self.view_is, c.fault_reply.ensures) (till_command_effect-err old c.args.till c.args.n c.args.command c.index_mut-point.result.now
+    let p : PointState = c.index_mut-point.result.now in
+    let priced : c.lifted_price-price.result ≡ price_of old p.nozzle =
+    lifted_price-is old c.args.self.now c.args.n c.lifted_price-price.result p c.self.view_is c.lifted_price-price.ensures one le c.index_mut-point.ensures.value in
+    let answer : FollowsTable (command_step (price_of old p.nozzle) p c.args.till c.args.command) p (Err c.in-Err.fault) c.on_command-outcome.new.self =
+    subst (λ x. FollowsTable (command_step x p c.args.till c.args.command) p (Err c.in-Err.fault) c.on_command-outcome.new.self) priced
+    (rw c.in-Err.is at c.on_command-outcome.ensures.answer) in
+    rw (← c.self.view_is, c.fault_reply.ensures) (till_command_effect-err old c.args.till c.args.n c.args.command p
     c.on_command-outcome.new.self c.in-Err.fault one le c.index_mut-point.ensures.value answer)
 
 pub returns-in-Ok-None-clause-effect : goal.returns-in-Ok-None-clause-effect
@@ -38,13 +42,16 @@ returns-in-Ok-None-clause-effect c =
     } in
     let none : c.in-Ok-None.field-0 ≡ None = rw c.in-Ok-None.is at c.in-Ok-None.field-0-is in
     let is : c.on_command-outcome.result ≡ Ok None = c.in-Ok-None.is ∙ ap (λ x. Ok x) none in
-    let answer : FollowsTable (command_step c.index_mut-point.result.now c.args.till c.args.command) c.index_mut-point.result.now (Ok None)
-    c.on_command-outcome.new.self =
-    rw is at c.on_command-outcome.ensures.answer in
     let there : (1 ≤ c.args.n) × (c.args.n ≤ length c.args.self.now.points) = OnTrue_at c.if-not-has_point.false c.has_point.ensures.there in
     let one : 1 ≤ c.args.n = there.0 in
     let le : c.args.n ≤ length c.self.inside.points.items = subst (λ (s : SiteState). c.args.n ≤ length s.points) (sym c.self.view_is) there.1 in
-    let whole = till_command_effect-ok old c.args.till c.args.n c.args.command c.index_mut-point.result.now c.on_command-outcome.new.self None one le
+    let p : PointState = c.index_mut-point.result.now in
+    let priced : c.lifted_price-price.result ≡ price_of old p.nozzle =
+    lifted_price-is old c.args.self.now c.args.n c.lifted_price-price.result p c.self.view_is c.lifted_price-price.ensures one le c.index_mut-point.ensures.value in
+    let answer : FollowsTable (command_step (price_of old p.nozzle) p c.args.till c.args.command) p (Ok None) c.on_command-outcome.new.self =
+    subst (λ x. FollowsTable (command_step x p c.args.till c.args.command) p (Ok None) c.on_command-outcome.new.self) priced
+    (rw is at c.on_command-outcome.ensures.answer) in
+    let whole = till_command_effect-ok old c.args.till c.args.n c.args.command p c.on_command-outcome.new.self None one le
     c.index_mut-point.ensures.value answer
     in
     let same : c.self.inside.cleared + 0 ≡ c.self.inside.cleared = omega arith in
@@ -62,12 +69,16 @@ returns-in-Ok-Some-clause-effect c =
     } in
     let some : c.in-Ok-Some.field-0 ≡ Some c.in-Ok-Some.amount = rw c.in-Ok-Some.is at c.in-Ok-Some.field-0-is in
     let is : c.on_command-outcome.result ≡ Ok (Some c.in-Ok-Some.amount) = c.in-Ok-Some.is ∙ ap (λ x. Ok x) some in
-    let answer : FollowsTable (command_step c.index_mut-point.result.now c.args.till c.args.command) c.index_mut-point.result.now
-    (Ok (Some c.in-Ok-Some.amount)) c.on_command-outcome.new.self = rw is at c.on_command-outcome.ensures.answer in
     let there : (1 ≤ c.args.n) × (c.args.n ≤ length c.args.self.now.points) = OnTrue_at c.if-not-has_point.false c.has_point.ensures.there in
     let one : 1 ≤ c.args.n = there.0 in
     let le : c.args.n ≤ length c.self.inside.points.items = subst (λ (s : SiteState). c.args.n ≤ length s.points) (sym c.self.view_is) there.1 in
-    rw (← c.self.view_is) (till_command_effect-ok old c.args.till c.args.n c.args.command c.index_mut-point.result.now c.on_command-outcome.new.self
+    let p : PointState = c.index_mut-point.result.now in
+    let priced : c.lifted_price-price.result ≡ price_of old p.nozzle =
+    lifted_price-is old c.args.self.now c.args.n c.lifted_price-price.result p c.self.view_is c.lifted_price-price.ensures one le c.index_mut-point.ensures.value in
+    let answer : FollowsTable (command_step (price_of old p.nozzle) p c.args.till c.args.command) p (Ok (Some c.in-Ok-Some.amount)) c.on_command-outcome.new.self =
+    subst (λ x. FollowsTable (command_step x p c.args.till c.args.command) p (Ok (Some c.in-Ok-Some.amount)) c.on_command-outcome.new.self) priced
+    (rw is at c.on_command-outcome.ensures.answer) in
+    rw (← c.self.view_is) (till_command_effect-ok old c.args.till c.args.n c.args.command p c.on_command-outcome.new.self
     (Some c.in-Ok-Some.amount) one le c.index_mut-point.ensures.value answer)
 
 pub invariant_of-self : goal.invariant_of-self

@@ -2,11 +2,12 @@ use Rattle.std.proofs.Common.{◌≡◌, ℕ, ◌-◌, ◌<◌, ◌≤◌, lengt
 use Rattle.std.proofs.lemmas.Bool.{OnFalse_at, OnTrue_at}
 use Rattle.fuelling_point.specs.Table.{PointState, command_step}
 use Rattle.fuelling_point.specs.Promises.{FollowsTable}
-use Rattle.site_core.specs.State.{SiteState, at_number}
+use Rattle.site_core.specs.State.{SiteState, at_number, price_of}
 use Rattle.site_core.specs.Bounds.{Bounded}
 use Rattle.site_core.specs.Decide.{command_of, granted_amount}
 use Rattle.site_core.proofs.Grants.{grant-none, grant-is, bounded-with}
 use Rattle.site_core.proofs.Filling.{keeps-seen, place-below}
+use Rattle.site_core.proofs.Points.{lifted_price-is}
 use Rattle.site_core.proofs.station.Station.grant.Goals as goal
 
 pub returns-then-not-has_point-clause-grant : goal.returns-then-not-has_point-clause-grant
@@ -40,8 +41,12 @@ returns-clause-grant c =
     let le : q.point ≤ length old.points = subst (λ (s : SiteState). q.point ≤ length s.points) (sym c.self.view_is) there.1 in
     let given : c.granted_amount-granted.result ≡ granted_amount q.kind q.asked c.args.r0 p.preset = rw c.preset.ensures at c.granted_amount-granted.ensures in
     let asked : c.command_of.result ≡ command_of q.kind (granted_amount q.kind q.asked c.args.r0 p.preset) = rw given at c.command_of.ensures in
-    let answers : FollowsTable (command_step p c.args.till (command_of q.kind (granted_amount q.kind q.asked c.args.r0 p.preset))) p c.on_command.result
-    c.on_command.new.self = rw asked at c.on_command.ensures.answer in
+    let priced : c.lifted_price-price.result ≡ price_of old p.nozzle =
+    lifted_price-is old c.args.self.now q.point c.lifted_price-price.result p c.self.view_is c.lifted_price-price.ensures one le c.index_mut-point.ensures.value in
+    let answers : FollowsTable (command_step (price_of old p.nozzle) p c.args.till (command_of q.kind (granted_amount q.kind q.asked c.args.r0 p.preset))) p
+    c.on_command.result c.on_command.new.self =
+    subst (λ x. FollowsTable (command_step x p c.args.till (command_of q.kind (granted_amount q.kind q.asked c.args.r0 p.preset))) p c.on_command.result
+    c.on_command.new.self) priced (rw asked at c.on_command.ensures.answer) in
     rw (← c.self.view_is, given) (grant-is old c.args.till c.args.r0 q p c.on_command.new.self c.on_command.result one le
     c.index_mut-point.ensures.value answers)
 
