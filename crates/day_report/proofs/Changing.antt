@@ -27,7 +27,7 @@ use Rattle.site_core.specs.declared.question.Kind.{Kind}
 use Rattle.site_core.specs.declared.question.Kind.TheVariants as kind
 use Rattle.site_core.specs.declared.question.Question.{Question}
 use Rattle.site_core.specs.Limits.{ConfigValue}
-use Rattle.site_core.specs.State.{SiteState, at_number, first_busy, view_of, with_point}
+use Rattle.site_core.specs.State.{SiteState, at_number, first_busy, view_of, with_point, price_of}
 use Rattle.site_core.specs.Context.{context}
 use Rattle.site_core.specs.History.{in_force}
 use Rattle.site_core.specs.Decide.{Effect, admitted, after_command, asked_at_point, bad_amount, command_of, decided, grant, granted_amount, has_room, is_till}
@@ -171,7 +171,7 @@ command-does s till n c a None at same =
     subst (Does s n a) (sym (till_command_effect-none s till n c at)) (unchanged n s s refl refl refl)
 command-does s till n c a (Some p) at same =
     subst (Does s n a) (sym (till_command_effect-some s till n c p at))
-    (answer-does s n a p (command_step p till c) at (subst (λ x. Gives (Takes p x) (command_step p till c)) same (command-takes p till c)))
+    (answer-does s n a p (command_step (price_of s p.nozzle) p till c) at (subst (λ x. Gives (Takes p x) (command_step (price_of s p.nozzle) p till c)) same (command-takes (price_of s p.nozzle) p till c)))
 
 -- ---- These lemmas show that an event of a dispenser and a decision clear nothing.
 
@@ -191,7 +191,7 @@ dispenser-keeps : (s : SiteState) (n : ℕ) (e : DispenserEvent) (o : Option Poi
     → Keeps n s (dispenser_effect s n e).after
 dispenser-keeps s n e None at = subst (λ (x : Effect). Keeps n s x.after) (sym (dispenser_effect-none s n e at)) (unchanged n s s refl refl refl)
 dispenser-keeps s n e (Some p) at =
-    subst (λ (x : Effect). Keeps n s x.after) (sym (dispenser_effect-some s n e p at)) (event-keeps s n p (event_step p e) at (event-gives p e))
+    subst (λ (x : Effect). Keeps n s x.after) (sym (dispenser_effect-some s n e p at)) (event-keeps s n p (event_step (price_of s p.nozzle) p e) at (event-gives (price_of s p.nozzle) p e))
 
 after-grows : (p : PointState) (x : Option ℕ) (a : StepResult (Option ℕ)) → Gives (Takes p x) a
     → Grows p (elim a as (λ _. PointState) [ Ok o ↦ o.0 | Err f ↦ p ])
@@ -204,7 +204,8 @@ grant-keeps s till r q None at = subst (λ (g : ℕ × SiteState). Keeps q.point
 grant-keeps s till r q (Some p) at =
     let c : Command = command_of q.kind (granted_amount q.kind q.asked r p.preset) in
     subst (λ (g : ℕ × SiteState). Keeps q.point s g.1) (sym (grant-some s till r q p at))
-    (grown s q.point p (after_command p till c) at (after-grows p (number_in c) (command_step p till c) (command-takes p till c)))
+    (grown s q.point p (after_command (price_of s p.nozzle) p till c) at
+    (after-grows p (number_in c) (command_step (price_of s p.nozzle) p till c) (command-takes (price_of s p.nozzle) p till c)))
 
 verdict-keeps : (s : SiteState) (till moment : ℕ) (q : Question) (v : Version) (r : ℕ) (c : Counters) (b : Bool) → (r == 0) ≡ b
     → Keeps q.point s (verdict s till moment q v r c).after

@@ -13,7 +13,7 @@ use Rattle.site_core.specs.State.{SiteState, at_number}
 use Rattle.site_core.specs.Decide.{is_till}
 use Rattle.site_core.specs.Step.{clears_by, effect}
 use Rattle.site_core.specs.Steps.{point_named, state_after, step_of, steps}
-use Rattle.day_report.specs.Sales.{SalesValue, clearing_of, delivery_of, no_sales, sale_of, sales_after, unpaid_at}
+use Rattle.day_report.specs.Sales.{SalesValue, clearing_of, end_of, no_sales, sale_of, sales_after, unpaid_at}
 use Rattle.day_report.specs.Totals.{cents_in, count_in}
 use Rattle.day_report.specs.declared.sales.Clearing.{Clearing}
 use Rattle.day_report.specs.declared.sales.Ended.{Ended}
@@ -30,7 +30,7 @@ use Rattle.day_report.proofs.Owing.{owes, owes-is}
 pub record IsSale (config : ConfigValue) (s t : SiteState) (us : List Ended) (sale : Sale) : Type 0 where
   pub owed : owes sale.transaction (at_number s.points sale.point) ≡ true
   pub gone : owes sale.transaction (at_number t.points sale.point) ≡ false
-  pub delivery : sale.delivery ≡ delivery_of us sale.point sale.transaction
+  pub ended : sale.ended ≡ end_of us sale.point sale.transaction
   pub till : is_till config sale.till ≡ true
 
 -- An entry that led from s to t made this sale, or none. The sale has the cents that the site cleared.
@@ -48,9 +48,11 @@ sale_with us entry c (Some t) = Some (record {
   till = c.till;
   point = c.point;
   transaction = c.number;
+  product = t.product;
+  price = t.price;
   amount = t.amount;
   volume = t.volume;
-  delivery = delivery_of us c.point c.number;
+  ended = end_of us c.point c.number;
 })
 
 abbrev pub sale_by : List Ended → Entry → Option PointState → Option Clearing → Option Sale
@@ -72,7 +74,7 @@ module _ (config : ConfigValue) (s t : SiteState) (us : List Ended) (entry : Ent
         each = All-cons (IsSale config s t us) _ [] (record {
           owed = sym (owes-is c.number (at_number s.points c.point)) ∙ ap is_some is;
           gone = leads.gone;
-          delivery = refl;
+          ended = refl;
           till = till;
         }) (All-nil (IsSale config s t us));
         count = leads.clears ∙ ap (λ o. s.clears + clears_by (amount_of o)) is;

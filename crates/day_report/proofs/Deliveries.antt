@@ -1,4 +1,4 @@
--- A sale has its delivery, unless its transaction was unpaid when the day began.
+-- The entry that ended the delivery of a sale is known, unless its transaction was unpaid when the day began.
 use Rattle.std.proofs.Common.{◌≡◌, ◌⊎◌, ℕ, ◌+◌, Bool, true, false, List, [], ◌∷◌, reverse, Option, Some, None, refl, ap, sym, subst, ◌∙◌}
 use Rattle.std.proofs.Common.{inl, inr, All}
 use Rattle.std.specs.Prelude.{◌==◌, ◌&&◌, not, is_some, option_to_list, IsTrue, IsFalse}
@@ -29,19 +29,19 @@ Kept config past us =
 -- ---- These lemmas show: a transaction that is unpaid after an entry was unpaid before it, or its delivery ended by the
 -- entry.
 
-ended-is : (prices : List ℕ) (number m x : ℕ) (p q : PointState) → q.last ≡ p.last + 1 → q.last ≡ x
-    → IsTrue (has_delivery m x (option_to_list (ended_at prices number m (Some p) (Some q))))
-ended-is prices number m x p q grew is =
+ended-is : (number m x : ℕ) (p q : PointState) → q.last ≡ p.last + 1 → q.last ≡ x
+    → IsTrue (has_delivery m x (option_to_list (ended_at number m (Some p) (Some q))))
+ended-is number m x p q grew is =
     let here : ((m == m) && (q.last == x)) ≡ true = rw (eq-eqb m m refl, eq-eqb q.last x is) refl in
     rw (eq-eqb q.last (p.last + 1) grew) (rw here refl)
 
-ended-here : (prices : List ℕ) (number m x : ℕ) (o o2 : Option PointState) → GrowsTo o o2 → IsTrue (owes x o2)
-    → IsTrue (owes x o) ⊎ IsTrue (has_delivery m x (option_to_list (ended_at prices number m o o2)))
-ended-here prices number m x o None grows h = nothing h
-ended-here prices number m x None (Some q) grows h = absurd grows
-ended-here prices number m x (Some p) (Some q) grows h = elim (grows.1 x h) [
+ended-here : (number m x : ℕ) (o o2 : Option PointState) → GrowsTo o o2 → IsTrue (owes x o2)
+    → IsTrue (owes x o) ⊎ IsTrue (has_delivery m x (option_to_list (ended_at number m o o2)))
+ended-here number m x o None grows h = nothing h
+ended-here number m x None (Some q) grows h = absurd grows
+ended-here number m x (Some p) (Some q) grows h = elim (grows.1 x h) [
   | inl old ↦ inl old
-  | inr new ↦ inr (ended-is prices number m x p q new.0 new.1)
+  | inr new ↦ inr (ended-is number m x p q new.0 new.1)
 ]
 
 old-or-ended : (config : ConfigValue) (past : List Entry) (e : Entry) → Follows config past e → (n x : ℕ)
@@ -56,13 +56,13 @@ old-or-ended config past e follows n x h =
       | inl here ↦
           let same : n ≡ m = eqb-true n m here in
           subst (λ k. IsTrue (owes x (at_number b.points k)) ⊎ IsTrue (has_delivery k x (option_to_list (ended_by (step_of config past e))))) (sym same)
-          (ended-here b.prices e.number m x (at_number b.points m) (at_number later m) follows.leads.here
+          (ended-here e.number m x (at_number b.points m) (at_number later m) follows.leads.here
           (subst (λ k. IsTrue (owes x (at_number later k))) same h))
       | inr other ↦ inl (ap (owes x) (sym (follows.leads.other n other)) ∙ h)
     ]
 
--- ---- These lemmas show by induction that each sale in a legal history has its delivery, unless its transaction was
--- unpaid when the day began.
+-- ---- These lemmas show by induction that of each sale in a legal history the entry that ended its delivery is known,
+-- unless its transaction was unpaid when the day began.
 
 is-kept : (a b : Bool) → (a ≡ true → ⊥) → b ≡ true → (not a && b) ≡ true
 is-kept true b other h = absurd (other refl)
@@ -82,7 +82,7 @@ survives config s t us n x (Some sale) each unpaid h =
     ∙ unpaid)) h
 
 abbrev HasOneIfNew : ConfigValue → Sale → Type 0
-HasOneIfNew config sale = IsFalse (is_carried_in config sale) → IsTrue (is_some sale.delivery)
+HasOneIfNew config sale = IsFalse (is_carried_in config sale) → IsTrue (is_some sale.ended)
 
 -- What is known after the entries `past`, newest first.
 record Comes (config : ConfigValue) (past : List Entry) (s : SalesValue) : Type 0 where
@@ -106,7 +106,7 @@ comes-more config past e s follows c =
       ];
       known = All-append (HasOneIfNew config) s.sales (option_to_list sale) c.known
           (All-weaker (IsSale config b t s.unpaid) (HasOneIfNew config)
-          (λ x (is : IsSale config b t s.unpaid x). λ new. ap is_some is.delivery
+          (λ x (is : IsSale config b t s.unpaid x). λ new. ap is_some is.ended
           ∙ delivery-is s.unpaid x.point x.transaction
           ∙ c.kept x.point x.transaction is.owed (sym (owes-is x.transaction (at_number (points_at_start config) x.point)) ∙ new))
           (option_to_list sale) each);

@@ -1,5 +1,5 @@
--- If the transaction of a sale was unpaid when the day began, then the sale has no delivery. For this, the points of the
--- opening must be valid.
+-- If the transaction of a sale was unpaid when the day began, then its delivery ended in no entry of the day. For this,
+-- the points of the opening must be valid.
 use Rattle.std.proofs.Common.{◌≡◌, ℕ, ◌+◌, ◌-◌, ◌≤◌, Bool, true, false, List, [], ◌∷◌, zero, suc, map, Option, Some, None}
 use Rattle.std.proofs.Common.{slice_get, refl, sym, subst, ◌∙◌, arith, All}
 use Rattle.std.specs.Prelude.{◌==◌, ◌&&◌, ◌||◌, is_some, nat_le, if◌then◌else◌, option_to_list, IsTrue}
@@ -17,8 +17,7 @@ use Rattle.site_core.specs.Limits.{ConfigValue}
 use Rattle.site_core.specs.State.{SiteState, at_number, fresh_state, opened_state, opening_state}
 use Rattle.site_core.specs.Steps.{StepValue, point_named, state_after, step_of}
 use Rattle.day_report.specs.Deliveries.{HasValidOpeningPoints, is_carried_in}
-use Rattle.day_report.specs.Sales.{SalesValue, delivery_of, ended_at, ended_by, sale_of, sales_after, uncleared}
-use Rattle.day_report.specs.declared.sales.Delivery.{Delivery}
+use Rattle.day_report.specs.Sales.{SalesValue, end_of, ended_at, ended_by, sale_of, sales_after, uncleared}
 use Rattle.day_report.specs.declared.sales.Ended.{Ended}
 use Rattle.day_report.specs.declared.sales.Sale.{Sale}
 use Rattle.day_report.proofs.Changing.{GrowsTo, grows-at}
@@ -82,11 +81,11 @@ none-at u false n x apart = refl
 later-number : (x last next : ℕ) → x ≤ last → (next == last + 1) ≡ true → (next == x) ≡ false
 later-number x last next le is = let more : next ≡ last + 1 = eqb-true next (last + 1) is in grind (arith, nat_tests, le, more)
 
-none-ended : (prices : List ℕ) (number m n x : ℕ) (o o2 : Option PointState) → ((m == n) ≡ true → HasGivenOut x o)
-    → has_delivery n x (option_to_list (ended_at prices number m o o2)) ≡ false
-none-ended prices number m n x None o2 given = refl
-none-ended prices number m n x (Some p) None given = refl
-none-ended prices number m n x (Some p) (Some q) given =
+none-ended : (number m n x : ℕ) (o o2 : Option PointState) → ((m == n) ≡ true → HasGivenOut x o)
+    → has_delivery n x (option_to_list (ended_at number m o o2)) ≡ false
+none-ended number m n x None o2 given = refl
+none-ended number m n x (Some p) None given = refl
+none-ended number m n x (Some p) (Some q) given =
     none-at _ (q.last == p.last + 1) n x (λ grew here. later-number x p.last q.last (given here) grew)
 
 given-later : (x : ℕ) (o o2 : Option PointState) → GrowsTo o o2 → HasGivenOut x o → HasGivenOut x o2
@@ -100,19 +99,19 @@ given-later x (Some p) (Some q) grows h = let le : p.last ≤ q.last = grows.0 i
 abbrev pub points_at_start : ConfigValue → List PointState
 points_at_start config = (opening_state config).points
 
--- If the transaction of a sale was unpaid when the day began, then the sale has no delivery.
+-- If the transaction of a sale was unpaid when the day began, then its delivery ended in no entry of the day.
 abbrev HasNoneIfCarriedIn : ConfigValue → Sale → Type 0
-HasNoneIfCarriedIn config sale = IsTrue (is_carried_in config sale) → sale.delivery ≡ None
+HasNoneIfCarriedIn config sale = IsTrue (is_carried_in config sale) → sale.ended ≡ None
 
 -- - Its point has given out its number.
 -- - Its delivery isn't one of those that ended.
--- - If it was cleared, its sale has no delivery.
+-- - If it was cleared, the sale's delivery ended in no entry of the day.
 pub record CarriedIn (config : ConfigValue) (past : List Entry) (s : SalesValue) : Type 0 where
   pub given : (n x : ℕ) → IsTrue (owes x (at_number (points_at_start config) n)) → HasGivenOut x (at_number (state_after config past).points n)
   pub none : (n x : ℕ) → IsTrue (owes x (at_number (points_at_start config) n)) → has_delivery n x s.unpaid ≡ false
   pub carried : All (HasNoneIfCarriedIn config) s.sales
 
-none-known : (o : Option Delivery) → is_some o ≡ false → o ≡ None
+none-known : (o : Option ℕ) → is_some o ≡ false → o ≡ None
 none-known None h = refl
 none-known (Some d) h = nothing (sym h)
 
@@ -125,7 +124,7 @@ none-more : (config : ConfigValue) (past : List Entry) (e : Entry) (n x : ℕ) �
 unfolding ended_by
 none-more config past e n x given =
     let b : SiteState = state_after config past in
-    none-ended b.prices e.number (point_named e.act) n x (at_number b.points (point_named e.act)) _
+    none-ended e.number (point_named e.act) n x (at_number b.points (point_named e.act)) _
     (λ here. subst (λ k. HasGivenOut x (at_number b.points k)) (sym (eqb-true (point_named e.act) n here)) given)
 
 carried-more : (config : ConfigValue) (past : List Entry) (e : Entry) (s : SalesValue) → Follows config past e → CarriedIn config past s
@@ -142,8 +141,8 @@ carried-more config past e s follows c =
           ∙ (λ j. none-uncleared s.unpaid sale n x (c.none n x h) j || none-more config past e n x (c.given n x h) j);
       carried = All-append (HasNoneIfCarriedIn config) s.sales (option_to_list sale) c.carried
           (All-weaker (IsSale config b t s.unpaid) (HasNoneIfCarriedIn config)
-          (λ x (is : IsSale config b t s.unpaid x). λ old. is.delivery
-          ∙ none-known (delivery_of s.unpaid x.point x.transaction) (delivery-is s.unpaid x.point x.transaction
+          (λ x (is : IsSale config b t s.unpaid x). λ old. is.ended
+          ∙ none-known (end_of s.unpaid x.point x.transaction) (delivery-is s.unpaid x.point x.transaction
           ∙ c.none x.point x.transaction (sym (owes-is x.transaction (at_number (points_at_start config) x.point)) ∙ old)))
           (option_to_list sale) (follows.sells s.unpaid).each);
     }

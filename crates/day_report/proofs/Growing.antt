@@ -6,7 +6,7 @@ use Rattle.std.specs.Prelude.{◌==◌, ◌&&◌, ◌||◌, not, nat_lt, if◌th
 use Rattle.std.proofs.lemmas.Bool.{and_parts, cond_both, eqb-true, or_cases}
 use Rattle.std.proofs.lemmas.List.Folds.{list_any-append}
 use Rattle.std.proofs.lemmas.Map.Views.{any-filter_same}
-use Rattle.fuelling_point.specs.Table.{PointState, StepResult, command_step, event_step, take_order, held_by, add_unpaid_delivery, end_delivery_in, find_number, without}
+use Rattle.fuelling_point.specs.Table.{PointState, StepResult, command_step, event_step, take_order, held_by, add_unpaid_delivery, end_delivery_in, find_number, left_unpaid, without}
 use Rattle.fuelling_point.specs.States.{is_busy, has_flowed}
 use Rattle.fuelling_point.specs.declared.kinds.State.{State}
 use Rattle.fuelling_point.specs.declared.kinds.State.TheVariants as state
@@ -62,18 +62,18 @@ added x ts t h = elim (or_cases (has_number x ts) ((t.number == x) || false) (sy
 new-grows : (p : PointState) (t : Transaction) → t.number ≡ p.last + 1 → Grows p (record p { last = p.last + 1; unpaid = p.unpaid ++ t ∷ [] })
 new-grows p t is = (omega arith, λ x h. elim (added x p.unpaid t h) [ inl old ↦ inl old | inr new ↦ inr (refl, sym is ∙ new) ])
 
-keep-grows : (b : Bool) (p : PointState) → Grows p (if b then
-    record p { last = p.last + 1; unpaid = p.unpaid ++ record { number = p.last + 1; amount = p.amount; volume = p.volume; holder = 0 } ∷ [] } else p)
-keep-grows true p = new-grows p _ refl
-keep-grows false p = same p
+keep-grows : (b : Bool) (price : ℕ) (p : PointState)
+    → Grows p (if b then record p { last = p.last + 1; unpaid = p.unpaid ++ left_unpaid price p ∷ [] } else p)
+keep-grows true price p = new-grows p (left_unpaid price p) refl
+keep-grows false price p = same p
 
-rest-by : (b : Bool) (next : State) (p : PointState) → Grows p (if b then
-    record (add_unpaid_delivery p) { state = next; limit = 0; amount = 0; volume = 0; taken = false } else record p { state = next })
-rest-by true next p = keep-grows (has_flowed p.state && nat_lt 0 p.amount) p
-rest-by false next p = same p
+rest-by : (b : Bool) (price : ℕ) (next : State) (p : PointState) → Grows p (if b then
+    record (add_unpaid_delivery price p) { state = next; limit = 0; amount = 0; volume = 0; taken = false } else record p { state = next })
+rest-by true price next p = keep-grows (has_flowed p.state && nat_lt 0 p.amount) price p
+rest-by false price next p = same p
 
-rest-grows : (next : State) (p : PointState) → Grows p (end_delivery_in next p)
-rest-grows next p = rest-by (is_busy p.state) next p
+rest-grows : (price : ℕ) (next : State) (p : PointState) → Grows p (end_delivery_in price next p)
+rest-grows price next p = rest-by (is_busy p.state) price next p
 
 flow-grows : (st : State) (p q r s : PointState) (b : Bool) → Grows p q → Grows p r → Grows p s
     → Grows p (elim st as (λ _. PointState) [ state.SuspendedFuelling ↦ q | _ ↦ if b then r else s ])
@@ -111,15 +111,15 @@ unfolding Gives
 hand-gives None p = tt
 hand-gives (Some o) p = same p
 
-pub event-gives : (p : PointState) (e : DispenserEvent) → Gives (GrowsBy p) (event_step p e)
-event-gives p (event.Up n) = tested-gives (GrowsBy p) _ _ None Unexpected (same p)
-event-gives p event.Down = tested-gives (GrowsBy p) _ _ None Unexpected (rest-grows _ p)
-event-gives p event.Started = tested-gives (GrowsBy p) _ _ None Unexpected (same p)
-event-gives p (event.Flowed amount volume) =
+pub event-gives : (price : ℕ) (p : PointState) (e : DispenserEvent) → Gives (GrowsBy p) (event_step price p e)
+event-gives price p (event.Up n) = tested-gives (GrowsBy p) _ _ None Unexpected (same p)
+event-gives price p event.Down = tested-gives (GrowsBy p) _ _ None Unexpected (rest-grows price _ p)
+event-gives price p event.Started = tested-gives (GrowsBy p) _ _ None Unexpected (same p)
+event-gives price p (event.Flowed amount volume) =
     tested-gives (GrowsBy p) _ _ None Unexpected (flow-grows p.state p _ _ _ (nat_lt p.limit amount) (same p) (same p) (same p))
-event-gives p event.Fault = ok-gives (GrowsBy p) _ None (rest-grows state.Inoperative p)
-event-gives p event.Repaired = tested-gives (GrowsBy p) _ _ None Unexpected (same p)
-event-gives p event.TakeOrder = hand-gives p.order p
+event-gives price p event.Fault = ok-gives (GrowsBy p) _ None (rest-grows price state.Inoperative p)
+event-gives price p event.Repaired = tested-gives (GrowsBy p) _ _ None Unexpected (same p)
+event-gives price p event.TakeOrder = hand-gives p.order p
 
 -- ---- These lemmas show what a command changes (`Takes`). It clears the transaction that it names, if it is `Clear`,
 -- and otherwise nothing.
@@ -177,21 +177,21 @@ module _ (P : PointState → Option ℕ → Type 0) where
 held-takes : (p : PointState) (holder n : ℕ) → Takes p None (record p { unpaid = held_by holder n p.unpaid }) None
 held-takes p holder n = kept p _ (omega arith, λ x h. inl (sym (held-same x holder n p.unpaid) ∙ h))
 
-pub command-takes : (p : PointState) (till : ℕ) (c : Command) → Gives (Takes p (number_in c)) (command_step p till c)
-command-takes p till (command.Release g) =
+pub command-takes : (price : ℕ) (p : PointState) (till : ℕ) (c : Command) → Gives (Takes p (number_in c)) (command_step price p till c)
+command-takes price p till (command.Release g) =
     if-gives (Takes p None) _ _ _ (tested-gives (Takes p None) _ _ _ _ (kept p _ (same p))) (err-gives (Takes p None) _)
-command-takes p till command.Suspend = suspend-gives (Takes p None) p.state _ _ (kept p _ (same p)) (kept p _ (same p))
-command-takes p till command.Resume = resume-gives (Takes p None) p.state _ _ _ _ (kept p _ (same p)) (kept p _ (same p))
-command-takes p till command.Stop = tested-gives (Takes p None) _ _ _ _ (kept p _ (rest-grows _ p))
-command-takes p till (command.Lock n) =
+command-takes price p till command.Suspend = suspend-gives (Takes p None) p.state _ _ (kept p _ (same p)) (kept p _ (same p))
+command-takes price p till command.Resume = resume-gives (Takes p None) p.state _ _ _ _ (kept p _ (same p)) (kept p _ (same p))
+command-takes price p till command.Stop = tested-gives (Takes p None) _ _ _ _ (kept p _ (rest-grows price _ p))
+command-takes price p till (command.Lock n) =
     found-gives (Takes p None) (find_number n p.unpaid) _ _ (λ _. None) (λ t is. held-takes p till n)
-command-takes p till (command.Unlock n) =
+command-takes price p till (command.Unlock n) =
     found-gives (Takes p None) (find_number n p.unpaid) _ _ (λ _. None) (λ t is. held-takes p 0 n)
-command-takes p till (command.Clear n) =
+command-takes price p till (command.Clear n) =
     found-gives (Takes p (Some n)) (find_number n p.unpaid) _ _ (λ t. Some t.amount)
     (λ t is. record {
       grows = (omega arith, λ x h. inl (without-number x n p.unpaid h));
       gives = ap amount_of (sym is);
       gone = gone n p.unpaid;
     })
-command-takes p till _ = tested-gives (Takes p None) _ _ _ _ (kept p _ (same p))
+command-takes price p till _ = tested-gives (Takes p None) _ _ _ _ (kept p _ (same p))

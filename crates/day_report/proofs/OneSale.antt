@@ -10,7 +10,7 @@ use Rattle.fuelling_point.specs.Table.{PointState}
 use Rattle.fuelling_point.specs.declared.kinds.Transaction.{Transaction}
 use Rattle.site_core.specs.Steps.{StepValue}
 use Rattle.day_report.proofs.Clearing.{sale_by, sale_with}
-use Rattle.day_report.specs.Sales.{SalesValue, clearing_of, delivery_of, no_sales, sale_of, sales_after, sales_in, unpaid_at}
+use Rattle.day_report.specs.Sales.{SalesValue, clearing_of, end_of, no_sales, sale_of, sales_after, sales_in, unpaid_at}
 use Rattle.day_report.specs.Sums.{AddsUp, HasRoom, hour_number, no_sum, plus, plus_at, with_sale}
 use Rattle.day_report.specs.Totals.{IsSum, SumsUp, cents_in, centilitres_in, count_in, hour_of, is_in, part_of_hour, part_of_point, part_of_till}
 use Rattle.day_report.specs.declared.sales.Clearing.{Clearing}
@@ -154,7 +154,7 @@ one_more sums sales sale amount volume room a =
       );
     }
 
--- ---- One step. What a sale comes to doesn't depend on its delivery.
+-- ---- One step. What a sale comes to doesn't depend on the end of its delivery.
 
 -- the sums with the sale, if there is one
 abbrev pub with_some : Sums → Option Sale → Sums
@@ -174,9 +174,11 @@ module _ (sums : Sums) (sales : List Sale) (us : List Ended) (entry : Entry) (ro
     till = c.till;
     point = c.point;
     transaction = c.number;
+    product = t.product;
+    price = t.price;
     amount = t.amount;
     volume = t.volume;
-    delivery = delivery_of us c.point c.number;
+    ended = end_of us c.point c.number;
   }) fits.0 fits.1 room a
 
   adds_by : (before : Option PointState) (o : Option Clearing) → IfSome (sale_by [] entry before o) InRange

@@ -6,7 +6,7 @@ use Rattle.std.proofs.lemmas.Bool.{and_parts, eqb-true}
 use Rattle.std.proofs.lemmas.Map.Views.{any-filter_same}
 use Rattle.fuelling_point.specs.Table.{PointState}
 use Rattle.fuelling_point.specs.declared.kinds.Transaction.{Transaction}
-use Rattle.day_report.specs.Sales.{delivery_of, is_delivery_of, unpaid_at, without}
+use Rattle.day_report.specs.Sales.{end_of, is_delivery_of, unpaid_at, without}
 use Rattle.day_report.specs.declared.sales.Ended.{Ended}
 
 pub nothing : {P : Type 0} → ◌≡◌ {A = Bool} false true → P
@@ -37,11 +37,11 @@ pub owes-is : (x : ℕ) (o : Option PointState) → is_some (unpaid_at o x) ≡ 
 owes-is x None = refl
 owes-is x (Some p) = find-any (λ (t : Transaction). t.number == x) p.unpaid
 
-map-some : (o : Option Ended) → is_some (option_map (λ (e : Ended). e.delivery) o) ≡ is_some o
+map-some : (o : Option Ended) → is_some (option_map (λ (e : Ended). e.number) o) ≡ is_some o
 map-some None = refl
 map-some (Some u) = refl
 
-pub delivery-is : (us : List Ended) (n x : ℕ) → is_some (delivery_of us n x) ≡ has_delivery n x us
+pub delivery-is : (us : List Ended) (n x : ℕ) → is_some (end_of us n x) ≡ has_delivery n x us
 delivery-is us n x = map-some (find (λ (u : Ended). is_delivery_of n x u) us) ∙ find-any (λ (u : Ended). is_delivery_of n x u) us
 
 -- Without the deliveries of transaction y of point m, a list has the same other deliveries as before.

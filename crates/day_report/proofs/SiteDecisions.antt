@@ -33,7 +33,7 @@ use Rattle.site_core.specs.declared.question.Question.{Question}
 use Rattle.site_core.specs.declared.question.RequestAction.{RequestAction}
 use Rattle.site_core.specs.declared.question.RequestAction.TheVariants as action
 use Rattle.site_core.specs.Limits.{ConfigValue}
-use Rattle.site_core.specs.State.{SiteState, at_number, view_of}
+use Rattle.site_core.specs.State.{SiteState, at_number, view_of, price_of}
 use Rattle.site_core.specs.Context.{context}
 use Rattle.site_core.specs.History.{loaded, in_force, versions, versions_before, opening_rule}
 use Rattle.site_core.specs.Decide.{Effect, replied, refused, denied, no_such_till, is_decided, is_till, admitted, request_action}
@@ -365,7 +365,7 @@ command-no s n (Err f) = fault-no f
 
 till_command_effect-no : (s : SiteState) (till n : ℕ) (c : Command) (o : Option PointState) → at_number s.points n ≡ o → is_decided (till_command_effect s till n c).reply ≡ false
 till_command_effect-no s till n c None at = ap (λ e. is_decided e.reply) (till_command_effect-none s till n c at)
-till_command_effect-no s till n c (Some p) at = ap (λ e. is_decided e.reply) (till_command_effect-some s till n c p at) ∙ command-no s n (command_step p till c)
+till_command_effect-no s till n c (Some p) at = ap (λ e. is_decided e.reply) (till_command_effect-some s till n c p at) ∙ command-no s n (command_step (price_of s p.nozzle) p till c)
 
 order-no : (o : Option Order) → is_decided (order_reply o) ≡ false
 order-no None = refl
@@ -378,7 +378,7 @@ event-no s n (Err f) = fault-no f
 dispenser_effect-no : (s : SiteState) (n : ℕ) (event : DispenserEvent) (o : Option PointState) → at_number s.points n ≡ o
     → is_decided (dispenser_effect s n event).reply ≡ false
 dispenser_effect-no s n event None at = ap (λ e. is_decided e.reply) (dispenser_effect-none s n event at)
-dispenser_effect-no s n event (Some p) at = ap (λ e. is_decided e.reply) (dispenser_effect-some s n event p at) ∙ event-no s n (event_step p event)
+dispenser_effect-no s n event (Some p) at = ap (λ e. is_decided e.reply) (dispenser_effect-some s n event p at) ∙ event-no s n (event_step (price_of s p.nozzle) p event)
 
 -- A request that asks a question is one that a rule decides.
 abbrev Asks : Request → RequestAction → Type 0

@@ -1,4 +1,4 @@
--- Promises: which sales have their delivery.
+-- Promises: of which sales the end of the delivery is known.
 use Rattle.std.specs.Prelude.{◌≡◌, Bool, List, Some, None, All, IsTrue, IsFalse, is_some}
 use Rattle.decision_journal.specs.declared.entries.Entry.{Entry}
 use Rattle.fuelling_point.specs.Snapshot.{IsPointState}
@@ -18,12 +18,12 @@ is_carried_in config sale = is_some (unpaid_at (at_number (opening_state config)
 abbrev pub HasValidOpeningPoints : ConfigValue → Type 0
 HasValidOpeningPoints config = (o : OpeningValue) → config.opening ≡ Some o → All IsPointState o.points
 
--- - A sale has its delivery, unless its transaction was unpaid when the day began.
--- - If its transaction was unpaid when the day began, then it has none. For this, the points of the opening, if there is
---   one, must be valid (`HasValidOpeningPoints`).
+-- - The entry that ended its delivery is known of a sale, unless its transaction was unpaid when the day began.
+-- - If its transaction was unpaid when the day began, then none is known. For this, the points of the opening, if there
+--   is one, must be valid (`HasValidOpeningPoints`).
 pub record DeliveriesAreKnown (config : ConfigValue) (history : List Entry) : Type 0 where
-  pub known : All (λ (sale : Sale). IsFalse (is_carried_in config sale) → IsTrue (is_some sale.delivery)) (sales_of config history)
-  pub carried : HasValidOpeningPoints config → All (λ (sale : Sale). IsTrue (is_carried_in config sale) → sale.delivery ≡ None) (sales_of config history)
+  pub known : All (λ (sale : Sale). IsFalse (is_carried_in config sale) → IsTrue (is_some sale.ended)) (sales_of config history)
+  pub carried : HasValidOpeningPoints config → All (λ (sale : Sale). IsTrue (is_carried_in config sale) → sale.ended ≡ None) (sales_of config history)
 
 -- So it is in any history that the site's steps can make (`LegalHistory`).
 abbrev pub SalesHaveTheirDeliveries : Type 0

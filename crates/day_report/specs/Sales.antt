@@ -1,5 +1,5 @@
 -- Definitions: the sales of a day. A sale is a transaction that a till cleared.
-use Rattle.std.specs.Prelude.{ℕ, ◌+◌, ◌-◌, ◌==◌, ◌&&◌, nat_le, not, if◌then◌else◌, Bool, List, [], ◌++◌, slice_index, option_map, option_to_list, fold}
+use Rattle.std.specs.Prelude.{ℕ, ◌+◌, ◌-◌, ◌*◌, ◌/◌, ◌==◌, ◌&&◌, not, if◌then◌else◌, Bool, List, [], ◌++◌, option_map, option_to_list, fold}
 use Rattle.std.specs.Prelude.{filter, find, Option, Some, None}
 use Rattle.fuelling_point.specs.Table.{PointState, find_number}
 use Rattle.fuelling_point.specs.declared.kinds.Transaction.{Transaction}
@@ -12,7 +12,6 @@ use Rattle.till_request.specs.declared.act.Reply.TheVariants as reply
 use Rattle.site_core.specs.Limits.{ConfigValue}
 use Rattle.site_core.specs.Steps.{StepValue, steps_of}
 use Rattle.day_report.specs.declared.sales.Clearing.{Clearing}
-use Rattle.day_report.specs.declared.sales.Delivery.{Delivery}
 use Rattle.day_report.specs.declared.sales.Ended.{Ended}
 use Rattle.day_report.specs.declared.sales.Sale.{Sale}
 use Rattle.day_report.specs.declared.sales.Sales.{Sales}
@@ -32,33 +31,25 @@ abbrev pub unpaid_at : Option PointState → ℕ → Option Transaction
 unpaid_at None number = None
 unpaid_at (Some p) number = find_number number p.unpaid
 
--- The price of a product; 0 if there is no such product. Products are numbered from 1.
-abbrev pub price_of : List ℕ → ℕ → ℕ
-price_of prices product = if nat_le 1 product then slice_index prices (product - 1) else 0
-
 -- The delivery that an entry ended at a point; None unless the point gave out one more transaction number. The
--- arguments are the prices before the entry, the numbers of the entry and of the point, and the point before and after
--- the entry. The product is that of the nozzle that was lifted: nozzle n carries product n.
-abbrev pub ended_at : List ℕ → ℕ → ℕ → Option PointState → Option PointState → Option Ended
-ended_at prices number n (Some before) (Some after) =
-    if after.last == before.last + 1 then Some (record {
-      point = n;
-      transaction = after.last;
-      delivery = record { number = number; product = before.nozzle; price = price_of prices before.nozzle };
-    }) else None
-ended_at prices number n _ _ = None
+-- arguments are the numbers of the entry and of the point, and the point before and after the entry.
+abbrev pub ended_at : ℕ → ℕ → Option PointState → Option PointState → Option Ended
+ended_at number n (Some before) (Some after) =
+    if after.last == before.last + 1 then Some (record { point = n; transaction = after.last; number = number }) else None
+ended_at number n _ _ = None
 
 -- The delivery that a step ended; None if it ended none.
 unfoldable pub ended_by : StepValue → Option Ended
-ended_by step = ended_at step.change.prices step.entry.number step.change.point step.change.before step.change.after
+ended_by step = ended_at step.entry.number step.change.point step.change.before step.change.after
 
 -- Whether a delivery has this point and this transaction number.
 abbrev pub is_delivery_of : ℕ → ℕ → Ended → Bool
 is_delivery_of n transaction e = e.point == n && e.transaction == transaction
 
--- The first delivery in the list with this point and this transaction number; None if there is none.
-abbrev pub delivery_of : List Ended → ℕ → ℕ → Option Delivery
-delivery_of unpaid n transaction = option_map (λ (e : Ended). e.delivery) (find (λ (e : Ended). is_delivery_of n transaction e) unpaid)
+-- The number of the entry that ended the first delivery in the list with this point and this transaction number; None if
+-- there is no such delivery.
+abbrev pub end_of : List Ended → ℕ → ℕ → Option ℕ
+end_of unpaid n transaction = option_map (λ (e : Ended). e.number) (find (λ (e : Ended). is_delivery_of n transaction e) unpaid)
 
 -- The list without the deliveries that have this point and this transaction number.
 abbrev pub without : List Ended → ℕ → ℕ → List Ended
@@ -80,9 +71,11 @@ sale_of unpaid step =
                   till = c.till;
                   point = c.point;
                   transaction = c.number;
+                  product = t.product;
+                  price = t.price;
                   amount = t.amount;
                   volume = t.volume;
-                  delivery = delivery_of unpaid c.point c.number;
+                  ended = end_of unpaid c.point c.number;
                 })
           ]
     ]
@@ -113,6 +106,19 @@ sales_in steps = (fold sales_after no_sales steps).sales
 -- The sales in the history of a site of this configuration, oldest first.
 abbrev pub sales_of : ConfigValue → List Entry → List Sale
 sales_of config history = sales_in (steps_of config history)
+
+-- ---- What the volume of a sale costs
+
+-- What a volume in centilitres costs at a price in thousandths of the currency per litre, in cents; half a cent is
+-- rounded up.
+abbrev pub worth : ℕ → ℕ → ℕ
+worth price volume = (price * volume + 500) / 1000
+
+-- By how many cents the amount of a sale is off what its volume costs; None if its product isn't known.
+abbrev pub off_by : Sale → Option ℕ
+off_by sale =
+    if sale.product == 0 then None
+    else Some ((sale.amount - worth sale.price sale.volume) + (worth sale.price sale.volume - sale.amount))
 
 -- ---- The contracts of private functions use these definitions.
 

@@ -143,7 +143,15 @@ pub record AllDecided (versions : List ℕ) (decisions : List Decision) (found :
 
 -- An unpaid transaction, together with the number of its point.
 abbrev pub unpaid_transaction : ℕ → Transaction → Unpaid
-unpaid_transaction point t = record { point = point; number = t.number; amount = t.amount; volume = t.volume; holder = t.holder }
+unpaid_transaction point t = record {
+  point = point;
+  number = t.number;
+  product = t.product;
+  price = t.price;
+  amount = t.amount;
+  volume = t.volume;
+  holder = t.holder;
+}
 
 -- The unpaid transactions of all these points. The first point has the number n, the next one n + 1, and so on.
 abbrev pub unpaid_from : ℕ → List PointState → List Unpaid

@@ -88,12 +88,15 @@ pub struct CarriedIn {
     pub cleared: u64,
 }
 
-/// An unpaid transaction: its point, its number at the point, its amount in cents, its volume in centilitres, and the
-/// till that holds it, or 0 if no till does.
+/// An unpaid transaction: its point, its number at the point, its product, or 0 if that isn't known, the product's
+/// price when the delivery ended, in thousandths of the currency per litre, its amount in cents, its volume in
+/// centilitres, and the till that holds it, or 0 if no till does.
 #[derive(Clone, Copy)]
 pub struct Unpaid {
     pub point: usize,
     pub number: u32,
+    pub product: u32,
+    pub price: u32,
     pub amount: u64,
     pub volume: u64,
     pub holder: u32,
@@ -119,6 +122,8 @@ fn unpaid_as(point: usize, transaction: Option<Transaction>) -> Option<Unpaid>
     Some(Unpaid {
         point,
         number: transaction.number,
+        product: transaction.product,
+        price: transaction.price,
         amount: transaction.amount,
         volume: transaction.volume,
         holder: transaction.holder,

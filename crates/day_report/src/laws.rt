@@ -25,12 +25,12 @@ pub fn law_of_decisions()
 
 /// Does nothing. Its contract is a law about each legal history (one that the site's steps can make):
 ///
-/// - A sale has its delivery, unless its transaction was unpaid when the day began.
-/// - If the transaction was unpaid when the day began, then the sale has no delivery. For this, the configuration must
+/// - Of a sale the entry that ended its delivery is known, unless its transaction was unpaid when the day began.
+/// - If the transaction was unpaid when the day began, then no such entry is. For this, the configuration must
 ///   have no opening, or an opening whose points are all valid (`IsPointState`).
 pub fn law_of_deliveries()
     // proved: The law of deliveries holds
-    // proved: A sale that was carried in has no delivery
+    // proved: The delivery of a sale that was carried in ended in no entry of the day
     ensures { SalesHaveTheirDeliveries }
 {}
 

@@ -19,6 +19,6 @@ pub use decision_journal::{FIRST_REFUSAL, REFUSALS};
 pub use loading::Load;
 pub use opening::CarriedRule;
 pub use rulings::{Decision, PriceChange, RequestKind, Rulings};
-pub use sales::{Delivery, Sale, Sales, SalesPart, Sum};
+pub use sales::{Sale, Sales, SalesPart, Sum, off_by};
 pub use steps::{Axis, Bands, Mark, Marks};
 pub use sums::Sums;

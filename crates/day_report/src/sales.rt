@@ -1,7 +1,8 @@
 //! The sales of a history. A sale is a transaction that a till cleared: it was paid, and is gone.
 
-ghost use Rattle.std.specs.Prelude.{◌≡◌, ◌<◌, find, vec_capacity, vec_len};
-ghost use Rattle.day_report.specs.Sales.{clearing_of, delivery_of, ended_at, ended_by, is_delivery_of, price_of, sale_of, uncleared, unpaid_at, without};
+ghost use Rattle.std.specs.Prelude.{◌≡◌, ◌<◌, ◌≤◌, find, IfSome, vec_capacity, vec_len};
+ghost use Rattle.day_report.specs.Sales.{clearing_of, end_of, ended_by, is_delivery_of, off_by, sale_of, uncleared};
+ghost use Rattle.day_report.specs.Sales.{unpaid_at, without, worth};
 
 use decision_journal::Entry;
 use fuelling_point::{Point, Transaction};
@@ -9,18 +10,11 @@ use site_core::{Change, Observer};
 use std::alloc::{AllocError, Global};
 use till_request::{Act, Reply, Request};
 
-/// A delivery of fuel that ended in the day: the number of the entry that ended it, the product's number, and the
-/// product's price before that entry, in thousandths of the currency per litre.
-#[derive(Clone, Copy)]
-pub struct Delivery {
-    pub number: u32,
-    pub product: u32,
-    pub price: u32,
-}
-
 /// A transaction that a till cleared. `number` is the number of the journal entry that cleared it, and `moment` is this
-/// entry's time in seconds, or 0 if the entry has none. `amount` is in cents, and `volume` in centilitres. Without a
-/// `delivery` the transaction was unpaid when the day began.
+/// entry's time in seconds, or 0 if the entry has none. `product` is 1 to 8, or 0 if it isn't known; `price`, in
+/// thousandths of the currency per litre, is the product's when the delivery ended. `amount` is in cents, and `volume`
+/// in centilitres, at most 999,999,999 each. `ended` is the number of the entry that ended the delivery; `None` if the
+/// transaction was unpaid when the day began.
 #[derive(Clone, Copy)]
 pub struct Sale {
     pub number: u32,
@@ -28,17 +22,20 @@ pub struct Sale {
     pub till: u32,
     pub point: u32,
     pub transaction: u32,
-    pub amount: u64,
-    pub volume: u64,
-    pub delivery: Option<Delivery>,
+    pub product: u32,
+    pub price: u32,
+    pub amount: u32,
+    pub volume: u32,
+    pub ended: Option<u32>,
 }
 
-/// A delivery that isn't cleared yet, with its point and the number of the transaction that it became.
+/// A delivery that ended in the day and isn't cleared yet: its point, the number of the transaction that it became, and
+/// the number of the entry that ended it.
 #[derive(Clone, Copy)]
 pub(crate) struct Ended {
     pub(crate) point: u32,
     pub(crate) transaction: u32,
-    pub(crate) delivery: Delivery,
+    pub(crate) number: u32,
 }
 
 /// A request that cleared a transaction (its reply was `done`): the till, the point and the transaction's number.
@@ -78,22 +75,14 @@ fn clearing_of(act: &Act, reply: &Reply) -> Option<Clearing>
 
 /// Returns the unpaid transaction of a point that has this number, or `None` if there is none.
 fn unpaid_at(point: &Option<Point>, number: u32) -> Option<Transaction>
-    ensures { result ≡ unpaid_at point.now number }
+    ensures found { result ≡ unpaid_at point.now number }
+    ensures amount { IfSome result (λ t. t.amount ≤ 999999999) }
+    ensures volume { IfSome result (λ t. t.volume ≤ 999999999) }
 {
     match point {
         None => None,
         Some(point) => point.find(number),
     }
-}
-
-/// Returns the price of a product, or 0 if there is no such product.
-fn price_of(prices: &[u32; 8], product: u32) -> u32
-    ensures { result ≡ price_of prices.now product }
-{
-    if product == 0 || product > 8 {
-        return 0;
-    }
-    prices[product as usize - 1]
 }
 
 /// Returns the delivery that an entry ended, or `None` if it ended none.
@@ -107,15 +96,10 @@ fn ended_by(entry: &Entry, change: &Change) -> Option<Ended>
     if after.last().checked_sub(before.last()) != Some(1) {
         return None;
     }
-    let product = before.nozzle();
     Some(Ended {
         point: change.point,
         transaction: after.last(),
-        delivery: Delivery {
-            number: entry.number,
-            product,
-            price: price_of(&change.prices, product),
-        },
+        number: entry.number,
     })
 }
 
@@ -136,11 +120,12 @@ fn ended_of(unpaid: &[Ended], n: u32, transaction: u32) -> Option<Ended>
         .find(|ended| is_delivery_of(n, transaction, ended))
 }
 
-fn delivery_of(unpaid: &[Ended], n: u32, transaction: u32) -> Option<Delivery>
-    ensures { result ≡ delivery_of unpaid.now n transaction }
+/// Returns the number of the entry that ended the delivery with point `n` and this transaction number.
+fn end_of(unpaid: &[Ended], n: u32, transaction: u32) -> Option<u32>
+    ensures { result ≡ end_of unpaid.now n transaction }
 {
     match ended_of(unpaid, n, transaction) {
-        Some(ended) => Some(ended.delivery),
+        Some(ended) => Some(ended.number),
         None => None,
     }
 }
@@ -159,10 +144,31 @@ pub(crate) fn sale_of(unpaid: &[Ended], entry: &Entry, change: &Change) -> Optio
         till: clearing.till,
         point: clearing.point,
         transaction: clearing.number,
-        amount: paid.amount,
-        volume: paid.volume,
-        delivery: delivery_of(unpaid, clearing.point, clearing.number),
+        product: paid.product,
+        price: paid.price,
+        amount: paid.amount as u32,
+        volume: paid.volume as u32,
+        ended: end_of(unpaid, clearing.point, clearing.number),
     })
+}
+
+/// Returns what a volume in centilitres costs at a price in thousandths of the currency per litre, in cents. Half a
+/// cent is rounded up.
+fn worth(price: u32, volume: u32) -> u64
+    ensures { result ≡ worth price volume }
+{
+    (u64::from(price) * u64::from(volume) + 500) / 1000
+}
+
+/// Returns by how many cents the amount of a sale is off what its volume costs, or `None` if its product isn't known.
+pub fn off_by(sale: &Sale) -> Option<u64>
+    // proved: It says by how much amount and volume disagree | sale_is_never_off
+    ensures { result ≡ off_by sale.now }
+{
+    if sale.product == 0 {
+        return None;
+    }
+    Some(u64::from(sale.amount).abs_diff(worth(sale.price, sale.volume)))
 }
 
 /// Removes the deliveries with point `n` and this transaction number.

@@ -97,7 +97,7 @@ impl Sums {
         ensures added { self.new ≡ with_sale self.old sale }
         ensures in_range { (sale.amount < 2 ^ 64) × (sale.volume < 2 ^ 64) }
     {
-        let (amount, volume) = (sale.amount, sale.volume);
+        let (amount, volume) = (u64::from(sale.amount), u64::from(sale.volume));
         self.all = plus(self.all, amount, volume);
         add_at(&mut self.points, sale.point as u64, amount, volume);
         add_at(&mut self.tills, sale.till as u64, amount, volume);

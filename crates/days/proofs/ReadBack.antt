@@ -2,7 +2,7 @@
 -- transactions (`LineFits`), then reading the line's spelling gives this line.
 use Rattle.std.proofs.Common.{◌≡◌, ℕ, ◌<◌, ◌^◌, List, [], ◌∷◌, ◌++◌, length, map, codes, nat_lt, eqb, true, false, append_assoc}
 use Rattle.std.proofs.Common.{Bool, Option, Some, None, Ok, refl, sym, ◌∙◌, ap, arith, rules, lit<}
-use Rattle.std.specs.Prelude.{◌||◌}
+use Rattle.std.specs.Prelude.{◌&&◌, ◌||◌, if◌then◌else◌}
 use Rattle.std.specs.Char.{is_ascii_alphanumeric}
 use Rattle.std.specs.Fmt.{decimal}
 use Rattle.std.specs.List.{AllByRecursion, flat_map, join_with_byte, list_all, slice_split}
@@ -22,13 +22,13 @@ use Rattle.fuelling_point.specs.declared.snapshot.Snapshot.{Snapshot}
 use Rattle.fuelling_point.specs.States.{state_number}
 use Rattle.till_request.specs.Grammar.{bytes_from}
 use Rattle.till_request.specs.Spelling.{load_word}
-use Rattle.std.proofs.lemmas.Bool.{and_parts}
+use Rattle.std.proofs.lemmas.Bool.{and_parts, eqb-true}
 use Rattle.till_request.proofs.Apart.{Without, all_without, decimal_alphanumeric, hex_alphanumeric, number-small, number-large, split_list, split_word}
 use Rattle.decision_journal.proofs.Parts.{without_join}
 use Rattle.days.specs.declared.line.Line.{Line}
 use Rattle.days.specs.declared.line.Line.TheVariants as lines
 use Rattle.days.specs.Ranges.{OrderFits}
-use Rattle.days.specs.Parsing.{bytes_by, digest_by, layout_with, line_of_words, line_read, order_read, state_with}
+use Rattle.days.specs.Parsing.{bytes_by, digest_by, layout_with, line_of_words, line_read, order_read, priced_of, state_with}
 use Rattle.days.specs.Text.{line_spelling, line_text, line_words, order_word, yes_or_no}
 
 -- The line is read back from its own spelling.
@@ -55,7 +55,9 @@ LineFits (lines.Version slot number mask layout bytes) = (slot < 2 ^ 64) × (num
 LineFits (lines.Price product price) = (product < 2 ^ 32) × (price < 2 ^ 32)
 LineFits (lines.Counter c value bound) = (c < 2 ^ 32) × (value < 2 ^ 64) × (bound < 2 ^ 64)
 LineFits (lines.Point n s) = (n < 2 ^ 64) × ValuesFit s
-LineFits (lines.Unpaid n t) = (n < 2 ^ 64) × (t.number < 2 ^ 32) × (t.amount < 2 ^ 64) × (t.volume < 2 ^ 64) × (t.holder < 2 ^ 32)
+LineFits (lines.Unpaid n t) =
+    (n < 2 ^ 64) × (t.number < 2 ^ 32) × (t.amount < 2 ^ 64) × (t.volume < 2 ^ 64) × (t.holder < 2 ^ 32)
+    × (t.product < 2 ^ 32) × (t.price < 2 ^ 32)
 LineFits (lines.Journal entries digest) = (entries < 2 ^ 32) × IsBytes digest × (length digest ≡ 32)
 
 layout_back : (layout : Layout) → layout_with (load_word layout) ≡ layout
@@ -124,6 +126,13 @@ point_back n s h f =
       state_back s.state,
     )
 
+priced_back : (product price : ℕ) (none : Bool) → (eqb product 0 && eqb price 0) ≡ none → product < 2 ^ 32 → price < 2 ^ 32
+    → priced_of (if none then [] else (decimal product ∷ decimal price ∷ [])) ≡ Ok (product, price)
+priced_back product price true is p v =
+    let both = and_parts (eqb product 0) (eqb price 0) is in
+    λ j. Ok (sym (eqb-true product 0 both.0) j, sym (eqb-true price 0 both.1) j)
+priced_back product price false is p v = search (number-small product p, number-small price v)
+
 -- a line is read from its own words
 words_back : (l : Line) → LineFits l → line_of_words (line_words l) ≡ Ok l
 words_back (lines.Day n) h = search (number-small n h)
@@ -135,7 +144,14 @@ words_back (lines.Price p v) h = search (number-small p h.0, number-small v h.1)
 words_back (lines.Counter c v b) h = search (number-small c h.0, number-large v h.1, number-large b h.2)
 words_back (lines.Point n s) h = point_back n s h.0 h.1 ∙ ap (λ (u : List (Option Transaction)). Ok (lines.Point n (record s { unpaid = u }))) (sym h.1.none)
 words_back (lines.Unpaid n t) h =
-    search (number-large n h.0, number-small t.number h.1, number-large t.amount h.2, number-large t.volume h.3, number-small t.holder h.4)
+    search (
+      number-large n h.0,
+      number-small t.number h.1,
+      number-large t.amount h.2,
+      number-large t.volume h.3,
+      number-small t.holder h.4,
+      priced_back t.product t.price (eqb t.product 0 && eqb t.price 0) refl h.5 h.6,
+    )
 words_back (lines.Journal n digest) h = search (number-small n h.0, digest_back digest h.1 h.2)
 
 -- ---- the words of a line have no space and no LF in them
@@ -174,6 +190,11 @@ plain_answer : (b : Bool) → IsPlain (yes_or_no b)
 plain_answer true = refl
 plain_answer false = refl
 
+plain_priced : (product price : ℕ) (none : Bool) → product < 2 ^ 32 → price < 2 ^ 32
+    → AllByRecursion IsPlain (if none then [] else (decimal product ∷ decimal price ∷ []))
+plain_priced product price true p v = tt
+plain_priced product price false p v = (small_digits product p, (small_digits price v, tt))
+
 plain_words : (l : Line) → LineFits l → AllByRecursion IsPlain (line_words l)
 plain_words (lines.Day n) h = (refl, (small_digits n h, tt))
 plain_words (lines.Cleared total count) h = (refl, (digits total h.0, (digits count h.1, tt)))
@@ -189,7 +210,8 @@ plain_words (lines.Point n s) h =
     (digits s.limit h.1.limit, (digits s.amount h.1.amount, (digits s.volume h.1.volume, last))) in
     (refl, (digits n h.0, (small_digits (state_number s.state) (state_small s.state), (small_digits s.nozzle h.1.nozzle, (digits s.preset h.1.preset, middle)))))
 plain_words (lines.Unpaid n t) h =
-    (refl, (digits n h.0, (small_digits t.number h.1, (digits t.amount h.2, (digits t.volume h.3, (small_digits t.holder h.4, tt))))))
+    let priced = plain_priced t.product t.price (eqb t.product 0 && eqb t.price 0) h.5 h.6 in
+    (refl, (digits n h.0, (small_digits t.number h.1, (digits t.amount h.2, (digits t.volume h.3, (small_digits t.holder h.4, priced))))))
 plain_words (lines.Journal n digest) h = (refl, (small_digits n h.0, (hex_digits digest h.1, tt)))
 
 words_without : (c : ℕ) → is_plain c ≡ false → (ws : List (List ℕ)) → AllByRecursion IsPlain ws → AllByRecursion (Without c) ws

@@ -23,7 +23,7 @@ use Rattle.days.specs.declared.line.Line.TheVariants as lines
 use Rattle.days.specs.File.{IsOpeningFile}
 use Rattle.days.specs.Flaws.{HasNoOpening}
 use Rattle.days.specs.Parsing.{line_read}
-use Rattle.days.specs.Ranges.{FileFits, PointFits, VersionFits}
+use Rattle.days.specs.Ranges.{FileFits, PointFits, UnpaidFits, VersionFits}
 use Rattle.days.specs.Reading.{CanTake, Reads, Takes, TakesRead, after_line, blank_file, pieces, point_at, with_unpaid}
 use Rattle.days.specs.Text.{counter_lines, head_lines, line_spelling, numbered_lines, opening_lines, opening_text, own_values, point_lines, price_lines, version_lines}
 use Rattle.days.proofs.ReadBack.{LineFits, reads_back, split_text}
@@ -248,7 +248,7 @@ own_leads f n xs p few last fits good = (
 )
 
 unpaid_leads : (f : OpeningFile) (xs : List PointState) (p : PointState) (us : List Transaction) (t : Transaction) → 1 + length xs < 2 ^ 64
-    → p.last ≤ 4290000000 → t.holder < 2 ^ 32 → IsPointState (owes p (us ++ t ∷ []))
+    → p.last ≤ 4290000000 → UnpaidFits t → IsPointState (owes p (us ++ t ∷ []))
     → Leads (with_points f (xs ++ owes p us ∷ []) 0) (lines.Unpaid (1 + length xs) t ∷ []) (with_points f (xs ++ owes p (us ++ t ∷ []) ∷ []) 0)
 unpaid_leads f xs p us t few last held good =
     let i : 1 + length xs - 1 ≡ length xs = omega arith in
@@ -259,14 +259,14 @@ unpaid_leads f xs p us t few last held good =
         omega (arith, length-append xs (owes p us ∷ [])),
         subst (λ q. IsPointState (with_unpaid q t)) (sym found) good,
       ),
-      (few, omega (arith, last, own.number), omega (arith, own.amount), omega (arith, own.volume), held),
+      (few, omega (arith, last, own.number), omega (arith, own.amount), omega (arith, own.volume), held.0, omega (arith, own.product), held.1),
       ap (λ q. with_points f (set (xs ++ owes p us ∷ []) (1 + length xs - 1) (with_unpaid q t)) 0) found
           ∙ ap (λ qs. with_points f qs 0)
           (set_seam xs (1 + length xs - 1) (owes p us) (owes p (us ++ t ∷ [])) [] i ∙ append-nil (xs ++ owes p (us ++ t ∷ []) ∷ [])),
     )
 
 owing_leads : (f : OpeningFile) (xs : List PointState) (p : PointState) (us : List Transaction) → 1 + length xs < 2 ^ 64 → p.last ≤ 4290000000
-    → PointFits p → All (λ (t : Transaction). t.holder < 2 ^ 32) us → IsPointState (owes p us)
+    → PointFits p → All UnpaidFits us → IsPointState (owes p us)
     → Leads (with_points f xs 0) (point_lines (1 + length xs) (owes p us)) (with_points f (xs ++ owes p us ∷ []) 0)
 owing_leads f xs p [] few last fits held good = own_leads f (1 + length xs) xs p few last fits good
 owing_leads f xs p (t ∷ []) few last fits held good =
@@ -275,7 +275,7 @@ owing_leads f xs p (t ∷ []) few last fits held good =
     (own_leads f (1 + length xs) xs p few last fits (owes_none p (t ∷ []) good)) (unpaid_leads f xs p [] t few last (held 0 t (omega arith)) good)
 owing_leads f xs p (t ∷ u ∷ []) few last fits held good =
     let one : Leads (with_points f xs 0) (point_lines (1 + length xs) (owes p (t ∷ []))) (with_points f (xs ++ owes p (t ∷ []) ∷ []) 0) =
-    owing_leads f xs p (t ∷ []) few last fits (All-replicate (λ (x : Transaction). x.holder < 2 ^ 32) 1 t (held 0 t (omega arith))) (owes_one p t (u ∷ []) good) in
+    owing_leads f xs p (t ∷ []) few last fits (All-replicate UnpaidFits 1 t (held 0 t (omega arith))) (owes_one p t (u ∷ []) good) in
     leads_both (with_points f xs 0) (with_points f (xs ++ owes p (t ∷ []) ∷ []) 0) (with_points f (xs ++ owes p (t ∷ u ∷ []) ∷ []) 0)
     (lines.Point (1 + length xs) (own_values p) ∷ lines.Unpaid (1 + length xs) t ∷ []) (lines.Unpaid (1 + length xs) u ∷ [])
     one (unpaid_leads f xs p (t ∷ []) u few last (held 1 u (omega arith)) good)
@@ -286,7 +286,7 @@ point_leads : (f : OpeningFile) → IsOpeningFile f → FileFits f → (xs zs : 
 point_leads f h k xs zs p is =
     let few : 1 + length xs < 2 ^ 64 = omega (arith, short xs zs p f.opening.points is, k.few) in
     let fits : PointFits p = at_seam PointFits xs zs p f.opening.points is k.points in
-    owing_leads f xs p p.unpaid few (at_seam (λ (q : PointState). q.last ≤ 4290000000) xs zs p f.opening.points is h.opening.last) fits fits.holders
+    owing_leads f xs p p.unpaid few (at_seam (λ (q : PointState). q.last ≤ 4290000000) xs zs p f.opening.points is h.opening.last) fits fits.unpaid
     (at_seam IsPointState xs zs p f.opening.points is h.points)
 
 -- ---- the lines of an opening lead from nothing to that opening

@@ -111,13 +111,29 @@ abbrev pub point_of : List (List ℕ) → Result Line LineFault
 point_of (n ∷ s ∷ z ∷ p ∷ l ∷ ws) = point_with n s z p l ws
 point_of ws = Err BadLine
 
-abbrev pub unpaid_with : List ℕ → List ℕ → List ℕ → List ℕ → List ℕ → Result Line LineFault
-unpaid_with p n a v t =
+-- The product and the price at the end of an unpaid transaction's line. Both are 0 if the words for them are left out.
+abbrev pub priced_with : List ℕ → List ℕ → Result (ℕ × ℕ) LineFault
+priced_with p v = number 32 p >>= (λ p'. number 32 v >>= (λ v'. Ok (p', v')))
+
+abbrev pub priced_of : List (List ℕ) → Result (ℕ × ℕ) LineFault
+priced_of [] = Ok (0, 0)
+priced_of (p ∷ v ∷ []) = priced_with p v
+priced_of ws = Err BadLine
+
+abbrev pub unpaid_with : List ℕ → List ℕ → List ℕ → List ℕ → List ℕ → List (List ℕ) → Result Line LineFault
+unpaid_with p n a v t ws =
     number 64 p >>= (λ p'. number 32 n >>= (λ number'. number 64 a >>= (λ amount'. number 64 v >>= (λ volume'. number 32 t >>= (λ holder'.
-    Ok (lines.Unpaid p' (record { number = number'; amount = amount'; volume = volume'; holder = holder' })))))))
+    priced_of ws >>= (λ priced. Ok (lines.Unpaid p' (record {
+      number = number';
+      product = priced.0;
+      price = priced.1;
+      amount = amount';
+      volume = volume';
+      holder = holder';
+    }))))))))
 
 abbrev pub unpaid_of : List (List ℕ) → Result Line LineFault
-unpaid_of (p ∷ n ∷ a ∷ v ∷ t ∷ []) = unpaid_with p n a v t
+unpaid_of (p ∷ n ∷ a ∷ v ∷ t ∷ ws) = unpaid_with p n a v t ws
 unpaid_of ws = Err BadLine
 
 abbrev pub digest_by : List ℕ → Result (List ℕ) LineFault

@@ -5,6 +5,7 @@ use Rattle.std.specs.Fmt.{decimal}
 use Rattle.std.specs.List.{flat_map, join_with_byte}
 use Rattle.hex.specs.Hex.{encode_lower}
 use Rattle.fuelling_point.specs.declared.kinds.Order.{Order}
+use Rattle.fuelling_point.specs.declared.kinds.Transaction.{Transaction}
 use Rattle.fuelling_point.specs.declared.snapshot.Snapshot.{Snapshot}
 use Rattle.fuelling_point.specs.States.{state_number}
 use Rattle.fuelling_point.specs.Table.{PointState}
@@ -24,6 +25,10 @@ abbrev pub yes_or_no : Bool → List ℕ
 yes_or_no true = codes "yes"
 yes_or_no false = codes "no"
 
+-- The words of an unpaid transaction's product and price. They are left out if both are 0.
+abbrev pub priced_words : Transaction → List (List ℕ)
+priced_words t = if t.product == 0 && t.price == 0 then [] else (decimal t.product ∷ decimal t.price ∷ [])
+
 -- The words of a line. The word for a version's layout is `load` or `load2`, as in a request that loads a program for
 -- this layout. Bytes are spelled in lower-case hexadecimal digits.
 abbrev pub line_words : Line → List (List ℕ)
@@ -37,7 +42,8 @@ line_words (lines.Counter c value bound) = codes "counter" ∷ decimal c ∷ dec
 line_words (lines.Point n s) =
     codes "point" ∷ decimal n ∷ decimal (state_number s.state) ∷ decimal s.nozzle ∷ decimal s.preset ∷ decimal s.limit ∷ decimal s.amount ∷ decimal s.volume
     ∷ order_word s.order ∷ yes_or_no s.taken ∷ decimal s.last ∷ []
-line_words (lines.Unpaid n t) = codes "unpaid" ∷ decimal n ∷ decimal t.number ∷ decimal t.amount ∷ decimal t.volume ∷ decimal t.holder ∷ []
+line_words (lines.Unpaid n t) =
+    codes "unpaid" ∷ decimal n ∷ decimal t.number ∷ decimal t.amount ∷ decimal t.volume ∷ decimal t.holder ∷ priced_words t
 line_words (lines.Journal entries digest) = codes "journal" ∷ decimal entries ∷ encode_lower digest ∷ []
 
 -- The text of a line, without its LF.

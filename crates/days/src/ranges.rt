@@ -2,7 +2,7 @@
 //! their contracts.
 ghost use Rattle.std.specs.Prelude.{◌<◌, ◌^◌, All, option_to_list};
 ghost use Rattle.hex.specs.Hex.{IsBytes};
-ghost use Rattle.days.specs.Ranges.{FileFits, OrderFits, PointFits, VersionFits};
+ghost use Rattle.days.specs.Ranges.{FileFits, OrderFits, PointFits, UnpaidFits, VersionFits};
 
 use crate::file::OpeningFile;
 use fuelling_point::{Order, Point, Transaction};
@@ -24,20 +24,21 @@ fn order_in_range(order: Option<Order>)
     }
 }
 
-fn holder_in_range(place: Option<Transaction>)
-    ensures { All (λ t. t.holder < 2 ^ 32) (option_to_list place) }
+fn place_in_range(place: Option<Transaction>)
+    ensures { All UnpaidFits (option_to_list place) }
 {
     if let Some(transaction) = place {
         let _holder = transaction.holder;
+        let _price = transaction.price;
     }
 }
 
-fn holders_in_range(point: &Point)
-    ensures { All (λ t. t.holder < 2 ^ 32) point.now.unpaid }
+fn unpaid_in_range(point: &Point)
+    ensures { All UnpaidFits point.now.unpaid }
 {
     let [first, second] = point.transactions();
-    holder_in_range(first);
-    holder_in_range(second);
+    place_in_range(first);
+    place_in_range(second);
 }
 
 fn point_in_range(point: &Point)
@@ -46,7 +47,7 @@ fn point_in_range(point: &Point)
     let _preset = point.preset();
     let _limit = point.limit();
     order_in_range(point.snapshot().order);
-    holders_in_range(point);
+    unpaid_in_range(point);
 }
 
 fn points_in_range(points: &[Point])

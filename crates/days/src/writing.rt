@@ -116,19 +116,33 @@ fn put_counter(text: &mut String, counter: u32, value: u64, bound: u64) -> Resul
     write!(text, "counter {counter} {value} {bound}\n")
 }
 
+/// Appends the line of an unpaid transaction of point `number`. Product and price are left out if both are 0.
+fn put_transaction(text: &mut String, number: u64, t: Transaction) -> Result<(), AllocError>
+    ensures { OnOk result (AddsLines (string_bytes text.old) (string_bytes text.new) (Line.Unpaid number t ∷ [])) }
+{
+    if t.product == 0 && t.price == 0 {
+        return write!(
+            text,
+            "unpaid {number} {} {} {} {}\n",
+            t.number, t.amount, t.volume, t.holder
+        );
+    }
+    write!(
+        text,
+        "unpaid {number} {} {} {} {} {} {}\n",
+        t.number, t.amount, t.volume, t.holder, t.product, t.price
+    )
+}
+
 fn put_unpaid(text: &mut String, number: u64, unpaid: Option<Transaction>) -> Result<(), AllocError>
     ensures lines { OnOk result (AddsLines (string_bytes text.old) (string_bytes text.new)
         (map (λ t. Line.Unpaid number t) (option_to_list unpaid))) }
     ensures none { unpaid ≡ None → IsOk result }
 {
-    let Some(t) = unpaid else {
-        return Ok(());
-    };
-    write!(
-        text,
-        "unpaid {number} {} {} {} {}\n",
-        t.number, t.amount, t.volume, t.holder
-    )
+    match unpaid {
+        None => Ok(()),
+        Some(t) => put_transaction(text, number, t),
+    }
 }
 
 /// Appends the line of a point, counted from 1, without its unpaid transactions.
@@ -189,6 +203,7 @@ fn put_journal(alloc: Global, text: &mut String, file: &OpeningFile) -> Result<(
 pub fn opening_text(alloc: Global, file: &OpeningFile) -> Result<String, AllocError>
     // proved: It is the text of the opening | lock_is_taken_off
     // proved: Transactions are numbered on in it
+    // proved: An unpaid transaction keeps product and price in it | price_of_an_unpaid_is_lost
     ensures { IfOk result (λ text. string_bytes text ≡ opening_text file.now) }
 {
     let opening = &file.opening;
