@@ -16,7 +16,7 @@ import subprocess
 import sys
 import tempfile
 
-from shared import AS_ASKED, HERE, Count, played
+from shared import AS_ASKED, HERE, Count, played, text_of
 
 MOST_BYTES = 2_000_000
 # The program of a rule that denies.
@@ -126,9 +126,20 @@ def money(cents):
     return f"{cents // 100:,}.{cents % 100:02}"
 
 
-def count(lines):
-    """The sales, the unpaid transactions, the refusals, the decisions and the loads of a journal, found without fc."""
+def price(thousandths):
+    return f"{thousandths // 1000:,}.{thousandths % 1000:03}"
+
+
+def prices_of(site):
+    """The prices of a configuration, by product."""
+    return dict(enumerate(map(int, re.search(r"prices = \[(.*)\]", text_of(site))[1].split(",")), 1))
+
+
+def count(lines, prices):
+    """The sales, the unpaid transactions, the refusals, the decisions and the loads of a journal, found without fc. The
+    prices are those before its first line, by product."""
     flow, last, unpaid, sold = {}, {}, {}, []
+    nozzles, prices = {}, dict(prices)
     refused, decided, loads = {}, {}, []
     for line in lines:
         words = line.split(" = ")[0].split()
@@ -143,24 +154,42 @@ def count(lines):
             point = asks[0]
             if asks[1] == "flow":
                 flow[point] = (int(asks[2]), int(asks[3]))
+            elif asks[1] == "up":
+                nozzles[point] = int(asks[2])
             elif asks[1] in ("down", "fault"):
-                end(point, flow, last, unpaid)
+                end(point, flow, last, unpaid, nozzles, prices)
         elif who == "till" and answer[0] == "done":
             if asks[1] == "stop":
-                end(asks[2], flow, last, unpaid)
+                end(asks[2], flow, last, unpaid, nozzles, prices)
             elif asks[1] == "clear":
-                amount, volume = unpaid.pop((asks[2], int(asks[3])))
+                amount, volume, _, _ = unpaid.pop((asks[2], int(asks[3])))
                 sold.append((asks[0], asks[2], int(moment), amount, volume))
+        elif who == "till" and answer[0] == "granted" and asks[1] == "price":
+            prices[int(asks[2])] = int(answer[1])
         elif who.startswith("load") and answer[0] == "version":
             loads.append((int(answer[1]), asks[0], words[0]))
     return sold, unpaid, refused, decided, loads
 
 
-def end(point, flow, last, unpaid):
+def end(point, flow, last, unpaid, nozzles, prices):
     amount, volume = flow.pop(point, (0, 0))
     if amount:
         last[point] = last.get(point, 0) + 1
-        unpaid[(point, last[point])] = (amount, volume)
+        product = nozzles[point]
+        unpaid[(point, last[point])] = (amount, volume, product, prices[product])
+
+
+def unpaid_rows(unpaid):
+    """The rows of the unpaid transactions, without their holders."""
+    return [
+        [point, str(number), str(product), price(thousandths), money(amount), money(volume)]
+        for (point, number), (amount, volume, product, thousandths) in sorted(unpaid.items(), key=by_point)
+    ]
+
+
+def by_point(item):
+    (point, number), _ = item
+    return int(point), number
 
 
 def price_lines(text):
@@ -183,14 +212,16 @@ class Checks(Count):
         self.case([f"{what}: {got}, wanted {want}"] if got != want else [])
 
 
-def compare(checks, name, page, lines):
-    sold, unpaid, refused, decided, loads = count(lines)
+def compare(checks, name, page, lines, prices):
+    sold, unpaid, refused, decided, loads = count(lines, prices)
     checks.same(f"{name}: first line", page.first, f"{len(lines):,} entries, audited")
     checks.same(f"{name}: scripts and files", page.scripts, 0)
     figures = page.figures
     total = cells(sold)
     checks.same(f"{name}: headline", [figures["Sales"], figures["Sold"], figures["Litres sold"]], total)
-    checks.same(f"{name}: unpaid", figures["Unpaid at the end"], money(sum(a for a, _ in unpaid.values())))
+    checks.same(f"{name}: unpaid", figures["Unpaid at the end"], money(sum(it[0] for it in unpaid.values())))
+    rows = page.tables.get("unpaid", [[]])[1:]
+    checks.same(f"{name}: unpaid transactions", [row[:6] for row in rows], unpaid_rows(unpaid))
     granted = sum(n for (_, _, is_granted), n in decided.items() if is_granted)
     denied = sum(n for (_, _, is_granted), n in decided.items() if not is_granted)
     checks.same(f"{name}: decisions", [figures["Granted by rules"], figures["Denied by rules"]],
@@ -258,7 +289,7 @@ def show(checks, program, work, name, site, lines):
         checks.same(f"{name}: where prices change", price_lines(done.stdout)[0], STEPS_AT)
     if name == "times":
         checks.same(f"{name}: labels of the axis", AXIS_LABEL.findall(done.stdout), TIMES_ARE)
-    compare(checks, name, Page(done.stdout), lines)
+    compare(checks, name, Page(done.stdout), lines, prices_of(site))
     if shutil.which("tidy"):
         said = subprocess.run(["tidy", "-q", "-e", path], capture_output=True, text=True).stderr
         checks.same(f"{name}: tidy", said, "")

@@ -2,7 +2,7 @@
 -- words of SQL, and so are quoted.
 create table sales (
     station text, ended bigint, cleared bigint, point bigint, "transaction" bigint, product bigint, price bigint,
-    volume bigint, amount bigint, till bigint, moment bigint
+    volume bigint, amount bigint, till bigint, moment bigint, off bigint
 );
 create table decisions (
     station text, entry bigint, moment bigint, till bigint, point bigint, kind text, asked bigint, slot bigint,

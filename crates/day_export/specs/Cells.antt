@@ -12,7 +12,7 @@ use Rattle.day_export.specs.declared.cells.Cell.TheVariants as cell
 abbrev pub columns : Rows → List (List ℕ)
 columns rows.Sales =
     codes "ended" ∷ codes "cleared" ∷ codes "point" ∷ codes "transaction" ∷ codes "product" ∷ codes "price" ∷ codes "volume"
-    ∷ codes "amount" ∷ codes "till" ∷ codes "moment" ∷ []
+    ∷ codes "amount" ∷ codes "till" ∷ codes "moment" ∷ codes "off" ∷ []
 columns rows.Decisions =
     codes "entry" ∷ codes "moment" ∷ codes "till" ∷ codes "point" ∷ codes "kind" ∷ codes "asked" ∷ codes "slot" ∷ codes "version"
     ∷ codes "r0" ∷ codes "answer" ∷ codes "granted" ∷ codes "context_till" ∷ codes "context_point" ∷ codes "context_kind"

@@ -1,38 +1,37 @@
 -- Definitions: the rows of a day. Each row has one cell for each column.
-use Rattle.std.specs.Prelude.{ℕ, Bool, true, false, List, [], ◌∷◌, map, Option, Some, None}
+use Rattle.std.specs.Prelude.{ℕ, ◌==◌, if◌then◌else◌, Bool, true, false, List, [], ◌∷◌, map, Option, Some, None}
 use Rattle.std.specs.List.{filter_map}
 use Rattle.decision_journal.specs.declared.entries.Entry.{Entry}
 use Rattle.day_report.specs.Decisions.{decision_of}
-use Rattle.day_report.specs.declared.sales.Delivery.{Delivery}
+use Rattle.day_report.specs.Sales.{off_by}
 use Rattle.day_report.specs.declared.sales.Sale.{Sale}
 use Rattle.day_export.specs.declared.cells.Rows.{Rows}
 use Rattle.day_export.specs.declared.cells.Rows.TheVariants as rows
 use Rattle.day_export.specs.declared.cells.Word.TheVariants as word
 use Rattle.day_export.specs.declared.cells.Cell.{Cell}
 use Rattle.day_export.specs.declared.cells.Cell.TheVariants as cell
-use Rattle.day_export.specs.Cells.{moment_cell}
+use Rattle.day_export.specs.Cells.{moment_cell, optional}
 use Rattle.day_export.specs.Acts.{act_cells, reply_cells, run_cells, field_cell}
 
 -- ---- the row of a sale
 
--- The cell of one field of a delivery, such as its price. The second argument takes this field from the delivery. The
--- cell is empty without a delivery.
-abbrev pub delivery_cell : Option Delivery → (Delivery → ℕ) → Cell
-delivery_cell None field = cell.Nothing
-delivery_cell (Some d) field = cell.Number (field d)
+-- The cell of a number that is known only with the sale's product; it is empty if the product isn't known.
+abbrev pub product_cell : Sale → ℕ → Cell
+product_cell sale n = if sale.product == 0 then cell.Nothing else cell.Number n
 
 abbrev pub sale_cells : Sale → List Cell
 sale_cells sale =
-    delivery_cell sale.delivery (λ d. d.number)
+    optional sale.ended
     ∷ cell.Number sale.number
     ∷ cell.Number sale.point
     ∷ cell.Number sale.transaction
-    ∷ delivery_cell sale.delivery (λ d. d.product)
-    ∷ delivery_cell sale.delivery (λ d. d.price)
+    ∷ product_cell sale sale.product
+    ∷ product_cell sale sale.price
     ∷ cell.Number sale.volume
     ∷ cell.Number sale.amount
     ∷ cell.Number sale.till
     ∷ moment_cell sale.moment
+    ∷ optional (off_by sale)
     ∷ []
 
 -- ---- the row of a decision

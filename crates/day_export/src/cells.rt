@@ -56,7 +56,7 @@ pub enum Cell {
 }
 
 /// The column names for rows of sales.
-const SALES: [&str; 10] = [
+const SALES: [&str; 11] = [
     "ended",
     "cleared",
     "point",
@@ -67,6 +67,7 @@ const SALES: [&str; 10] = [
     "amount",
     "till",
     "moment",
+    "off",
 ];
 
 /// The column names for rows of decisions.

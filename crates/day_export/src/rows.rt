@@ -1,39 +1,55 @@
 //! Makes the rows of sales, of decisions and of entries.
 
 ghost use Rattle.std.specs.Prelude.{◌≡◌, Some};
-ghost use Rattle.day_export.specs.Rows.{answer_cell, decision_cells, decision_row, event_row, sale_cells};
+ghost use Rattle.day_report.specs.Sales.{off_by};
+ghost use Rattle.day_export.specs.Cells.{optional};
+ghost use Rattle.day_export.specs.Rows.{answer_cell, decision_cells, decision_row, event_row, product_cell, sale_cells};
 
 use crate::acts::act_cells;
-use crate::cells::{Cell, Word, moment_cell, number};
+use crate::cells::{Cell, Word, moment_cell, number, optional};
 use crate::replies::reply_cells;
 use crate::runs::{field_cell, run_cells};
-use day_report::Sale;
 use day_report::rulings::decision_of;
+use day_report::{Sale, off_by};
 use decision_journal::Entry;
 
-/// Returns the row of a sale. Without a delivery the cells `ended`, `product` and `price` are `Nothing`.
-pub(crate) fn sale_cells(sale: &Sale) -> [Cell; 10]
+/// Returns a cell with the number `n`, or `Nothing` if the sale's product isn't known.
+fn product_cell(sale: &Sale, n: u32) -> Cell
+    ensures { result ≡ product_cell sale.now n }
+{
+    if sale.product == 0 {
+        Cell::Nothing
+    } else {
+        number(n)
+    }
+}
+
+/// Returns the cell by how many cents a sale is off, or `Nothing` if its product isn't known.
+fn off_cell(sale: &Sale) -> Cell
+    ensures { result ≡ optional (off_by sale.now) }
+{
+    match off_by(sale) {
+        None => Cell::Nothing,
+        Some(cents) => Cell::Number(cents),
+    }
+}
+
+/// Returns the row of a sale. Without a product the cells `product`, `price` and `off` are `Nothing`.
+pub(crate) fn sale_cells(sale: &Sale) -> [Cell; 11]
     ensures { result ≡ sale_cells sale.now }
 {
-    let (ended, product, price) = match sale.delivery {
-        None => (Cell::Nothing, Cell::Nothing, Cell::Nothing),
-        Some(delivery) => (
-            number(delivery.number),
-            number(delivery.product),
-            number(delivery.price),
-        ),
-    };
     [
-        ended,
+        optional(sale.ended),
         number(sale.number),
         number(sale.point),
         number(sale.transaction),
-        product,
-        price,
-        Cell::Number(sale.volume),
-        Cell::Number(sale.amount),
+        product_cell(sale, sale.product),
+        product_cell(sale, sale.price),
+        number(sale.volume),
+        number(sale.amount),
         number(sale.till),
         moment_cell(sale.moment),
+        off_cell(sale),
     ]
 }
 

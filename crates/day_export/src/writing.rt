@@ -125,6 +125,7 @@ pub fn write_rows<W: Write + Drop>(
     // proved: Where it is Ok, it wrote the text of the rows
     // proved: What was asked and what was granted have a cell each
     // proved: Each field of the context has its cell
+    // proved: How far a sale is off has its cell
     ensures text { IfOk result (λ after. Appends (W.contents out) (W.contents after)
         (rows_text rows format (sales_of day.now.site.config day.now.site.history) day.now.site.history)) }
     // proved: Where memory ran out, it wrote whole rows | full_disk_is_out_of_memory

@@ -9,6 +9,14 @@ pub(crate) fn digits(number: u32) -> Text {
     Text::Number(u64::from(number))
 }
 
+/// A product and its price; nothing if the product isn't known.
+pub(crate) fn product_texts(product: u32, price: u32) -> (Text, Text) {
+    if product == 0 {
+        return (NONE, NONE);
+    }
+    (digits(product), Text::Thousandths(u64::from(price)))
+}
+
 /// With commas between groups of three digits.
 pub(crate) fn thousands(number: u64) -> Text {
     Text::Thousands(u128::from(number))

@@ -4,7 +4,7 @@ use crate::builder::TextBuilder;
 use crate::checking::health;
 use crate::names::state_name;
 use crate::page::{add_figure, add_hours};
-use crate::parts::{ENTRIES, NONE, digits, hundredths, thousands};
+use crate::parts::{ENTRIES, NONE, digits, hundredths, product_texts, thousands};
 use crate::station::{DoorCounts, Health, RoleCounts, StationSnapshot};
 use crate::style::{HEAD, STYLE};
 use crate::tables::{BY_TILL, POINT_SALES, add_parts, add_row};
@@ -123,8 +123,11 @@ fn add_transaction(html: &mut TextBuilder, place: usize, transaction: Option<Tra
         0 => Text::Words("nobody"),
         till => digits(till),
     };
+    let (product, price) = product_texts(unpaid.product, unpaid.price);
     let cells = [
         digits(unpaid.number),
+        product,
+        price,
         hundredths(unpaid.amount),
         hundredths(unpaid.volume),
         holder,
@@ -134,7 +137,7 @@ fn add_transaction(html: &mut TextBuilder, place: usize, transaction: Option<Tra
 
 fn add_unpaid(html: &mut TextBuilder, points: &[Point]) {
     html.add(section!("unpaid" with title "Unpaid" and columns
-        "Point", "Transaction", "Money", "Litres", "Held by till"));
+        "Point", "Transaction", "Product", "Price", "Money", "Litres", "Held by till"));
     for (place, point) in points.iter().enumerate() {
         let [first, second] = point.transactions();
         add_transaction(html, place, first);

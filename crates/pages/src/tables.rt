@@ -1,6 +1,7 @@
 //! The tables of a page.
 use crate::builder::TextBuilder;
 use crate::names::state_name;
+use crate::parts::product_texts;
 use crate::texts::{Text, number, numbered};
 use day_report::{CarriedRule, Load, Outcome, PriceChange, Sum, Totals, Unpaid};
 use fuelling_point::Point;
@@ -110,8 +111,11 @@ fn add_transaction(html: &mut TextBuilder, unpaid: &Unpaid) {
         0 => Text::Words("nobody"),
         till => Text::Number(till as u64),
     };
+    let (product, price) = product_texts(unpaid.product, unpaid.price);
     let cells = [
         Text::Number(unpaid.number as u64),
+        product,
+        price,
         Text::Hundredths(unpaid.amount as u128),
         Text::Hundredths(unpaid.volume as u128),
         holder,
@@ -119,7 +123,10 @@ fn add_transaction(html: &mut TextBuilder, unpaid: &Unpaid) {
     add_row(html, number(unpaid.point), &cells);
 }
 
-const UNPAID: &str = head!("unpaid"; "Point", "Transaction", "Money", "Litres", "Held by till");
+const UNPAID: &str = head!(
+    "unpaid";
+    "Point", "Transaction", "Product", "Price", "Money", "Litres", "Held by till"
+);
 
 pub(crate) fn add_unpaid(html: &mut TextBuilder, unpaid: &[Unpaid]) {
     html.add(UNPAID);
