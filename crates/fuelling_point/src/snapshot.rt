@@ -39,13 +39,12 @@ impl Snapshot {
             && self.amount <= GREATEST
             && self.volume <= GREATEST
             && are_places(first, second, self.state)
-            && is_free_or_unpaid(first, self.last)
-            && is_free_or_unpaid(second, self.last)
+            && are_in_range(first, second, self.last)
     }
 }
 
 /// Whether these can be the older and the newer unpaid transaction in this state: no newer one; or both, numbered in
-/// order, with no delivery authorised or under way. Ranges are checked by `is_free_or_unpaid`.
+/// order, with no delivery authorised or under way. Ranges are checked by `are_in_range`.
 fn are_places(first: Option<Transaction>, second: Option<Transaction>, state: State) -> bool
     ensures { IsTrue result ↔ (AreValidPlaces first second (is_busy state) × IsOlder first second) }
 {
@@ -54,6 +53,12 @@ fn are_places(first: Option<Transaction>, second: Option<Transaction>, state: St
         (None, Some(_)) => false,
         (Some(older), Some(newer)) => !state.is_busy() && older.number < newer.number,
     }
+}
+
+fn are_in_range(first: Option<Transaction>, second: Option<Transaction>, last: u32) -> bool
+    ensures { IsTrue result ↔ (IsFreeOrUnpaid last first × IsFreeOrUnpaid last second) }
+{
+    is_free_or_unpaid(first, last) && is_free_or_unpaid(second, last)
 }
 
 /// Whether there is none, or its number is 1 to `last`, and product, cents and centilitres are in range.
