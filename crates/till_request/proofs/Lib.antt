@@ -2,6 +2,7 @@ pub mod Apart
 pub mod Counts
 pub mod Faults
 pub mod Fitting
+pub mod Looking
 pub mod Numerals
 pub mod OneSpelling
 pub mod Out

@@ -271,9 +271,13 @@ abbrev pub names_till : ℕ → Act → Bool
 names_till number (acts.Till till request) = till == number
 names_till number act = false
 
--- the act is a dispenser's event at a point p, from 1 to 32, for which bit p - 1 of `points` is set
+-- the point's number p is from 1 to 32, and bit p - 1 of `points` is set
+abbrev pub is_one_of : ℕ → ℕ → Bool
+is_one_of points point = nat_le 1 point && (nat_le point 32 && (points / 2 ^ (point - 1) % 2 == 1))
+
+-- the act is a dispenser's event at one of these points
 abbrev pub names_point : ℕ → Act → Bool
-names_point points (acts.Dispenser point event) = nat_le 1 point && (nat_le point 32 && (points / 2 ^ (point - 1) % 2 == 1))
+names_point points (acts.Dispenser point event) = is_one_of points point
 names_point points act = false
 
 -- For `OneTill`, the act is a request of the till that the role names. For `SomePoints`, the act is a dispenser's event

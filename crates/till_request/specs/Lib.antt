@@ -5,6 +5,7 @@ pub mod Devices
 pub mod Gives
 pub mod Grammar
 pub mod Line
+pub mod Looks
 pub mod Short
 pub mod Spelling
 pub mod Write
