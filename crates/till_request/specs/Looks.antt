@@ -18,7 +18,7 @@ use Rattle.till_request.specs.declared.look.Seen.{Seen}
 use Rattle.till_request.specs.declared.look.Seen.TheVariants as sees
 use Rattle.till_request.specs.declared.look.Sight.{Sight}
 use Rattle.till_request.specs.Answer.{reply_text}
-use Rattle.till_request.specs.Grammar.{◌>>=◌, act_of_line, act_of_words, is_one_of, is_some_word, line_read, number, words}
+use Rattle.till_request.specs.Grammar.{◌>>=◌, act_of_words, is_one_of, is_some_word, line_read, number, words}
 
 -- the first word is `look`
 abbrev pub is_look : List (List ℕ) → Bool

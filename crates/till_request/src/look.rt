@@ -1,5 +1,5 @@
 //! Parses the lines that look at the site and enter nothing, and writes the answers to them.
-ghost use Rattle.std.specs.Prelude.{◌≡◌, ◌++◌, Err, OnOk, codes, decimal, drop, map};
+ghost use Rattle.std.specs.Prelude.{◌≡◌, ◌≢◌, ◌++◌, Err, OnOk, codes, decimal, drop, map};
 ghost use Rattle.std.specs.List.{flat_map};
 ghost use Rattle.till_request.specs.Answer.{reply_text};
 ghost use Rattle.till_request.specs.Gives.{Gives};
@@ -73,7 +73,8 @@ fn is_look(words: &[&[u8]]) -> bool
 }
 
 fn look_of_word(word: &[u8]) -> Result<LookAt, LineFault>
-    ensures { result ≡ look_of_word word.now }
+    ensures value { result ≡ look_of_word word.now }
+    ensures memory { result ≢ Err LineFault.OutOfMemory }
 {
     if word == b"day".as_slice() {
         Ok(LookAt::Day)
@@ -91,7 +92,8 @@ fn look_of_word(word: &[u8]) -> Result<LookAt, LineFault>
 }
 
 fn look_of_point(word: &[u8], point: &[u8]) -> Result<LookAt, LineFault>
-    ensures { result ≡ look_of_point word.now point.now }
+    ensures value { result ≡ look_of_point word.now point.now }
+    ensures memory { result ≢ Err LineFault.OutOfMemory }
 {
     if point.is_empty() {
         Err(LineFault::BadLine)
@@ -106,7 +108,8 @@ fn look_of_point(word: &[u8], point: &[u8]) -> Result<LookAt, LineFault>
 
 /// What the words ask to see, of which the first, which isn't read, is `look`.
 fn look_behind_first(words: &[&[u8]]) -> Result<LookAt, LineFault>
-    ensures { result ≡ look_asked (drop 1 (map (λ w. w.now) words.now)) }
+    ensures value { result ≡ look_asked (drop 1 (map (λ w. w.now) words.now)) }
+    ensures memory { result ≢ Err LineFault.OutOfMemory }
 {
     match words {
         [_, word] => look_of_word(word),
@@ -130,7 +133,8 @@ fn look_within(role: Role, look: LookAt) -> bool
 }
 
 fn look_of_words(role: Role, words: &[&[u8]]) -> Result<Asked, LineFault>
-    ensures { result ≡ look_of_words role (map (λ w. w.now) words.now) }
+    ensures value { result ≡ look_of_words role (map (λ w. w.now) words.now) }
+    ensures memory { result ≢ Err LineFault.OutOfMemory }
 {
     let look = look_behind_first(words)?;
     if look_within(role, look) {
@@ -154,6 +158,7 @@ fn words_asked(alloc: Global, role: Role, words: &[&[u8]]) -> Result<Asked, Line
 }
 
 /// As `parse_asked`, of a line of any length.
+#[tactic(auto, using(crate::proofs::Looking::too_many))]
 fn asked_of_short(alloc: Global, role: Role, line: &[u8]) -> Result<Asked, LineFault>
     ensures given { Gives result (words_asked role (words_of line.now)) }
     ensures memory { result ≡ Err LineFault.OutOfMemory → IsLoad role (words_of line.now) }
@@ -168,9 +173,9 @@ fn asked_of_short(alloc: Global, role: Role, line: &[u8]) -> Result<Asked, LineF
 /// of a line that looks it is `BadLine` if the words behind `look` have no form, `BadNumber` if a point can't be read,
 /// and `BadLine` if the role may not see that.
 pub fn parse_asked(alloc: Global, role: Role, line: &[u8]) -> Result<Asked, LineFault>
-    // proved: It tells looks from acts, and who may look | look_of_other_points_is_taken
+    // proved: It reads looks by the grammar, each role's | look_of_other_points_is_taken
     ensures given { Gives result (line_asked role line.now) }
-    // proved: Only a load takes memory here too
+    // proved: No look takes memory to be read | a_look_of_77_bytes_is_out_of_memory
     ensures memory { result ≡ Err LineFault.OutOfMemory → IsLoad role (words_of line.now) }
 {
     if line.len() > LINE_BYTES {
@@ -181,7 +186,7 @@ pub fn parse_asked(alloc: Global, role: Role, line: &[u8]) -> Result<Asked, Line
 
 /// A law: a line asks for an act exactly if it is read as that act.
 pub fn acts_are_asked_as_read()
-    // proved: A line that looks is no act's, and each act is asked as it is read
+    // proved: Each act is read as if there were no looks
     ensures { AsksForActs }
 {}
 
@@ -294,7 +299,7 @@ fn put_seen(text: &mut Vec<u8>, seen: &Seen) -> Result<(), AllocError>
 
 /// Appends the line of an answer, with its LF. After an error a part of it may be there.
 pub fn put_sight(text: &mut Vec<u8>, sight: &Sight) -> Result<(), AllocError>
-    // proved: It writes a look's answer, each row in its place | row_is_left_out_of_a_look
+    // proved: It writes a look's one text | row_is_left_out_of_a_look
     ensures { OnOk result (text.new.items ≡ text.old.items ++ sight_line sight.now) }
 {
     put_number(text, u64::from(sight.entries))?;
