@@ -45,18 +45,22 @@ shown-last before programs p opened n is =
     let at : n - before - 1 ≡ length programs = omega arith in
     rw (at, slice_get-last programs p)
 
-pub installs : (before : ℕ) (opened : List (Option Version)) (installed : List (Option ℕ)) (programs : List ProgramText) (slot : ℕ) (p : ProgramText)
-    (number : ℕ) → number ≡ before + length programs + 1 → slot < length installed → All (IsVersion before (length programs)) installed
-    → Installs (record { before = before; opened = opened; installed = installed; programs = programs }) slot p number
-    (record { before = before; opened = opened; installed = slice_set installed slot (Some number); programs = programs ++ p ∷ [] })
-installs before opened installed programs slot p number is lt all = record {
+pub installs : (before : ℕ) (opened : List (Option Version)) (installed : List (Option ℕ)) (since : List ℕ) (programs : List ProgramText) (slot : ℕ)
+    (p : ProgramText) (entry number : ℕ) → number ≡ before + length programs + 1 → slot < length installed → slot < length since
+    → All (IsVersion before (length programs)) installed
+    → Installs (record { before = before; opened = opened; installed = installed; since = since; programs = programs }) slot p entry number
+    (record { before = before; opened = opened; installed = slice_set installed slot (Some number); since = slice_set since slot entry; programs = programs ++ p ∷ [] })
+installs before opened installed since programs slot p entry number is lt entry_lt all = record {
   number_is = is;
   programs_are = refl;
   installed_is = refl;
+  since_is = refl;
   before_is = refl;
   opened_is = refl;
   in_slot = (λ i. shown before (programs ++ p ∷ []) (get_or opened slot None) (get_or-set_same installed slot (Some number) None lt i))
       ∙ shown-last before programs p (get_or opened slot None) number is;
   elsewhere = λ other differ. (λ i. shown before (programs ++ p ∷ []) (get_or opened other None) (get_or-set_other installed slot other (Some number) None differ i))
       ∙ shown-earlier before programs p (get_or opened other None) (get_or installed other None) (at_or (IsVersion before (length programs)) installed other None tt all);
+  since_slot = get_or-set_same since slot entry 0 entry_lt;
+  since_elsewhere = λ other differ. get_or-set_other since slot other entry 0 differ;
 }

@@ -7,6 +7,7 @@ pub mod Written
 pub mod SiteInvariant
 pub mod Running
 pub mod Shown
+pub mod Sights
 pub mod Complete
 pub mod Grants
 pub mod Filling

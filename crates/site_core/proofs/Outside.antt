@@ -24,7 +24,7 @@ use Rattle.site_core.specs.declared.question.RequestAction.TheVariants as action
 use Rattle.site_core.specs.Limits.{ConfigValue}
 use Rattle.site_core.specs.State.{SiteState, at_number, price_of, view_of}
 use Rattle.site_core.specs.Context.{context}
-use Rattle.site_core.specs.History.{loaded, in_force, versions}
+use Rattle.site_core.specs.History.{loaded, loaded_at, in_force, versions}
 use Rattle.site_core.specs.Decide.{Effect, replied, no_such_till, is_decided, is_till, decided, verdict, run_result, grant}
 use Rattle.site_core.specs.Decide.{request_action, admitted, question_in, question_of, asked_question}
 use Rattle.site_core.specs.Step.{effect, effect_of, asked, till_command_effect, command_effect}
@@ -68,6 +68,7 @@ agrees-till config slots past entry till r a is =
     let none : loaded entry.act entry.reply ≡ None = ap (λ x. loaded x entry.reply) is in
     record {
       in_force = λ slot. rw (none, in_force) (a.in_force slot);
+      since = λ slot. rw (none, loaded_at) (a.since slot);
       before = a.before;
       versions = rw (none, versions) a.versions;
     }
@@ -96,7 +97,7 @@ performs-applied_answer config past s new slots draft q r0 after entry moment_is
           effect-decided config past s draft.till draft.moment draft.request q still.asked
           ∙ decided-ended config past s draft.till draft.moment q draft.version r0 after (agrees.in_force q.slot ∙ still.version_is) ended
           ∙ applied_answer;
-      agrees = λ other is replied_is. agrees-till config slots past other draft.till draft.request agrees (is ∙ act_is);
+      agrees = λ other is replied_is numbered. agrees-till config slots past other draft.till draft.request agrees (is ∙ act_is);
       accepted = ap load_refusal act_is;
       good = subst GoodLoad (sym act_is) tt;
     }

@@ -1,5 +1,5 @@
--- Definitions: how many versions a history has loaded, and which version is in force in a slot after it. In these
--- definitions a history has its newest entry first.
+-- Definitions: how many versions a history has loaded, which version is in force in a slot after it, and since which
+-- entry. In these definitions a history has its newest entry first.
 use Rattle.std.specs.Prelude.{ℕ, ◌+◌, List, [], ◌∷◌, Option, Some, None, ◌==◌, if◌then◌else◌, slice_index_or}
 use Rattle.decision_journal.specs.declared.entries.Entry.{Entry}
 use Rattle.till_request.specs.declared.act.Act.{Act}
@@ -39,4 +39,14 @@ in_force config slot (entry ∷ earlier) =
       | Some l ↦ if l.0 == slot then Some (record { number = versions_before config + versions earlier + 1; program = l.1 })
           else in_force config slot earlier
       | None ↦ in_force config slot earlier
+    ]
+
+-- The number of the entry that loaded the version in force in a slot. 0 if no load in this history did: then the version
+-- is that of the opening, if any.
+abbrev pub loaded_at : ℕ → List Entry → ℕ
+loaded_at slot [] = 0
+loaded_at slot (entry ∷ earlier) =
+    elim (loaded entry.act entry.reply) [
+      | Some l ↦ if l.0 == slot then entry.number else loaded_at slot earlier
+      | None ↦ loaded_at slot earlier
     ]

@@ -25,6 +25,8 @@ pub mod Differences
 pub mod Asked
 pub mod Outside
 pub mod Days
+pub mod Sights
+pub mod SightRooms
 pub mod Heads
 pub mod Replays
 pub mod Steps

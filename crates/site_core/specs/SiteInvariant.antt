@@ -10,21 +10,22 @@ use Rattle.bpf_model.specs.Machine.{Counters}
 use Rattle.site_core.specs.declared.question.Question.{Question}
 use Rattle.site_core.specs.Decide.{denied, grant}
 use Rattle.site_core.specs.SlotsValue.{SlotsValue}
-use Rattle.site_core.specs.Slots.{version_in, no_versions, opened_slots}
+use Rattle.site_core.specs.Slots.{version_in, since_in, no_versions, opened_slots}
 use Rattle.bpf_model.specs.Program.{ProgramText}
 use Rattle.site_core.specs.Limits.{ConfigValue}
 use Rattle.site_core.specs.State.{SiteState}
 use Rattle.site_core.specs.Bounds.{Bounded}
-use Rattle.site_core.specs.History.{in_force, versions, versions_before}
+use Rattle.site_core.specs.History.{in_force, loaded_at, versions, versions_before}
 use Rattle.site_core.specs.Step.{effect, entered_moment, load_reply}
 use Rattle.site_core.specs.Legal.{Legal, GoodLoad, GoodLoads}
 use Rattle.site_core.specs.Histories.{load_refusal, AcceptedLoads}
 use Rattle.decision_journal.specs.Journal.{IsWritable}
 
--- The slots have the versions of the opening and those that the history has loaded. The history has its newest entry
--- first.
+-- The slots have the versions of the opening and those that the history has loaded, each with the number of the entry
+-- that loaded it. The history has its newest entry first.
 pub record Agrees (config : ConfigValue) (slots : SlotsValue) (past : List Entry) : Type 0 where
   pub in_force : (slot : ℕ) → in_force config slot past ≡ version_in slots slot
+  pub since : (slot : ℕ) → loaded_at slot past ≡ since_in slots slot
   pub before : versions_before config ≡ slots.before
   pub versions : versions past ≡ length slots.programs
 
@@ -48,23 +49,24 @@ pub record IsConsistent (config : ConfigValue) (history : List Entry) (state : S
 
 -- An act was performed as `effect` defines, on the state `old` after the entries `past`. The entry p has the act, the
 -- moment that `entered_moment` gives, and the reply and the run of the effect. `new` is the state after the effect. The
--- slots have the versions that are in force after `past` and one more entry (`Agrees`), if this entry has the act and
--- the reply of p. If the act is a load, the verifier accepts its program, and the program is good.
+-- slots have the versions that are in force after `past` and one more entry (`Agrees`), if this entry has the act, the
+-- reply and the number of p. If the act is a load, the verifier accepts its program, and the program is good.
 pub record Performs (config : ConfigValue) (past : List Entry) (old : SiteState) (moment : ℕ) (act : Act) (p : Entry) (new : SiteState)
     (slots : SlotsValue) : Type 0 where
   pub act_is : p.act ≡ act
   pub moment_is : p.moment ≡ entered_moment act moment
   pub effect_is : effect config past old moment act ≡ record { reply = p.reply; run = p.run; after = new }
-  pub agrees : (entry : Entry) → entry.act ≡ p.act → entry.reply ≡ p.reply → Agrees config slots (entry ∷ past)
+  pub agrees : (entry : Entry) → entry.act ≡ p.act → entry.reply ≡ p.reply → entry.number ≡ p.number → Agrees config slots (entry ∷ past)
   pub accepted : load_refusal p.act ≡ None
   pub good : GoodLoad p.act
 
--- A load was answered as `load_reply` defines. The slots `new` have the versions that are in force after `past` and the
--- load's entry (`Agrees`).
-pub record Loads (config : ConfigValue) (slot : ℕ) (program : ProgramText) (past : List Entry) (reply : Reply) (new : SlotsValue) : Type 0 where
+-- A load, whose entry has this number, was answered as `load_reply` defines. The slots `new` have the versions that are
+-- in force after `past` and the load's entry (`Agrees`).
+pub record Loads (config : ConfigValue) (slot : ℕ) (program : ProgramText) (past : List Entry) (number : ℕ) (reply : Reply) (new : SlotsValue)
+    : Type 0 where
   pub reply_is : load_reply config slot past ≡ reply
   pub agrees : (entry : Entry) → entry.act ≡ act.Load slot program.declared program.layout program.bytes → entry.reply ≡ reply
-      → Agrees config new (entry ∷ past)
+      → entry.number ≡ number → Agrees config new (entry ∷ past)
 
 abbrev pub with_counters : SiteState → Counters → SiteState
 with_counters s counters = record s { counters = counters }

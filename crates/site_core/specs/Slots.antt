@@ -1,6 +1,6 @@
 -- Definitions: which version is in a slot. There are 16 slots, 0 to 15, and versions are numbered from 1 over all slots
 -- (source: this project).
-use Rattle.std.specs.Prelude.{◌≡◌, ◌≤◌, ℕ, ◌-◌, ◌==◌, nat_lt, if◌then◌else◌, List, [], ◌∷◌, slice_get, slice_index_or, Option, option_map, Some, None}
+use Rattle.std.specs.Prelude.{◌≡◌, ◌≤◌, ℕ, ◌-◌, ◌==◌, nat_lt, if◌then◌else◌, List, [], ◌∷◌, slice_get, slice_index, slice_index_or, Option, option_map, Some, None}
 use Rattle.std.specs.List.{repeat}
 use Rattle.bpf_model.specs.Program.{ProgramText, IsGood}
 use Rattle.verifier.specs.RefusedPrograms.{refusal_of}
@@ -14,7 +14,13 @@ IsRule versions (Some v) = (1 ≤ v.number) × (v.number ≤ versions) × IsGood
 
 -- The value of slots that begin with the versions `opened`, after `before` versions were made.
 abbrev pub opened_slots : ℕ → List (Option Version) → SlotsValue
-opened_slots before opened = record { before = before; opened = opened; installed = repeat 16 (None ∷ []); programs = [] }
+opened_slots before opened = record {
+  before = before;
+  opened = opened;
+  installed = repeat 16 (None ∷ []);
+  since = repeat 16 (0 ∷ []);
+  programs = [];
+}
 
 abbrev pub no_versions : SlotsValue
 no_versions = opened_slots 0 []
@@ -36,6 +42,11 @@ version_in v slot =
 -- The number of the version in a slot; None for an empty slot.
 abbrev pub number_in : SlotsValue → ℕ → Option ℕ
 number_in v slot = option_map (λ (w : Version). w.number) (version_in v slot)
+
+-- The number of the entry that installed the version in a slot; 0 if the slot has the version that it began with, or
+-- none.
+abbrev pub since_in : SlotsValue → ℕ → ℕ
+since_in v slot = slice_index v.since slot
 
 -- The program of the first of these versions that has this number; None if none has it.
 abbrev pub program_among : List (Option Version) → ℕ → Option ProgramText

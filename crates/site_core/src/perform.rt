@@ -69,7 +69,7 @@ pub fn perform(
         What::Load { slot, program } => {
             let bytes = Bytes::from_slice(alloc, program.bytes())?;
             let (mask, layout) = (program.declared(), program.layout());
-            let reply = load(slots, slot, program)?;
+            let reply = load(slots, slot, program, number)?;
             let act = Act::Load {
                 slot,
                 mask,
@@ -102,14 +102,20 @@ pub fn entry_without_run(number: u32, pass: u32, act: Act, reply: Reply) -> Entr
     }
 }
 
-fn load(slots: &mut Slots, slot: u32, program: Arc<Program>) -> Result<Reply, AllocError>
+// `number` is that of the load's entry.
+fn load(
+    slots: &mut Slots,
+    slot: u32,
+    program: Arc<Program>,
+    number: u32,
+) -> Result<Reply, AllocError>
     ensures reply { IfOk result (λ reply. (config : ConfigValue) (past : List Entry) → Agrees config slots.old past
-        → Loads config slot (arc_value program) past reply slots.new) }
+        → Loads config slot (arc_value program) past number reply slots.new) }
     ensures unchanged { OnErr result (slots.new ≡ slots.old) }
     ensures memory { OnErr result ((slot < 16) × (length slots.old.programs < 4096)) }
 {
-    match slots.install(slot, program) {
-        Ok(number) => Ok(Reply::Version(number)),
+    match slots.install(slot, program, number) {
+        Ok(version) => Ok(Reply::Version(version)),
         Err(SlotFault::NoSuchSlot) => Ok(NO_SUCH_SLOT),
         Err(SlotFault::VersionsFull) => Ok(VERSIONS_FULL),
         Err(SlotFault::OutOfMemory) => Err(AllocError),

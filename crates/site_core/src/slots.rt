@@ -5,7 +5,7 @@ ghost use Rattle.std.specs.Prelude.{◌≡◌, ℕ, ◌+◌, ◌≤◌, length, 
 ghost use Rattle.std.specs.Prelude.{MatchOption, OnErr, IfOk, IsOk};
 ghost use Rattle.std.specs.List.{range_with_len};
 ghost use Rattle.std.specs.Arc.{arc_value};
-ghost use Rattle.site_core.specs.Slots.{IsRule, no_versions, opened_slots, version_in, number_in, program_of};
+ghost use Rattle.site_core.specs.Slots.{IsRule, no_versions, opened_slots, version_in, number_in, since_in, program_of};
 ghost use Rattle.site_core.specs.Slots.{program_among};
 ghost use Rattle.site_core.specs.Installing.{Installs, Refuses};
 
@@ -39,6 +39,8 @@ pub struct Slots {
     opened: Vec<Option<Version>>,
     /// For each slot, the number of the version that was installed there last.
     installed: [Option<u32>; 16],
+    /// For each slot, the number of the entry that installed this version, or 0.
+    since: [u32; 16],
     programs: Vec<Arc<Program>>,
 }
 
@@ -74,14 +76,22 @@ impl Slots {
             before,
             opened,
             installed: [None; 16],
+            since: [0; 16],
             programs: Vec::new(alloc),
         }
     }
 
-    /// Installs a program as a new version, and returns its number. After an error the program is dropped.
-    pub fn install(&mut self, slot: u32, program: Arc<Program>) -> Result<u32, SlotFault>
+    /// Installs a program as a new version, and returns its number. `entry` is the number of the load's entry. After an
+    /// error the program is dropped.
+    pub fn install(
+        &mut self,
+        slot: u32,
+        program: Arc<Program>,
+        entry: u32,
+    ) -> Result<u32, SlotFault>
         // proved step, refusal, unchanged: Versions are appended | number_is_used_again
-        ensures step { IfOk result (λ number. Installs self.old slot (arc_value program) number self.new) }
+        ensures step { IfOk result
+            (λ number. Installs self.old slot (arc_value program) entry number self.new) }
         ensures refusal { Refuses self.old slot result }
         ensures unchanged { OnErr result (self.new ≡ self.old) }
     {
@@ -96,6 +106,7 @@ impl Slots {
         }
         let number = self.before + self.programs.len() as u32;
         self.installed[slot as usize] = Some(number);
+        self.since[slot as usize] = entry;
         Ok(number)
     }
 
@@ -117,6 +128,18 @@ impl Slots {
     {
         let (number, _program) = self.in_slot(slot)?;
         Some(number)
+    }
+
+    /// Returns the number of the entry that installed the version in a slot; 0 if the slot has the version of the
+    /// beginning, or none.
+    pub fn since(&self, slot: u32) -> u32
+        // proved: It tells which entry loaded the version in a slot | entry_of_a_load_is_lost
+        ensures { result ≡ since_in self.now slot }
+    {
+        match self.since.get(slot as usize) {
+            Some(entry) => *entry,
+            None => 0,
+        }
     }
 
     /// Returns the program of a version that was installed in these slots, or that a slot began with.

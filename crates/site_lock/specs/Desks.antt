@@ -1,5 +1,5 @@
 -- Definitions: the answers of a desk over a forecourt and a pass (source: this project).
-use Rattle.std.specs.Prelude.{◌≡◌, ℕ, ◌≤◌, length, true, Option, Some, None, Result, Ok, Err}
+use Rattle.std.specs.Prelude.{◌≡◌, ℕ, ◌≤◌, List, length, true, Option, Some, None, Result, Ok, Err}
 use Rattle.verifier.specs.declared.refusal.Refusal.{Refusal}
 use Rattle.verifier.specs.Refusals.{refusal_numbers}
 use Rattle.verifier.specs.RefusedPrograms.{IsRefusal}
@@ -8,6 +8,9 @@ use Rattle.till_request.specs.declared.act.Act.TheVariants.{Till, Dispenser, Loa
 use Rattle.till_request.specs.declared.act.Reply.{Reply}
 use Rattle.till_request.specs.declared.act.Answer.{Answer}
 use Rattle.till_request.specs.declared.act.Answer.TheVariants.{Entered, JournalFull, OutOfMemory, Line, Program, JournalFailed}
+use Rattle.till_request.specs.declared.look.LookAt.{LookAt}
+use Rattle.till_request.specs.declared.look.Sight.{Sight}
+use Rattle.till_request.specs.Looks.{sight_line}
 use Rattle.site_core.specs.declared.events.Answered.{Answered}
 use Rattle.site_core.specs.declared.events.CallFault.TheVariants as fault
 use Rattle.site_lock.specs.declared.enter_fault.EnterFault.{EnterFault}
@@ -18,7 +21,8 @@ use Rattle.site_core.specs.Limits.{ConfigValue}
 use Rattle.site_core.specs.Step.{entered_moment}
 use Rattle.site_core.specs.Audit.{IsGoodAct, IsRefusedAct}
 use Rattle.site_core.specs.Histories.{load_refusal}
-use Rattle.site_lock.specs.Passes.{PassView}
+use Rattle.site_lock.specs.Passes.{Opened, PassView}
+use Rattle.site_lock.specs.Looks.{IsSight}
 use Rattle.site_lock.specs.Calls.{Gains, FitsIn, RoseWithin, pass_after}
 use Rattle.site_lock.specs.Decisions.{DecidedBy}
 
@@ -77,6 +81,19 @@ DeskDecides makes config pass moment before now OutOfMemory act = Unit {0}
 DeskDecides makes config pass moment before now (Line fault) act = Unit {0}
 DeskDecides makes config pass moment before now (Program number unit part) act = Unit {0}
 DeskDecides makes config pass moment before now JournalFailed act = Unit {0}
+
+-- What a look of this day leads to. The pass is unchanged. `Ok`: the text is the line of an answer that shows the
+-- forecourt at one moment (`IsSight`). A look is refused with `JournalFailed` only if the journal can fail, and else
+-- only with `OutOfMemory`.
+abbrev pub DeskLooks : Opened → Type 0 → ℕ → PassView → PassView → LookAt → Result (List ℕ) Answer → Type 0
+DeskLooks f may_fail day before now look (Ok text) =
+    (now ≡ before) × (sight : Sight) × IsSight f may_fail (length before.receipts) day look sight × (text ≡ sight_line sight)
+DeskLooks f may_fail day before now look (Err OutOfMemory) = now ≡ before
+DeskLooks f may_fail day before now look (Err JournalFailed) = (now ≡ before) × may_fail
+DeskLooks f may_fail day before now look (Err JournalFull) = ⊥
+DeskLooks f may_fail day before now look (Err (Entered number reply)) = ⊥
+DeskLooks f may_fail day before now look (Err (Line fault)) = ⊥
+DeskLooks f may_fail day before now look (Err (Program number unit part)) = ⊥
 
 -- the desk's answer for the result of a call
 abbrev pub answer_of_call : Result Answered EnterFault → Answer

@@ -1,5 +1,6 @@
 //! A desk that calls a forecourt with a pass.
-ghost use Rattle.std.specs.Prelude.{◌≡◌, ℕ};
+ghost use Rattle.std.specs.Prelude.{◌≡◌, ◌++◌, ◌⊎◌, ℕ, Err, IfErr, IfOk, IsOk, OnOk};
+ghost use Rattle.till_request.specs.Looks.{sight_line};
 ghost use Rattle.till_request.specs.declared.act.Act.{Act};
 ghost use Rattle.verifier.specs.RefusedPrograms.{IsRefusal};
 ghost use Rattle.site_core.specs.Audit.{IsRefusedAct};
@@ -18,11 +19,12 @@ use site_core::auditing::event_of;
 use site_core::{Answered, CallFault};
 use std::alloc::Global;
 use std::sync::Wait;
-use till_request::{Act, Answer};
+use till_request::look::put_sight;
+use till_request::{Act, Answer, LookAt, Sight};
 use verifier::Refusal;
 
 /// Calls a forecourt with one pass and one gate. A load's program is verified before the lock is taken; where it is
-/// refused, no event reaches the forecourt.
+/// refused, no event reaches the forecourt. Looks tell `day`, from 1, as the number of the day.
 ///
 /// Once the journal has failed, an event is answered with `JournalFailed`, or with `OutOfMemory` if memory runs out
 /// before the lock is taken. No line is written for `JournalFailed`, and the session ends.
@@ -33,6 +35,7 @@ pub struct PassDesk<'a, L: SiteLedger, R: Wait, G: Gate + Drop, J: Journal = NoJ
     forecourt: &'a Forecourt<L, J>,
     pass: Pass<L>,
     gate: G,
+    day: u32,
 }
 
 impl<'a, L: SiteLedger, R: Wait, G: Gate + Drop, J: Journal> PassDesk<'a, L, R, G, J> {
@@ -42,9 +45,11 @@ impl<'a, L: SiteLedger, R: Wait, G: Gate + Drop, J: Journal> PassDesk<'a, L, R, 
         forecourt: &'a Forecourt<L, J>,
         pass: Pass<L>,
         gate: G,
+        day: u32,
     ) -> PassDesk<'a, L, R, G, J>
         ensures pass { result.pass ≡ pass }
         ensures gate { result.gate ≡ gate }
+        ensures day { result.day ≡ day }
     {
         PassDesk {
             rt,
@@ -52,6 +57,7 @@ impl<'a, L: SiteLedger, R: Wait, G: Gate + Drop, J: Journal> PassDesk<'a, L, R, 
             forecourt,
             pass,
             gate,
+            day,
         }
     }
 
@@ -65,13 +71,21 @@ impl<'a, L: SiteLedger, R: Wait, G: Gate + Drop, J: Journal> PassDesk<'a, L, R, 
 
 impl<L: SiteLedger, R: Wait, G: Gate + Drop, J: Journal> Desk for PassDesk<'_, L, R, G, J> {
     ghost use Rattle.site_lock.specs.Calls.{RoseWithin};
-    ghost use Rattle.site_lock.specs.Desks.{DeskAnswers, DeskDecides, CallsGate};
+    ghost use Rattle.std.specs.Prelude.{◌≡◌};
+    ghost use Rattle.site_lock.specs.Desks.{DeskAnswers, DeskDecides, DeskLooks, CallsGate};
 
     ghost step = { λ desk act moment answer after. DeskAnswers L.config J.may_fail desk.pass
         after.pass act moment answer
         × RoseWithin 0 2 (G.calls desk.gate) (G.calls after.gate)
         × CallsGate (G.calls desk.gate) (G.calls after.gate) answer act
-        × DeskDecides G.makes L.config desk.pass.id moment desk.gate after.gate answer act };
+        × DeskDecides G.makes L.config desk.pass.id moment desk.gate after.gate answer act
+        × (after.day ≡ desk.day) };
+
+    ghost looks = { λ desk look _ answer after. DeskLooks
+        (record { config = L.config; passes = L.parts; base = L.base; taken = L.taken }) J.may_fail desk.day desk.pass
+        after.pass look answer
+        × (after.day ≡ desk.day)
+        × (after.gate ≡ desk.gate) };
 
     fn answer(&mut self, act: Act, moment: u64) -> Answer {
         let (rt, alloc, forecourt) = (self.rt, self.alloc, self.forecourt);
@@ -91,6 +105,15 @@ impl<L: SiteLedger, R: Wait, G: Gate + Drop, J: Journal> Desk for PassDesk<'_, L
             },
         }
     }
+
+    fn look(&mut self, look: LookAt, _moment: u64, text: &mut Vec<u8>) -> Result<(), Answer> {
+        // Tells the prover that the ledger names the forecourt's configuration and its first history.
+        let _ = self.forecourt.config();
+        text.clear();
+        let (rt, pass) = (self.rt, &mut self.pass);
+        let seen = self.forecourt.sight(rt, pass, look, self.day);
+        put_seen(text, seen)
+    }
 }
 
 fn answer_of(called: Result<Answered, EnterFault>) -> Answer
@@ -104,6 +127,25 @@ fn answer_of(called: Result<Answered, EnterFault>) -> Answer
         Err(EnterFault::Call(CallFault::JournalFull)) => Answer::JournalFull,
         Err(EnterFault::Call(CallFault::OutOfMemory)) => Answer::OutOfMemory,
         Err(EnterFault::Journal) => Answer::JournalFailed,
+    }
+}
+
+// Appends the line of a look's answer. A look that failed, or that memory ran out for, is answered in its place.
+fn put_seen(text: &mut Vec<u8>, seen: Result<Sight, EnterFault>) -> Result<(), Answer>
+    requires { IfErr seen (λ fault. (fault ≡ EnterFault.Journal) ⊎ (fault ≡ EnterFault.Call CallFault.OutOfMemory)) }
+    ensures ok { OnOk result (IfOk seen (λ sight. text.new.items ≡ text.old.items ++ sight_line sight)) }
+    ensures seen { OnOk result (IsOk seen) }
+    ensures err { IfErr result
+        (λ a. (a ≡ Answer.OutOfMemory) ⊎ ((a ≡ Answer.JournalFailed) × (seen ≡ Err EnterFault.Journal))) }
+{
+    let sight = match seen {
+        Ok(sight) => sight,
+        Err(EnterFault::Call(_)) => return Err(Answer::OutOfMemory),
+        Err(EnterFault::Journal) => return Err(Answer::JournalFailed),
+    };
+    match put_sight(text, &sight) {
+        Ok(()) => Ok(()),
+        Err(_) => Err(Answer::OutOfMemory),
     }
 }
 

@@ -1,5 +1,6 @@
 //! Passes: the rights of callers to call a forecourt, with the receipts of what they were answered.
 ghost use Rattle.std.specs.Prelude.{◌≡◌, ◌+◌, ◌<◌, ◌≤◌, length, [], None, false};
+ghost use Rattle.site_core.specs.declared.site.TheConstants.{ENTRIES};
 ghost use Rattle.site_lock.specs.Calls.{count_after};
 
 use super::enter_fault::EnterFault;
@@ -50,7 +51,8 @@ pub struct Receipt {
 /// number counts both.
 pub(super) const FULL_MARK: u64 = u64::MAX;
 
-/// A pass's answered calls, and whether one was answered that the history is full. It takes no bytes.
+/// A pass's answered calls, and whether one was answered that the history is full. It takes no bytes. The calls are no
+/// more than the history has room for behind its first `base` entries.
 #[derive(Drop)]
 pub(super) struct CallCount<L: SiteLedger> {
     pub(super) share: Share<L>,
@@ -59,7 +61,8 @@ pub(super) struct CallCount<L: SiteLedger> {
 }
 
 impl<L: SiteLedger> Model for CallCount<L> {
-    ghost use Rattle.std.specs.Prelude.{◌≡◌, ◌==◌, ◌≤◌, true};
+    ghost use Rattle.std.specs.Prelude.{◌≡◌, ◌==◌, ◌+◌, ◌<◌, ◌≤◌, length, true};
+    ghost use Rattle.site_core.specs.declared.site.TheConstants.{ENTRIES};
     ghost use Rattle.site_lock.specs.declared.pass.TheConstants.{FULL_MARK};
     ghost use Rattle.site_lock.specs.Passes.{CountView, calls_in};
 
@@ -67,7 +70,8 @@ impl<L: SiteLedger> Model for CallCount<L> {
 
     ghost view = { λ c. record { amount = calls_in c.share.amount; was_full = c.told_full.parts == 1 } };
 
-    ghost invariant = { λ c. (c.share.parts ≡ 1) × ((c.told_full.parts == 1) ≡ true → FULL_MARK ≤ c.share.amount) };
+    ghost invariant = { λ c. (c.share.parts ≡ 1) × ((c.told_full.parts == 1) ≡ true → FULL_MARK ≤ c.share.amount)
+        × (0 < calls_in c.share.amount → length L.base + calls_in c.share.amount ≤ ENTRIES) };
 }
 
 impl<L: SiteLedger> CallCount<L> {
@@ -82,13 +86,25 @@ impl<L: SiteLedger> CallCount<L> {
     }
 
     pub(super) fn add(&mut self, calls: &mut Book<L>)
-        requires { calls.old.total + 1 < FULL_MARK }
+        requires unmarked { calls.old.total + 1 < FULL_MARK }
+        requires room { length L.base + calls.old.total < ENTRIES }
         ensures total { calls.new.total ≡ calls.old.total + 1 }
         ensures amount { self.new.amount ≡ self.old.amount + 1 }
         ensures was_full { self.new.was_full ≡ self.old.was_full }
         ensures bound { self.new.amount ≤ calls.new.total }
     {
         calls.add(&mut self.share, 1);
+        calls.audit(&mut self.share);
+    }
+
+    /// Changes nothing. A law: the calls of this caller are among all of them, which are known as long as nobody was
+    /// told that the history is full, and the history has room for them.
+    pub(super) fn audit(&mut self, calls: &mut Book<L>)
+        ensures same { self.new ≡ self.old }
+        ensures total { calls.new.total ≡ calls.old.total }
+        ensures bound { calls.old.total < FULL_MARK → self.old.amount ≤ calls.old.total }
+        ensures room { 0 < self.old.amount → length L.base + self.old.amount ≤ ENTRIES }
+    {
         calls.audit(&mut self.share);
     }
 

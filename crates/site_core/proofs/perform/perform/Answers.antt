@@ -15,13 +15,14 @@ returns-in_ok-reply-in-Load-clause-performed c = λ past agrees.
     let entry = c.entry_without_run-in-Load.result in
     let act_is : entry.act ≡ act.Load c.in-Load.slot p.declared p.layout p.bytes = grind (arith, common_steps) in
     let reply_is : entry.reply ≡ c.in_ok-reply-in-Load.reply = grind (arith, common_steps) in
+    let number_is : entry.number ≡ c.args.number = grind (arith, common_steps) in
     let accepted : refusal_of p ≡ None = rw c.deref.ensures at c.bytes.ensures.accepted in
     let good : IsGood p = rw c.deref.ensures at c.bytes.ensures.good in
     record {
       act_is = grind (arith, common_steps);
       moment_is = grind (arith, common_steps);
       effect_is = grind (arith, common_steps, l.reply_is);
-      agrees = λ other same answered. l.agrees other (same ∙ act_is) (answered ∙ reply_is);
+      agrees = λ other same answered numbered. l.agrees other (same ∙ act_is) (answered ∙ reply_is) (numbered ∙ number_is);
       accepted = subst (λ a. load_refusal a ≡ None) (sym act_is) accepted;
       good = subst GoodLoad (sym act_is) good;
     }

@@ -15,5 +15,6 @@ returns-clause-step c =
     let count : length (map (λ x. arc_value x) old) ≡ length old = length-map old (λ x. arc_value x) in
     let number : s.before + c.len-2.result ≡ s.before + length (map (λ x. arc_value x) old) + 1 = rw count (grind (arith, common_steps)) in
     let at : c.args.slot < length s.installed = grind (arith, common_steps) in
-    rw (← c.self.view_is, programs) (installs s.before s.opened.items s.installed (map (λ x. arc_value x) old) c.args.slot (arc_value c.args.program)
-    (s.before + c.len-2.result) number at (rw count c.self.invariant.named))
+    let entry_at : c.args.slot < length s.since = grind (arith, common_steps) in
+    rw (← c.self.view_is, programs) (installs s.before s.opened.items s.installed s.since (map (λ x. arc_value x) old) c.args.slot (arc_value c.args.program)
+    c.args.entry (s.before + c.len-2.result) number at entry_at (rw count c.self.invariant.named))

@@ -40,6 +40,7 @@ returns-in-Ok g c =
       subst (DeskDecides g.G.Gate.makes g.L.SiteLedger.config c.args.self.now.pass.id c.args.moment c.args.self.now.gate c.args.self.now.gate c.answer_of-in-Ok.result)
           (sym l.is) (load_decides g.G.Gate.makes g.L.SiteLedger.config c.args.self.now.pass.id c.args.moment l.slot l.mask l.layout l.bytes
           c.args.self.now.gate c.answer_of-in-Ok.result),
+      refl,
     )
 
 pub returns-in-Err : goal.returns-in-Err
@@ -50,4 +51,5 @@ returns-in-Err g c =
       rose_none calls,
       c.refused.ensures.asks calls c.args.act,
       c.refused.ensures.decides g.L.SiteLedger.config c.args.self.now.pass.id c.args.moment c.args.self.now.gate c.args.act,
+      refl,
     )
