@@ -75,7 +75,7 @@ fn seen_at<L: SiteLedger, R: Wait>(
     mut output: MemoryOut,
 ) -> SessionOutcome {
     let mut clock = FixedClock;
-    let mut desk = PassDesk::new(rt, alloc, forecourt, pass, Straight { calls: 0 });
+    let mut desk = PassDesk::new(rt, alloc, forecourt, pass, Straight { calls: 0 }, 1);
     let ended = session(
         alloc,
         Role::All,

@@ -1,6 +1,6 @@
 //! Tests that can't be run through the program's commands: of devices that fail at each call, of random programs, of
-//! drafts, of the reading of a single line, of folders in memory, of a gate that waits, of synced answers, and of sockets.
-//! They are a crate of their own, so that `./check` proves the tested crates only once.
+//! drafts, of the reading of a single line, of looks with another pass, of folders in memory, of a gate that waits, of
+//! synced answers, and of sockets. They are a crate of their own, so that `./check` proves the tested crates only once.
 #![tactic(auto)]
 
 #[cfg(test)]
@@ -13,6 +13,8 @@ mod folders;
 mod gates;
 #[cfg(test)]
 mod lines;
+#[cfg(test)]
+mod looks;
 #[cfg(test)]
 mod programs;
 #[cfg(test)]

@@ -167,6 +167,7 @@ fn serving(alloc: Global, ports: Ports) -> Result<Serving, Fail> {
         watched: site(alloc)?,
         journal: NoJournal,
         crew,
+        day: 1,
         connections: Some(1),
         idle_seconds: 0,
         ready_entries: 0,

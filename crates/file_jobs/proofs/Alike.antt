@@ -119,6 +119,7 @@ line_alike (Ok (lines.Act act)) s text other m n h k w v =
     (h.0.text_is ∙ ap answer_line e.0 ∙ sym k.0.text_is, ap₂ (λ x y. (x, y)) (h.1 ∙ sym k.1) e.1)
 line_alike (Ok (lines.Moment moment)) s text other m n h k w v = (h.0 ∙ sym k.0, h.1 ∙ sym k.1)
 line_alike (Ok (lines.Counter counter)) s text other m n h k w v = (h.0 ∙ sym k.0, h.1 ∙ sym k.1)
+line_alike (Ok (lines.Look look)) s text other m n h k w v = (h.0 ∙ sym k.0, h.1 ∙ sym k.1)
 line_alike (Ok lines.Journal) s text other m n h k w v = (h.0 ∙ sym k.0, h.2 ∙ sym k.2)
 
 plays_determined : IsDetermined AnswersScriptLine

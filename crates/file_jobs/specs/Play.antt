@@ -4,7 +4,7 @@
 -- - The verifier refuses the program of a load: the answer is the line of the verifier's fault.
 -- - Memory runs out while the act is entered: the answer is `S31`.
 -- - The journal is full: the answer is `S29`.
-use Rattle.std.specs.Prelude.{◌≡◌, ◌≢◌, ◌⊎◌, ⊤, ℕ, List, [], ◌∷◌, ◌++◌, length, codes, Option, Some, None, Result, Ok, Err}
+use Rattle.std.specs.Prelude.{◌≡◌, ◌≢◌, ◌⊎◌, ⊤, ℕ, List, [], ◌∷◌, ◌++◌, length, reverse, codes, Option, Some, None, Result, Ok, Err}
 use Rattle.std.specs.Fmt.{decimal}
 use Rattle.std.specs.List.{join_with_byte}
 use Rattle.bpf_model.specs.Program.{ProgramText, IsGood, as_loaded}
@@ -15,15 +15,19 @@ use Rattle.till_request.specs.declared.act.Act.{Act}
 use Rattle.till_request.specs.declared.act.Act.TheVariants as acts
 use Rattle.till_request.specs.declared.act.Answer.{Answer}
 use Rattle.till_request.specs.declared.act.Answer.TheVariants as answers
+use Rattle.till_request.specs.declared.look.LookAt.{LookAt}
+use Rattle.till_request.specs.declared.look.Sight.{Sight}
 use Rattle.till_request.specs.declared.act.LineFault.{LineFault}
 use Rattle.till_request.specs.declared.act.LineFault.TheVariants as faults
 use Rattle.till_request.specs.declared.act.Role.TheVariants.{All}
 use Rattle.till_request.specs.Answer.{answer_line}
 use Rattle.till_request.specs.Grammar.{IsLoad, words}
+use Rattle.till_request.specs.Looks.{sight_line}
 use Rattle.decision_journal.specs.Text.{journal_text}
 use Rattle.site_core.specs.Site.{SiteValue, Enters}
 use Rattle.site_core.specs.State.{counter_of}
 use Rattle.site_core.specs.Histories.{IsJournal}
+use Rattle.site_core.specs.Sights.{seen_at}
 use Rattle.line_session.specs.declared.answering.SessionFault.{SessionFault}
 use Rattle.line_session.specs.Answering.{Ends, Breaks, Stops, drops_none}
 use Rattle.line_session.specs.ReadSizes.{NoneIsOutOfMemoryText, EndAlike}
@@ -94,6 +98,10 @@ abbrev pub counter_text : Option (ℕ × ℕ) → List ℕ
 counter_text (Some p) = join_with_byte 32 (codes "counter" ∷ decimal p.0 ∷ decimal p.1 ∷ []) ++ 10 ∷ []
 counter_text None = answer_line (answers.Line faults.BadNumber)
 
+-- What a look shows of a site, and behind how many entries. A play is on day 1.
+abbrev pub sight_of : SiteValue → LookAt → Sight
+sight_of site look = record { entries = length site.history; seen = seen_at site.config (reverse site.history) site.state 1 look }
+
 -- The text answers this parsed line. The first pair is the moment and the site before the line, the second pair those
 -- after it. The answer to `journal` is the text of the site's history. This text is a journal that a site with the same
 -- configuration can have (`IsJournal`).
@@ -102,6 +110,7 @@ IsLineAnswerText (Err fault) s text s' = (text ≡ answer_line (answers.Line fau
 IsLineAnswerText (Ok (lines.Act act)) s text s' = IsActAnswerText s.1 s.0 act text s'.1 × (s'.0 ≡ s.0)
 IsLineAnswerText (Ok (lines.Moment n)) s text s' = (text ≡ moment_text n) × (s' ≡ (n, s.1))
 IsLineAnswerText (Ok (lines.Counter c)) s text s' = (text ≡ counter_text (counter_of s.1.state c)) × (s' ≡ s)
+IsLineAnswerText (Ok (lines.Look look)) s text s' = (text ≡ sight_line (sight_of s.1 look)) × (s' ≡ s)
 IsLineAnswerText (Ok lines.Journal) s text s' = (text ≡ journal_text s.1.history) × IsJournal s.1.config text × (s' ≡ s)
 
 -- The text answers this line of a script. The first pair is the moment and the site before the line, the second pair
@@ -109,18 +118,19 @@ IsLineAnswerText (Ok lines.Journal) s text s' = (text ≡ journal_text s.1.histo
 abbrev pub AnswersScriptLine : ℕ × SiteValue → List ℕ → List ℕ → ℕ × SiteValue → Type 0
 AnswersScriptLine s line text s' = IsLineAnswerText (line_of line) s text s'
 
--- The line is `moment N`, `counter C` or `journal`, which only scripts have.
-abbrev pub IsScriptOnlyLine : Result ScriptLine LineFault → Type 0
-IsScriptOnlyLine (Ok (lines.Moment n)) = ⊤
-IsScriptOnlyLine (Ok (lines.Counter c)) = ⊤
-IsScriptOnlyLine (Ok lines.Journal) = ⊤
-IsScriptOnlyLine (Ok (lines.Act act)) = ⊥
-IsScriptOnlyLine (Err fault) = ⊥
+-- The answer to the line needs memory: it is a look, `moment N`, `counter C` or `journal`.
+abbrev pub IsAnsweredWithMemory : Result ScriptLine LineFault → Type 0
+IsAnsweredWithMemory (Ok (lines.Look look)) = ⊤
+IsAnsweredWithMemory (Ok (lines.Moment n)) = ⊤
+IsAnsweredWithMemory (Ok (lines.Counter c)) = ⊤
+IsAnsweredWithMemory (Ok lines.Journal) = ⊤
+IsAnsweredWithMemory (Ok (lines.Act act)) = ⊥
+IsAnsweredWithMemory (Err fault) = ⊥
 
--- The line needs memory before anything changes: it is a load, which needs memory for its bytes, or `moment`, `counter`
--- or `journal`, which need memory for their answers.
+-- The line needs memory before anything changes: it is a load, which needs memory for its bytes, or its answer needs
+-- memory.
 abbrev pub TakesMemory : List ℕ → Type 0
-TakesMemory line = IsLoad All (words line) ⊎ IsScriptOnlyLine (line_of line)
+TakesMemory line = IsLoad All (words line) ⊎ IsAnsweredWithMemory (line_of line)
 
 -- The play began at moment 0 and ended without a failure. At its end the moment is `moment`, and the site is `left`.
 -- All lines were answered, and all `count` answers were written. If the last line is too long or has no LF, `cut` is

@@ -1,21 +1,30 @@
--- Definitions: the lines of a script (source: this project). A line is an act of any role, `moment N`, `counter C` or
--- `journal`. A line of none of these forms is bad. N is read as a number of 64 bits, and C as one of 32 bits.
+-- Definitions: the lines of a script (source: this project). A line is an act of any role, a look (as in `look day`),
+-- `moment N`, `counter C` or `journal`. A line of none of these forms is bad. N is read as a number of 64 bits, and C as
+-- one of 32 bits.
 use Rattle.std.specs.Prelude.{ℕ, List, [], ◌∷◌, codes, Bool, ◌&&◌, Result, Ok, if◌then◌else◌}
 use Rattle.std.specs.Str.{bytes_eq}
 use Rattle.till_request.specs.declared.act.LineFault.{LineFault}
 use Rattle.till_request.specs.declared.act.Role.TheVariants.{All}
-use Rattle.till_request.specs.Grammar.{words, number, is_some_word, act_of_words, ◌>>=◌}
+use Rattle.till_request.specs.declared.look.Asked.{Asked}
+use Rattle.till_request.specs.declared.look.Asked.TheVariants as asks
+use Rattle.till_request.specs.Grammar.{words, number, is_some_word, ◌>>=◌}
+use Rattle.till_request.specs.Looks.{words_asked}
 use Rattle.file_jobs.specs.declared.script.ScriptLine.{ScriptLine}
 use Rattle.file_jobs.specs.declared.script.ScriptLine.TheVariants as lines
 
--- Parses the words of a line as an act of any role.
-abbrev pub act_line : List (List ℕ) → Result ScriptLine LineFault
-act_line ws = do
-  act ← act_of_words All ws
-  Ok (lines.Act act)
+-- The line that asks for this.
+abbrev pub line_for : Asked → ScriptLine
+line_for (asks.Act act) = lines.Act act
+line_for (asks.Look look) = lines.Look look
+
+-- Parses the words of a line as an act of any role, or as a look.
+abbrev pub asking_line : List (List ℕ) → Result ScriptLine LineFault
+asking_line ws = do
+  asked ← words_asked All ws
+  Ok (line_for asked)
 
 abbrev pub line_alone : List ℕ → List (List ℕ) → Result ScriptLine LineFault
-line_alone word ws = if bytes_eq word (codes "journal") then Ok lines.Journal else act_line ws
+line_alone word ws = if bytes_eq word (codes "journal") then Ok lines.Journal else asking_line ws
 
 -- The word is this name, and the value after it isn't empty.
 abbrev pub is_named : List ℕ → List ℕ → List ℕ → Bool
@@ -33,12 +42,12 @@ counter_line value = do
 
 abbrev pub line_with_value : List ℕ → List ℕ → List (List ℕ) → Result ScriptLine LineFault
 line_with_value word value ws =
-    if is_named word (codes "moment") value then moment_line value else if is_named word (codes "counter") value then counter_line value else act_line ws
+    if is_named word (codes "moment") value then moment_line value else if is_named word (codes "counter") value then counter_line value else asking_line ws
 
 abbrev pub line_of_words : List (List ℕ) → Result ScriptLine LineFault
 line_of_words (word ∷ []) = line_alone word (word ∷ [])
 line_of_words (word ∷ value ∷ []) = line_with_value word value (word ∷ value ∷ [])
-line_of_words ws = act_line ws
+line_of_words ws = asking_line ws
 
 -- Parses a line of a script.
 abbrev pub line_of : List ℕ → Result ScriptLine LineFault

@@ -8,7 +8,8 @@ ghost use Rattle.line_session.specs.Answering.{drops_none, is_write_fault};
 ghost use Rattle.decision_journal.specs.Text.{entry_text, journal_text};
 ghost use Rattle.site_core.specs.Histories.{IsJournal};
 ghost use Rattle.file_jobs.specs.Loading.{IsLoadRefusal};
-ghost use Rattle.file_jobs.specs.Play.{AnswersScriptLine, TakesMemory, moment_text, counter_text};
+ghost use Rattle.till_request.specs.Looks.{sight_line};
+ghost use Rattle.file_jobs.specs.Play.{AnswersScriptLine, TakesMemory, moment_text, counter_text, sight_of};
 
 use crate::entering::{Entered, enter};
 use crate::notices::PlayNotices;
@@ -18,8 +19,12 @@ use decision_journal::{Entry, JournalFault};
 use line_session::{HandlerError, LineHandler};
 use site_core::Site;
 use std::alloc::{AllocError, Global};
+use till_request::look::put_sight;
 use till_request::write::{write_all, write_answer};
-use till_request::{Act, Answer, DeviceFault, LineFault, LineOut, WriteFault};
+use till_request::{Act, Answer, DeviceFault, LineFault, LineOut, LookAt, Sight, WriteFault};
+
+/// The number of the day that a look tells: a play is of one day.
+const DAY: u32 = 1;
 
 /// The line handler of a play. The time of an act is the moment that the script set last.
 #[derive(Clone, Copy)]
@@ -111,6 +116,16 @@ fn counter_line(alloc: Global, counter: Option<(u64, u64)>) -> Result<String, Al
     }
 }
 
+fn look_line(alloc: Global, site: &Site, look: LookAt) -> Result<Vec<u8>, AllocError>
+    ensures { IfOk result (λ text. text.items ≡ sight_line (sight_of site.now look)) }
+{
+    let seen = site.see(alloc, look, DAY)?;
+    let entries = site.history().len() as u32;
+    let mut text = Vec::new(alloc);
+    put_sight(&mut text, &Sight { entries, seen })?;
+    Ok(text)
+}
+
 fn report<N: PlayNotices>(notices: &N, act: &Act, entered: Entered)
     requires { IsLoadRefusal act.now entered.answer entered.refusal }
     ensures { IfSome entered.refusal (λ refusal. N.reported notices.now act.now refusal) }
@@ -160,6 +175,12 @@ impl<N: PlayNotices> LineHandler<u64, Site> for Player<'_, N> {
                     return Err(HandlerError::OutOfMemory);
                 };
                 write_play_text(output, text.as_bytes())
+            }
+            Ok(ScriptLine::Look(look)) => {
+                let Ok(text) = look_line(alloc, site, look) else {
+                    return Err(HandlerError::OutOfMemory);
+                };
+                write_play_text(output, &text)
             }
             Ok(ScriptLine::Journal) => write_play_journal(alloc, output, entries_of(site)),
             Err(LineFault::OutOfMemory) => Err(HandlerError::OutOfMemory),

@@ -1,20 +1,23 @@
-//! Parses the lines of a script: the acts of all roles, and the lines that only scripts have.
+//! Parses the lines of a script: the acts of all roles, looks, and the lines that only scripts have.
 ghost use Rattle.std.specs.Prelude.{◌≡◌, Err, map};
 ghost use Rattle.std.specs.Str.{bytes_eq};
 ghost use Rattle.till_request.specs.Gives.{Gives};
 ghost use Rattle.till_request.specs.Grammar.{IsLoad, words as words_of};
-ghost use Rattle.file_jobs.specs.Script.{act_line, line_alone, line_with_value, line_of_words, line_of, is_named};
+ghost use Rattle.file_jobs.specs.Script.{asking_line, is_named, line_alone, line_for, line_of, line_of_words};
+ghost use Rattle.file_jobs.specs.Script.{line_with_value};
 
 use std::alloc::Global;
-use till_request::grammar::parse_words;
+use till_request::look::words_asked;
 use till_request::numbers::{number_u32, number_u64};
 use till_request::parts::split_at_most;
-use till_request::{Act, LINE_WORDS, LineFault, Role};
+use till_request::{Act, Asked, LINE_WORDS, LineFault, LookAt, Role};
 
 /// A parsed line of a script.
 #[derive(Drop)]
 pub enum ScriptLine {
     Act(Act),
+    /// `look ..` asks to see something of the site.
+    Look(LookAt),
     /// `moment N` sets the moment (the time) of the acts in later lines.
     Moment(u64),
     /// `counter C` asks for the value and the bound of counter C.
@@ -29,11 +32,20 @@ fn is_pair(word: &[u8], name: &[u8], value: &[u8]) -> bool
     word == name && !value.is_empty()
 }
 
-fn read_act(alloc: Global, words: &[&[u8]]) -> Result<ScriptLine, LineFault>
-    ensures given { Gives result (act_line (map (λ w. w.now) words.now)) }
+fn line_for(asked: Asked) -> ScriptLine
+    ensures { result ≡ line_for asked }
+{
+    match asked {
+        Asked::Act(act) => ScriptLine::Act(act),
+        Asked::Look(look) => ScriptLine::Look(look),
+    }
+}
+
+fn read_asking(alloc: Global, words: &[&[u8]]) -> Result<ScriptLine, LineFault>
+    ensures given { Gives result (asking_line (map (λ w. w.now) words.now)) }
     ensures memory { result ≡ Err LineFault.OutOfMemory → IsLoad Role.All (map (λ w. w.now) words.now) }
 {
-    Ok(ScriptLine::Act(parse_words(alloc, Role::All, words)?))
+    Ok(line_for(words_asked(alloc, Role::All, words)?))
 }
 
 fn read_alone(alloc: Global, word: &[u8], words: &[&[u8]]) -> Result<ScriptLine, LineFault>
@@ -43,7 +55,7 @@ fn read_alone(alloc: Global, word: &[u8], words: &[&[u8]]) -> Result<ScriptLine,
     if word == b"journal".as_slice() {
         Ok(ScriptLine::Journal)
     } else {
-        read_act(alloc, words)
+        read_asking(alloc, words)
     }
 }
 
@@ -64,7 +76,7 @@ fn read_with_value(
         let counter = number_u32(value)?;
         return Ok(ScriptLine::Counter(counter));
     }
-    read_act(alloc, words)
+    read_asking(alloc, words)
 }
 
 fn read_words(alloc: Global, words: &[&[u8]]) -> Result<ScriptLine, LineFault>
@@ -74,7 +86,7 @@ fn read_words(alloc: Global, words: &[&[u8]]) -> Result<ScriptLine, LineFault>
     match words {
         [word] => read_alone(alloc, word, words),
         [word, value] => read_with_value(alloc, word, value, words),
-        _ => read_act(alloc, words),
+        _ => read_asking(alloc, words),
     }
 }
 

@@ -51,7 +51,7 @@ module _ (plan : Plan) (from : Opened) (same : from ≡ plan.from) (passes : Lis
 
 never_returned : (plan : Plan) (k : ℕ) (done : PassView × ℕ) → plan.connections ≡ None → IsReturned plan k done → ⊥
 never_returned plan k done endless h =
-    subst (λ (connections : Option ℕ). WorkedAll plan.from.config plan.may_fail h.1 connections done.1 (new_pass (k + 1)) done.0) endless h.3
+    subst (λ (connections : Option ℕ). WorkedAll plan.from plan.may_fail plan.day h.1 connections done.1 (new_pass (k + 1)) done.0) endless h.3
 
 -- workers that serve connections without end never return their passes
 pub never_return : (plan : Plan) (workers : ℕ) (passes : List PassView) (clean : ℕ) → plan.connections ≡ None → 0 < workers → HaveWorked plan passes clean

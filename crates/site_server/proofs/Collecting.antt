@@ -11,7 +11,6 @@ use Rattle.till_request.specs.declared.act.Role.{Role}
 use Rattle.line_session.specs.Serving.{Outcome, good}
 use Rattle.site_lock.specs.Merge.{AreAll}
 use Rattle.site_lock.specs.Passes.{PassView, Opened, new_pass, AreNew}
-use Rattle.site_core.specs.Limits.{ConfigValue}
 use Rattle.site_server.specs.declared.crew.Worker.{Worker}
 use Rattle.site_server.specs.Crews.{roles_of}
 use Rattle.site_server.specs.Plans.{Plan}
@@ -44,10 +43,10 @@ good_few (Some (Ok ended) ∷ outcomes) = omega (arith, good_few outcomes)
 good_few (Some (Err fault) ∷ outcomes) = omega (arith, good_few outcomes)
 
 -- a worker that served fewer than 2^32 connections counts fewer that ended without a SessionFault
-all_few : (config : ConfigValue) (may_fail : Type 0) (role : Role) (connections : Option ℕ) (clean : ℕ) (before now : PassView)
-    → IfSome connections (λ (n : ℕ). n < 4294967296) → WorkedAll config may_fail role connections clean before now → clean < 4294967296
-all_few config may_fail role (Some connections) clean before now few h = omega (arith, h.counted, h.all_asked, good_few h.outcomes, few)
-all_few config may_fail role None clean before now few h = absurd h
+all_few : (f : Opened) (may_fail : Type 0) (day : ℕ) (role : Role) (connections : Option ℕ) (clean : ℕ) (before now : PassView)
+    → IfSome connections (λ (n : ℕ). n < 4294967296) → WorkedAll f may_fail day role connections clean before now → clean < 4294967296
+all_few f may_fail day role (Some connections) clean before now few h = omega (arith, h.counted, h.all_asked, good_few h.outcomes, few)
+all_few f may_fail day role None clean before now few h = absurd h
 
 abbrev IsNone : {A : Type 0} → Option A → Type 0
 IsNone None = Unit {0}
@@ -61,10 +60,10 @@ role_at [] k worker is = absurd (none_is k worker is)
 role_at (first ∷ workers) zero worker is = ap (λ (o : Option Worker). option_map (λ (w : Worker). w.role) o) is
 role_at (first ∷ workers) (suc k) worker is = role_at workers k worker is
 
-module _ (may_fail : Type 0) (workers : List Worker) (connections : Option ℕ) (from : Opened) (own : ConfigValue) (same : from.config ≡ own) where
+module _ (may_fail : Type 0) (day : ℕ) (workers : List Worker) (connections : Option ℕ) (from own : Opened) (same : from ≡ own) where
   -- the plan by which the site is served
   abbrev pub plan : Plan
-  plan = record { from = from; may_fail = may_fail; roles = roles_of workers; connections = connections }
+  plan = record { from = from; may_fail = may_fail; day = day; roles = roles_of workers; connections = connections }
 
   -- `AllBack b tasks`: all tasks are finished. The first has the result of the worker with pass b + 1, the second that
   -- of the worker with pass b + 2, and so on.
@@ -74,14 +73,14 @@ module _ (may_fail : Type 0) (workers : List Worker) (connections : Option ℕ) 
   AllBack b (Some r ∷ tasks) = IsReturned plan b r × AllBack (b + 1) tasks
 
   one_back : (b : ℕ) (worker : Worker) (y : Option (PassView × ℕ)) (rest : List (Option (PassView × ℕ))) → slice_get workers b ≡ Some worker
-      → RunsWorker own may_fail connections (Some (new_pass (b + 1), worker)) y → AllBack (b + 1) rest → AllBack b (y ∷ rest)
+      → RunsWorker own may_fail day connections (Some (new_pass (b + 1), worker)) y → AllBack (b + 1) rest → AllBack b (y ∷ rest)
   one_back b worker None rest at h more = absurd h
   one_back b worker (Some r) rest at h more = (
     (
       h.0,
       worker.role,
       role_at workers b worker at,
-      subst (λ (c : ConfigValue). WorkedAll c may_fail worker.role connections r.1 (new_pass (b + 1)) r.0) (sym same) h.1,
+      subst (λ (o : Opened). WorkedAll o may_fail day worker.role connections r.1 (new_pass (b + 1)) r.0) (sym same) h.1,
     ),
     more,
   )
@@ -92,7 +91,7 @@ module _ (may_fail : Type 0) (workers : List Worker) (connections : Option ℕ) 
   WaitsAt tasks k n e = (worker : Worker) × (slice_get workers n ≡ Some worker) × (slice_index_or tasks k e ≡ Some (new_pass (n + 1), worker))
 
   all_back : (b : ℕ) (waiting : List (Option (PassView × Worker))) (done : List (Option (PassView × ℕ)))
-      → RunEach own may_fail connections waiting done
+      → RunEach own may_fail day connections waiting done
       → ((k n : ℕ) (e : Option (PassView × Worker)) → n ≡ b + k → k < length waiting → WaitsAt waiting k n e)
       → AllBack b done
   all_back b [] [] ran at = tt
@@ -100,10 +99,10 @@ module _ (may_fail : Type 0) (workers : List Worker) (connections : Option ℕ) 
   all_back b (x ∷ xs) [] ran at = absurd ran
   all_back b (x ∷ xs) (y ∷ ys) ran at =
       let first : WaitsAt (x ∷ xs) 0 b None = at 0 b None (omega arith) (omega arith) in
-      one_back b first.0 y ys first.1 (subst (λ (z : Option (PassView × Worker)). RunsWorker own may_fail connections z y) first.2 ran.0)
+      one_back b first.0 y ys first.1 (subst (λ (z : Option (PassView × Worker)). RunsWorker own may_fail day connections z y) first.2 ran.0)
       (all_back (b + 1) xs ys ran.1 (λ k n e num lt. at (suc k) n e (omega (arith, num)) (omega (arith, lt))))
 
-  as_many_ran : (waiting : List (Option (PassView × Worker))) (done : List (Option (PassView × ℕ))) → RunEach own may_fail connections waiting done
+  as_many_ran : (waiting : List (Option (PassView × Worker))) (done : List (Option (PassView × ℕ))) → RunEach own may_fail day connections waiting done
       → length done ≡ length waiting
   as_many_ran [] [] ran = refl
   as_many_ran [] (y ∷ ys) ran = absurd ran
@@ -112,7 +111,7 @@ module _ (may_fail : Type 0) (workers : List Worker) (connections : Option ℕ) 
 
   -- When the tasks of all workers have run, each has the result of its worker, and there are as many tasks as workers.
   pub all_done : (waiting : List (Option (PassView × Worker))) (done : List (Option (PassView × ℕ))) → AreWaiting workers waiting
-      → RunEach own may_fail connections waiting done → AllBack 0 done × (length done ≡ length workers)
+      → RunEach own may_fail day connections waiting done → AllBack 0 done × (length done ≡ length workers)
   all_done waiting done are ran = (
     all_back 0 waiting done ran
         (λ k m e num lt. subst (λ (j : ℕ). WaitsAt waiting k j e) (omega (arith, num)) (are.1 k e (omega (arith, lt, are.0)))),
@@ -120,7 +119,7 @@ module _ (may_fail : Type 0) (workers : List Worker) (connections : Option ℕ) 
   )
 
   one_few : (b : ℕ) (r : PassView × ℕ) → IfSome connections (λ (n : ℕ). n < 4294967296) → IsReturned plan b r → r.1 < 4294967296
-  one_few b r few h = all_few own may_fail h.1 connections r.1 (new_pass (b + 1)) r.0 few (subst (λ (c : ConfigValue). WorkedAll c may_fail h.1 connections r.1 (new_pass (b + 1)) r.0) same h.3)
+  one_few b r few h = all_few own may_fail day h.1 connections r.1 (new_pass (b + 1)) r.0 few (subst (λ (o : Opened). WorkedAll o may_fail day h.1 connections r.1 (new_pass (b + 1)) r.0) same h.3)
 
   -- If each worker serves fewer than 2^32 connections, then in n tasks at most 2^32 * n connections ended without a
   -- SessionFault.

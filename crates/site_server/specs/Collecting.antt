@@ -1,8 +1,7 @@
 -- Promises: the data in the workers' tasks. Before a task has run, it has a worker and the worker's pass. After that,
 -- it has the pass, and the number of connections that ended without a SessionFault.
 use Rattle.std.specs.Prelude.{◌≡◌, ℕ, ◌+◌, ◌<◌, List, [], ◌∷◌, length, slice_get, slice_index_or, Option, Some, None}
-use Rattle.site_core.specs.Limits.{ConfigValue}
-use Rattle.site_lock.specs.Passes.{PassView, new_pass}
+use Rattle.site_lock.specs.Passes.{PassView, Opened, new_pass}
 use Rattle.site_server.specs.declared.crew.Worker.{Worker}
 use Rattle.site_server.specs.Crews.{IsCrew}
 use Rattle.site_server.specs.Tasks.{WorkedAll}
@@ -22,23 +21,23 @@ HasCrew tasks = (workers : List Worker) × IsCrew (length workers) × AreWaiting
 -- A task ran. If it held a pass and a worker before:
 -- - All connections were served with the pass, in the worker's role: as many as `connections` says (`WorkedAll`).
 -- - The task now holds the pass, and the number of these connections that ended without a SessionFault.
-abbrev pub RunsWorker : ConfigValue → Type 0 → Option ℕ → Option (PassView × Worker) → Option (PassView × ℕ) → Type 0
-RunsWorker config may_fail connections None after = Unit {0}
-RunsWorker config may_fail connections (Some w) None = ⊥
-RunsWorker config may_fail connections (Some w) (Some d) = (d.0.id ≡ w.0.id) × WorkedAll config may_fail w.1.role connections d.1 w.0 d.0
+abbrev pub RunsWorker : Opened → Type 0 → ℕ → Option ℕ → Option (PassView × Worker) → Option (PassView × ℕ) → Type 0
+RunsWorker f may_fail day connections None after = Unit {0}
+RunsWorker f may_fail day connections (Some w) None = ⊥
+RunsWorker f may_fail day connections (Some w) (Some d) = (d.0.id ≡ w.0.id) × WorkedAll f may_fail day w.1.role connections d.1 w.0 d.0
 
 -- What a worker's thread returned is `after`, if it served at all: where the site isn't served, it returns None.
-abbrev pub MayRunWorker : ConfigValue → Type 0 → Option ℕ → Option (PassView × Worker) → Option (PassView × ℕ) → Type 0
-MayRunWorker config may_fail connections before None = Unit {0}
-MayRunWorker config may_fail connections before (Some done) = RunsWorker config may_fail connections before (Some done)
+abbrev pub MayRunWorker : Opened → Type 0 → ℕ → Option ℕ → Option (PassView × Worker) → Option (PassView × ℕ) → Type 0
+MayRunWorker f may_fail day connections before None = Unit {0}
+MayRunWorker f may_fail day connections before (Some done) = RunsWorker f may_fail day connections before (Some done)
 
 -- Each of these tasks ran. `waiting` is what they held before, and `done` what they hold now.
-abbrev pub RunEach : ConfigValue → Type 0 → Option ℕ → List (Option (PassView × Worker)) → List (Option (PassView × ℕ)) → Type 0
-RunEach config may_fail connections [] [] = Unit {0}
-RunEach config may_fail connections [] (after ∷ done) = ⊥
-RunEach config may_fail connections (before ∷ waiting) [] = ⊥
-RunEach config may_fail connections (before ∷ waiting) (after ∷ done) =
-    RunsWorker config may_fail connections before after × RunEach config may_fail connections waiting done
+abbrev pub RunEach : Opened → Type 0 → ℕ → Option ℕ → List (Option (PassView × Worker)) → List (Option (PassView × ℕ)) → Type 0
+RunEach f may_fail day connections [] [] = Unit {0}
+RunEach f may_fail day connections [] (after ∷ done) = ⊥
+RunEach f may_fail day connections (before ∷ waiting) [] = ⊥
+RunEach f may_fail day connections (before ∷ waiting) (after ∷ done) =
+    RunsWorker f may_fail day connections before after × RunEach f may_fail day connections waiting done
 
 -- the passes of the finished tasks, in the order of the tasks
 abbrev pub collected : List (Option (PassView × ℕ)) → List PassView

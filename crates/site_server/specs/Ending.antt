@@ -19,7 +19,7 @@ use Rattle.site_server.specs.declared.serving.ServeFault.TheVariants.{OutOfMemor
 abbrev pub IsReturned : Plan → ℕ → PassView × ℕ → Type 0
 IsReturned plan k done =
     (done.0.id ≡ k + 1) × (role : Role) × (slice_get plan.roles k ≡ Some role)
-    × WorkedAll plan.from.config plan.may_fail role plan.connections done.1 (new_pass (k + 1)) done.0
+    × WorkedAll plan.from plan.may_fail plan.day role plan.connections done.1 (new_pass (k + 1)) done.0
 
 -- the list has what the workers with the passes 1, 2, 3 and so on returned, in this order
 abbrev pub AreReturned : Plan → List (PassView × ℕ) → Type 0
@@ -41,10 +41,10 @@ pub record HaveWorked (plan : Plan) (passes : List PassView) (clean : ℕ) : Typ
 -- What running all tasks gives. If the tasks held new passes and their workers, then the workers have served their
 -- connections, at a forecourt that started with `from`. The result is all these passes, and how many of the connections
 -- ended without a SessionFault.
-abbrev pub RunsAllTasks : Opened → Type 0 → Option ℕ → List (Option (PassView × Worker)) → List PassView → ℕ → Type 0
-RunsAllTasks from may_fail connections tasks passes clean =
+abbrev pub RunsAllTasks : Opened → Type 0 → ℕ → Option ℕ → List (Option (PassView × Worker)) → List PassView → ℕ → Type 0
+RunsAllTasks from may_fail day connections tasks passes clean =
     (workers : List Worker) → AreWaiting workers tasks
-    → HaveWorked (record { from = from; may_fail = may_fail; roles = roles_of workers; connections = connections }) passes clean
+    → HaveWorked (record { from = from; may_fail = may_fail; day = day; roles = roles_of workers; connections = connections }) passes clean
     × AreAll (length workers) passes
 
 -- Workers of this plan served a site, and the site was closed. In all, `clean` of their connections ended without a

@@ -6,12 +6,13 @@ use Rattle.site_lock.specs.Passes.{Opened}
 use Rattle.site_server.specs.Crews.{roles_of}
 use Rattle.site_server.specs.declared.serving.Serving.{Serving}
 
--- How a site is served: what its forecourt starts with (`from`), and whether its journal can fail (`may_fail`). `roles`
--- are the workers' roles, in the order of their passes. Each worker serves `connections` connections, or, if that is
--- None, one after another without end.
+-- How a site is served: what its forecourt starts with (`from`), whether its journal can fail (`may_fail`), and the
+-- number of the day (`day`), which looks tell. `roles` are the workers' roles, in the order of their passes. Each worker
+-- serves `connections` connections, or, if that is None, one after another without end.
 pub record Plan : Type 1 where
   pub from : Opened
   pub may_fail : Type 0
+  pub day : ℕ
   pub roles : List Role
   pub connections : Option ℕ
 
@@ -21,6 +22,7 @@ abbrev pub plan_of : {J : Type 0} → (J → Option (List ℕ)) → Type 0 → S
 plan_of written may_fail s = record {
   from = record { config = s.watched.site.config; passes = length s.crew.workers.items; base = s.watched.site.history; taken = written s.journal };
   may_fail = may_fail;
+  day = s.day;
   roles = roles_of s.crew.workers.items;
   connections = s.connections;
 }

@@ -1,6 +1,7 @@
 //! Runs the tasks of a site's workers in threads.
 ghost use Rattle.std.specs.Prelude.{◌≡◌, IfSome, IsTrue, Some, map};
 ghost use Rattle.site_server.specs.Collecting.{MayRunWorker, RunEach};
+ghost use Rattle.site_server.specs.Tasks.{opened_by};
 
 use crate::crew::Worker;
 use crate::group_sync::Release;
@@ -19,6 +20,7 @@ use std::time::Clock;
 #[derive(Drop)]
 struct WorkerPromise<L: SiteLedger, J: Journal> {
     task: Snapshot<(Pass<L>, Worker)>,
+    day: u32,
     connections: Option<u32>,
     journal: PhantomData<J>,
 }
@@ -26,9 +28,10 @@ struct WorkerPromise<L: SiteLedger, J: Journal> {
 impl<L: SiteLedger, J: Journal> Promise<Option<(Pass<L>, u64)>> for WorkerPromise<L, J> {
     ghost use Rattle.std.specs.Prelude.{Some};
     ghost use Rattle.site_server.specs.Collecting.{MayRunWorker};
+    ghost use Rattle.site_server.specs.Tasks.{opened_by};
 
-    ghost kept_by = { λ promise done. MayRunWorker L.config J.may_fail promise.connections (Some promise.task.value)
-        done };
+    ghost kept_by = { λ promise done. MayRunWorker (opened_by L.config L.parts L.base L.taken) J.may_fail promise.day
+        promise.connections (Some promise.task.value) done };
 }
 
 /// Runs these tasks, the last one first; `threads` counts the threads of those behind them. When all have been asked for,
@@ -48,8 +51,8 @@ fn run_each<
     tasks: &mut [WorkerTask<L>],
     threads: ThreadCounts,
 ) -> bool
-    ensures { IsTrue result → RunEach L.config J.may_fail workers.now.connections
-        (map (λ p. p.waiting) tasks.old) (map (λ p. p.done) tasks.new) }
+    ensures { IsTrue result → RunEach (opened_by L.config L.parts L.base L.taken) J.may_fail workers.now.day
+        workers.now.connections (map (λ p. p.waiting) tasks.old) (map (λ p. p.done) tasks.new) }
 {
     let Some((task, rest)) = tasks.split_last_mut() else {
         workers.start(threads);
@@ -61,11 +64,13 @@ fn run_each<
     let (role, number) = (own.1.role, own.0.id());
     let promise = WorkerPromise::<L, J> {
         task: Snapshot::of(&own),
+        day: workers.day,
         connections: workers.connections,
         journal: PhantomData,
     };
     let run = move || -> Option<(Pass<L>, u64)>
-        ensures { MayRunWorker L.config J.may_fail workers.entry.now.connections (Some own) result }
+        ensures { MayRunWorker (opened_by L.config L.parts L.base L.taken) J.may_fail workers.entry.now.day
+            workers.entry.now.connections (Some own) result }
     { workers.work(own) };
     match scope.spawn_with(promise, run) {
         Ok(thread) => {
@@ -92,15 +97,16 @@ pub fn run_in_threads<
     A: Release + Sync,
     R: Threads + Wait + Clock + Sync,
 >(workers: &Workers<'_, L, J, N, A, R>, tasks: Vec<WorkerTask<L>>) -> Option<Vec<WorkerTask<L>>>
-    ensures { IfSome result (λ done. RunEach L.config J.may_fail workers.now.connections
-        (map (λ p. p.waiting) tasks.items) (map (λ p. p.done) done.items)) }
+    ensures { IfSome result (λ done. RunEach (opened_by L.config L.parts L.base L.taken) J.may_fail workers.now.day
+        workers.now.connections (map (λ p. p.waiting) tasks.items) (map (λ p. p.done) done.items)) }
 {
     thread::scope(
         thread::scope_env(),
         workers.rt,
         move |scope| -> Option<Vec<WorkerTask<L>>>
-            ensures { IfSome result (λ done. RunEach L.config J.may_fail workers.entry.now.connections
-                (map (λ p. p.waiting) tasks.items) (map (λ p. p.done) done.items)) }
+            ensures { IfSome result (λ done. RunEach (opened_by L.config L.parts L.base L.taken) J.may_fail
+                workers.entry.now.day workers.entry.now.connections (map (λ p. p.waiting) tasks.items)
+                (map (λ p. p.done) done.items)) }
         {
             let mut tasks = tasks;
             if run_each(scope, workers, tasks.as_mut_slice(), ThreadCounts::none()) {

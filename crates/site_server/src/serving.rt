@@ -4,6 +4,7 @@ ghost use Rattle.site_lock.specs.Closing.{ClosesSince};
 ghost use Rattle.site_server.specs.Plans.{plan_of};
 ghost use Rattle.site_server.specs.Ending.{IsServed, NeverServes, RefusesWithFault, ServingFails, RunsAllTasks, fault_of_close};
 ghost use Rattle.site_server.specs.Collecting.{AreWaiting, HasCrew, RunEach};
+ghost use Rattle.site_server.specs.Tasks.{opened_by};
 
 use crate::crew::Crew;
 use crate::group_sync::Release;
@@ -30,6 +31,8 @@ pub struct Serving<J: Journal = NoJournal> {
     pub watched: Watched<Sums>,
     pub journal: J,
     pub crew: Crew,
+    /// The number of the day, from 1, which a look tells.
+    pub day: u32,
     /// How many connections each worker serves; one that can't be opened counts too. `None` is without end: then the
     /// site is never closed.
     pub connections: Option<u32>,
@@ -185,8 +188,8 @@ fn work_all<
 ) -> Option<Returned<L>>
     requires waiting { HasCrew (map (λ p. p.waiting) tasks.items) }
     requires room { (passes.items ≡ []) × (length tasks.items ≤ vec_capacity passes) }
-    requires config { workers.now.forecourt.config ≡ L.config }
-    ensures { IfSome result (λ r. RunsAllTasks workers.now.forecourt J.may_fail workers.now.connections
+    requires opened { workers.now.forecourt ≡ opened_by L.config L.parts L.base L.taken }
+    ensures { IfSome result (λ r. RunsAllTasks workers.now.forecourt J.may_fail workers.now.day workers.now.connections
         (map (λ p. p.waiting) tasks.items) r.passes.items r.clean) }
 {
     prove_few(workers.connections);
@@ -264,6 +267,7 @@ impl<J: Journal + Send> Serving<J> {
             watched,
             journal,
             crew,
+            day,
             connections,
             idle_seconds,
             ready_entries,
@@ -288,6 +292,7 @@ impl<J: Journal + Send> Serving<J> {
             release,
             gate: StartGate::new(),
             ready_entries,
+            day,
             connections,
             idle_seconds,
         };
@@ -297,8 +302,8 @@ impl<J: Journal + Send> Serving<J> {
             ||
                 requires waiting { HasCrew (map (λ p. p.waiting) tasks.items) }
                 requires room { (room.items ≡ []) × (length tasks.items ≤ vec_capacity room) }
-                requires config { workers.forecourt.config ≡ L.config }
-                ensures { IfSome result (λ r. RunsAllTasks workers.entry.forecourt J.may_fail
+                requires opened { workers.forecourt ≡ opened_by L.config L.parts L.base L.taken }
+                ensures { IfSome result (λ r. RunsAllTasks workers.entry.forecourt J.may_fail workers.entry.day
                     workers.entry.connections (map (λ p. p.waiting) tasks.items) r.passes.items r.clean) }
             { work_all(&workers, tasks, room, watcher) },
         );

@@ -1,7 +1,7 @@
 //! What the workers of a served site share, and how a worker does its task.
 ghost use Rattle.std.specs.Prelude.{◌≡◌, Some};
 ghost use Rattle.site_server.specs.Collecting.{MayRunWorker};
-ghost use Rattle.site_server.specs.Tasks.{Worked};
+ghost use Rattle.site_server.specs.Tasks.{Worked, opened_by};
 
 use crate::crew::Worker;
 use crate::doors::SocketDoors;
@@ -25,6 +25,8 @@ pub struct Workers<'a, L: SiteLedger, J: Journal, N: Notices, A: Release, R: Wai
     pub release: &'a A,
     pub(crate) gate: StartGate,
     pub ready_entries: usize,
+    /// The number of the day, from 1.
+    pub day: u32,
     pub connections: Option<u32>,
     pub idle_seconds: u32,
 }
@@ -51,7 +53,8 @@ impl<L: SiteLedger, J: Journal, N: Notices, A: Release, R: Wait + Clock> Workers
     /// Waits at the gate, and then serves the worker's connections. Returns the pass, and how many sessions ended
     /// without a `SessionFault`; `None` if the site isn't served.
     pub fn work(&self, task: (Pass<L>, Worker)) -> Option<(Pass<L>, u64)>
-        ensures { MayRunWorker L.config J.may_fail self.now.connections (Some task) result }
+        ensures { MayRunWorker (opened_by L.config L.parts L.base L.taken) J.may_fail self.now.day
+            self.now.connections (Some task) result }
     {
         let (pass, worker) = task;
         if !self.gate.wait(self.rt) {
@@ -74,6 +77,21 @@ impl<L: SiteLedger, J: Journal, N: Notices, A: Release, R: Wait + Clock> Workers
         Some(done)
     }
 
+    fn desk(&self, pass: Pass<L>) -> PassDesk<'_, L, R, Straight, J>
+        ensures pass { result.pass ≡ pass }
+        ensures day { result.day ≡ self.now.day }
+    {
+        let gate = Straight { calls: 0 };
+        PassDesk::new(
+            self.rt,
+            self.alloc,
+            &self.forecourt,
+            pass,
+            gate,
+            self.day,
+        )
+    }
+
     fn serve<S: Doors + Drop>(
         &self,
         pass: Pass<L>,
@@ -81,7 +99,8 @@ impl<L: SiteLedger, J: Journal, N: Notices, A: Release, R: Wait + Clock> Workers
         doors: S,
         connections: u32,
     ) -> (Pass<L>, u64)
-        ensures worked { Worked L.config J.may_fail role connections result.1 pass result.0 }
+        ensures worked { Worked (opened_by L.config L.parts L.base L.taken) J.may_fail self.now.day role connections
+            result.1 pass result.0 }
         ensures id { result.0.id ≡ pass.id }
     {
         let mut doors = HeldDoors {
@@ -89,8 +108,7 @@ impl<L: SiteLedger, J: Journal, N: Notices, A: Release, R: Wait + Clock> Workers
             release: self.release,
         };
         let mut clock = MachineClock::new(self.rt);
-        let gate = Straight { calls: 0 };
-        let mut desk = PassDesk::new(self.rt, self.alloc, &self.forecourt, pass, gate);
+        let mut desk = self.desk(pass);
         let clean = worker(
             self.alloc,
             role,
@@ -108,8 +126,7 @@ impl<L: SiteLedger, J: Journal, N: Notices, A: Release, R: Wait + Clock> Workers
             release: self.release,
         };
         let mut clock = MachineClock::new(self.rt);
-        let gate = Straight { calls: 0 };
-        let mut desk = PassDesk::new(self.rt, self.alloc, &self.forecourt, pass, gate);
+        let mut desk = self.desk(pass);
         for _round in self.rt.forever() {
             let _clean = worker(
                 self.alloc,
