@@ -83,10 +83,7 @@ fn run_both<L: SiteLedger, R: Wait + Clock>(
     let acted = answer(rt, alloc, &forecourt, acting, "till 1 open 1\n").ok()?;
     let looks = "look point 1\nlook day\n";
     let seen = answer(rt, alloc, &forecourt, looking, looks).ok()?;
-    let receipts = (
-        acted.pass.receipts().len(),
-        seen.pass.receipts().len(),
-    );
+    let receipts = (acted.pass.receipts().len(), seen.pass.receipts().len());
     passes.push(acted.pass).ok()?;
     passes.push(seen.pass).ok()?;
     let closed = forecourt.close(rt, passes).ok()?;

@@ -1,7 +1,8 @@
 -- A play is a run of a script, which answers the script's lines at a site. Two plays of the same bytes that start from
 -- the same site and with the same output, and that end without a failure, write the same answers and leave the same
 -- moment and site, if neither answers that memory ran out.
-use Rattle.std.proofs.Common.{◌≡◌, ℕ, List, Option, Some, None, Result, Ok, Err, refl, sym, ◌∙◌, ap, ap₂}
+use Rattle.std.proofs.Common.{◌≡◌, ℕ, List, [], ◌∷◌, ◌++◌, codes, Option, Some, None, Result, Ok, Err, refl, sym, ◌∙◌, ap, ap₂}
+use Rattle.std.specs.Fmt.{decimal}
 use Rattle.verifier.specs.declared.refusal.Refusal.{Refusal}
 use Rattle.verifier.specs.declared.refusal.Refusal.TheVariants as refusals
 use Rattle.verifier.specs.Refusals.{Numbers, refusal_numbers}
@@ -12,14 +13,19 @@ use Rattle.till_request.specs.declared.act.Act.TheVariants as acts
 use Rattle.till_request.specs.declared.act.Answer.{Answer}
 use Rattle.till_request.specs.declared.act.Answer.TheVariants as answers
 use Rattle.till_request.specs.declared.act.LineFault.{LineFault}
-use Rattle.till_request.specs.Answer.{answer_line}
+use Rattle.till_request.specs.declared.look.LookAt.{LookAt}
+use Rattle.till_request.specs.declared.look.Seen.{Seen}
+use Rattle.till_request.specs.declared.look.Seen.TheVariants as seen
+use Rattle.till_request.specs.Answer.{answer_line, reply_text}
+use Rattle.till_request.specs.Looks.{numbers_text, rows_text, seen_text}
+use Rattle.site_core.specs.Sights.{SeenValue, day_is, reply_is, prices_are, unpaid_rows, rule_rows, counter_rows, seen_value}
 use Rattle.site_core.specs.Site.{SiteValue}
 use Rattle.line_session.specs.ReadSizes.{IsOutOfMemoryText, IsDetermined}
 use Rattle.line_session.proofs.Cutting.{cuts_alike}
 use Rattle.file_jobs.specs.declared.script.ScriptLine.{ScriptLine}
 use Rattle.file_jobs.specs.declared.script.ScriptLine.TheVariants as lines
 use Rattle.file_jobs.specs.Script.{line_of}
-use Rattle.file_jobs.specs.Play.{EventAnswered, IsAccepted, LoadAnswered, load_of, ActAnswered, IsLineAnswerText, AnswersScriptLine, PlaysAlike}
+use Rattle.file_jobs.specs.Play.{EventAnswered, IsAccepted, LoadAnswered, load_of, ActAnswered, IsLineAnswerText, IsLookText, AnswersScriptLine, PlaysAlike}
 
 second : {A B : Type 0} → A × B → B
 second p = p.1
@@ -109,6 +115,29 @@ act_alike old moment (acts.Till till request) a b new other h k p q = event_alik
 act_alike old moment (acts.Dispenser point event) a b new other h k p q = event_alike old moment (acts.Dispenser point event) a b new other h k p q
 act_alike old moment (acts.Load slot mask layout bytes) a b new other h k p q = load_alike old moment slot (as_loaded bytes mask layout) a b new other h k p q
 
+-- What a look shows as text.
+abbrev shown_text : SeenValue → List ℕ
+shown_text (day_is day) = codes "day " ++ decimal day
+shown_text (reply_is reply) = reply_text reply
+shown_text (prices_are prices) = codes "prices " ++ numbers_text prices
+shown_text (unpaid_rows rows) = codes "unpaid " ++ rows_text rows
+shown_text (rule_rows rows) = codes "rules " ++ rows_text rows
+shown_text (counter_rows rows) = codes "counters " ++ rows_text rows
+
+by_value : (shown : Seen) → seen_text shown ≡ shown_text (seen_value shown)
+by_value (seen.Day day) = refl
+by_value (seen.Reply reply) = refl
+by_value (seen.Prices prices) = refl
+by_value (seen.Unpaid rows) = refl
+by_value (seen.Rules rows) = refl
+by_value (seen.Counters rows) = refl
+
+look_alike : (site : SiteValue) (look : LookAt) (text other : List ℕ) → IsLookText site look text → IsLookText site look other → text ≡ other
+look_alike site look text other h k =
+    let entries : h.sight.entries ≡ k.sight.entries = h.entries ∙ sym k.entries in
+    let shown : seen_text h.sight.seen ≡ seen_text k.sight.seen = by_value h.sight.seen ∙ ap shown_text (h.seen ∙ sym k.seen) ∙ sym (by_value k.sight.seen) in
+    h.text_is ∙ ap₂ (λ n t. decimal n ++ (codes " " ++ (t ++ 10 ∷ []))) entries shown ∙ sym k.text_is
+
 line_alike : (line : Result ScriptLine LineFault) (s : ℕ × SiteValue) (text other : List ℕ) (m n : ℕ × SiteValue) → IsLineAnswerText line s text m
     → IsLineAnswerText line s other n
     → ¬ IsOutOfMemoryText text → ¬ IsOutOfMemoryText other → (text ≡ other) × (m ≡ n)
@@ -119,7 +148,7 @@ line_alike (Ok (lines.Act act)) s text other m n h k w v =
     (h.0.text_is ∙ ap answer_line e.0 ∙ sym k.0.text_is, ap₂ (λ x y. (x, y)) (h.1 ∙ sym k.1) e.1)
 line_alike (Ok (lines.Moment moment)) s text other m n h k w v = (h.0 ∙ sym k.0, h.1 ∙ sym k.1)
 line_alike (Ok (lines.Counter counter)) s text other m n h k w v = (h.0 ∙ sym k.0, h.1 ∙ sym k.1)
-line_alike (Ok (lines.Look look)) s text other m n h k w v = (h.0 ∙ sym k.0, h.1 ∙ sym k.1)
+line_alike (Ok (lines.Look look)) s text other m n h k w v = (look_alike s.1 look text other h.0 k.0, h.1 ∙ sym k.1)
 line_alike (Ok lines.Journal) s text other m n h k w v = (h.0 ∙ sym k.0, h.2 ∙ sym k.2)
 
 plays_determined : IsDetermined AnswersScriptLine

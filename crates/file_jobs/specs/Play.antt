@@ -27,7 +27,7 @@ use Rattle.decision_journal.specs.Text.{journal_text}
 use Rattle.site_core.specs.Site.{SiteValue, Enters}
 use Rattle.site_core.specs.State.{counter_of}
 use Rattle.site_core.specs.Histories.{IsJournal}
-use Rattle.site_core.specs.Sights.{seen_at}
+use Rattle.site_core.specs.Sights.{seen_at, seen_value}
 use Rattle.line_session.specs.declared.answering.SessionFault.{SessionFault}
 use Rattle.line_session.specs.Answering.{Ends, Breaks, Stops, drops_none}
 use Rattle.line_session.specs.ReadSizes.{NoneIsOutOfMemoryText, EndAlike}
@@ -98,9 +98,13 @@ abbrev pub counter_text : Option (ℕ × ℕ) → List ℕ
 counter_text (Some p) = join_with_byte 32 (codes "counter" ∷ decimal p.0 ∷ decimal p.1 ∷ []) ++ 10 ∷ []
 counter_text None = answer_line (answers.Line faults.BadNumber)
 
--- What a look shows of a site, and behind how many entries. A play is on day 1.
-abbrev pub sight_of : SiteValue → LookAt → Sight
-sight_of site look = record { entries = length site.history; seen = seen_at site.config (reverse site.history) site.state 1 look }
+-- The text is the line of a look's answer. It stands behind all entries of the site's history, and tells that a play is
+-- on day 1.
+pub record IsLookText (site : SiteValue) (look : LookAt) (text : List ℕ) : Type 0 where
+  pub sight : Sight
+  pub entries : sight.entries ≡ length site.history
+  pub seen : seen_value sight.seen ≡ seen_at site.config (reverse site.history) site.state 1 look
+  pub text_is : text ≡ sight_line sight
 
 -- The text answers this parsed line. The first pair is the moment and the site before the line, the second pair those
 -- after it. The answer to `journal` is the text of the site's history. This text is a journal that a site with the same
@@ -110,7 +114,7 @@ IsLineAnswerText (Err fault) s text s' = (text ≡ answer_line (answers.Line fau
 IsLineAnswerText (Ok (lines.Act act)) s text s' = IsActAnswerText s.1 s.0 act text s'.1 × (s'.0 ≡ s.0)
 IsLineAnswerText (Ok (lines.Moment n)) s text s' = (text ≡ moment_text n) × (s' ≡ (n, s.1))
 IsLineAnswerText (Ok (lines.Counter c)) s text s' = (text ≡ counter_text (counter_of s.1.state c)) × (s' ≡ s)
-IsLineAnswerText (Ok (lines.Look look)) s text s' = (text ≡ sight_line (sight_of s.1 look)) × (s' ≡ s)
+IsLineAnswerText (Ok (lines.Look look)) s text s' = IsLookText s.1 look text × (s' ≡ s)
 IsLineAnswerText (Ok lines.Journal) s text s' = (text ≡ journal_text s.1.history) × IsJournal s.1.config text × (s' ≡ s)
 
 -- The text answers this line of a script. The first pair is the moment and the site before the line, the second pair

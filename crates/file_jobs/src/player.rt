@@ -8,8 +8,7 @@ ghost use Rattle.line_session.specs.Answering.{drops_none, is_write_fault};
 ghost use Rattle.decision_journal.specs.Text.{entry_text, journal_text};
 ghost use Rattle.site_core.specs.Histories.{IsJournal};
 ghost use Rattle.file_jobs.specs.Loading.{IsLoadRefusal};
-ghost use Rattle.till_request.specs.Looks.{sight_line};
-ghost use Rattle.file_jobs.specs.Play.{AnswersScriptLine, TakesMemory, moment_text, counter_text, sight_of};
+ghost use Rattle.file_jobs.specs.Play.{AnswersScriptLine, IsLookText, TakesMemory, moment_text, counter_text};
 
 use crate::entering::{Entered, enter};
 use crate::notices::PlayNotices;
@@ -17,7 +16,7 @@ use crate::script::{ScriptLine, parse_script_line};
 use decision_journal::writing::write_entries;
 use decision_journal::{Entry, JournalFault};
 use line_session::{HandlerError, LineHandler};
-use site_core::Site;
+use site_core::{SightRoom, Site};
 use std::alloc::{AllocError, Global};
 use till_request::look::put_sight;
 use till_request::write::{write_all, write_answer};
@@ -117,12 +116,15 @@ fn counter_line(alloc: Global, counter: Option<(u64, u64)>) -> Result<String, Al
 }
 
 fn look_line(alloc: Global, site: &Site, look: LookAt) -> Result<Vec<u8>, AllocError>
-    ensures { IfOk result (λ text. text.items ≡ sight_line (sight_of site.now look)) }
+    ensures { IfOk result (λ text. IsLookText site.now look text.items) }
 {
-    let seen = site.see(alloc, look, DAY)?;
-    let entries = site.history().len() as u32;
+    let room = SightRoom::ready(alloc, look)?;
+    let sight = Sight {
+        entries: site.history().len() as u32,
+        seen: site.see(room, DAY),
+    };
     let mut text = Vec::new(alloc);
-    put_sight(&mut text, &Sight { entries, seen })?;
+    put_sight(&mut text, &sight)?;
     Ok(text)
 }
 

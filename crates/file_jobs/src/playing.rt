@@ -60,6 +60,7 @@ pub fn play<I: LineIn, O: LineOut>(
 ) -> Result<Ended, SessionFault>
     // proved all_answered, broken: Each line meets the site left before it | each_line_has_a_new_site
     // proved: What a script's `journal` prints is one | journal_without_its_last_entry
+    // proved: Its looks show the site, on day 1 | play_looks_at_another_day
     ensures all_answered { IfOk result
         (λ ended. PlayEnds (new_site config) (I.remaining input.old) (I.remaining input.new) (O.written output.old)
         (O.written output.new) ended.lines ended.cut) }
@@ -70,7 +71,7 @@ pub fn play<I: LineIn, O: LineOut>(
     ensures write_fault { RoseBy (one_if (is_write result)) (O.failures output.old) (O.failures output.new) }
     ensures reads { SpendsReads session_reads result I.reads I.asked input.old input.new }
     ensures journal { result ≢ Err SessionFault.Journal }
-    // proved: Out of memory ends it only as a line is read, or at a load or a script's own line
+    // proved: Out of memory ends it only as a line is read, or at a load, a look or a script's own line
     ensures stopped { IfErr result (λ fault. fault ≢ SessionFault.Write
         → PlayStops fault (new_site config) (I.remaining input.old) (I.remaining input.new) (O.written output.old)
         (O.written output.new)) }

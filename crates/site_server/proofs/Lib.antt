@@ -7,6 +7,5 @@ pub mod Keeping
 pub mod LastRan
 pub mod Numbering
 pub mod Paths
-pub mod Posting
 pub mod Posts
 pub mod Working

@@ -1,6 +1,6 @@
 -- Definitions: what a worker does, described by its pass and the moment that its clock gave last (source: this
 -- project).
-use Rattle.std.specs.Prelude.{◌≡◌, ◌⊎◌, ℕ, List, [], ◌∷◌, length, Option, Some, None, Result, Err}
+use Rattle.std.specs.Prelude.{◌≡◌, ◌⊎◌, ℕ, List, [], ◌∷◌, length, Option, Some, None, Err}
 use Rattle.std.specs.List.{AllByRecursion}
 use Rattle.till_request.specs.Line.{IsLine}
 use Rattle.till_request.specs.declared.act.Act.{Act}
@@ -10,7 +10,7 @@ use Rattle.till_request.specs.declared.look.LookAt.{LookAt}
 use Rattle.decision_journal.specs.declared.entries.Entry.{Entry}
 use Rattle.line_session.specs.declared.line_handler.HandlerError.{HandlerError}
 use Rattle.line_session.specs.declared.answering.SessionFault.TheVariants.{Journal}
-use Rattle.line_session.specs.Session.{desk_answers, desk_drops}
+use Rattle.line_session.specs.Session.{LineAnswer, desk_answers, desk_drops}
 use Rattle.line_session.specs.Serving.{Outcome, good}
 use Rattle.line_session.specs.Answering.{AnswersAll}
 use Rattle.site_core.specs.Limits.{ConfigValue}
@@ -29,7 +29,7 @@ pass_answers config may_fail before act moment answer now = DeskAnswers config m
 
 -- At a forecourt that started with `f`, on the day with the number `day`, a look with this pass can be answered with
 -- this text, or with this answer in its place (`DeskLooks`). The second PassView is the pass after the look.
-abbrev pub pass_looks : Opened → Type 0 → ℕ → PassView → LookAt → ℕ → Result (List ℕ) Answer → PassView → Type 0
+abbrev pub pass_looks : Opened → Type 0 → ℕ → PassView → LookAt → ℕ → LineAnswer → PassView → Type 0
 pass_looks f may_fail day before look moment answer now = DeskLooks f may_fail day before now look answer
 
 -- `gives_any_moment before moment now`: the clock, in the state `before`, can give any `moment`, and its new state

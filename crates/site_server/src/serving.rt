@@ -216,6 +216,7 @@ impl<J: Journal + Send> Serving<J> {
         outside: ServingHooks<'_, N, A, W>,
     ) -> Result<Served<J>, Unclosed<J>>
         // proved: Each pass serves its worker's role | all_workers_serve_the_owner
+        // proved: A look shows the site, on this day | look_tells_another_day
         // proved: It leaves the site described above | half_of_the_connections_are_served
         ensures ok { IfOk result
             (λ served. IsServed (plan_of J.written J.may_fail self) served.clean served.site (J.written

@@ -82,14 +82,7 @@ impl<L: SiteLedger, J: Journal, N: Notices, A: Release, R: Wait + Clock> Workers
         ensures day { result.day ≡ self.now.day }
     {
         let gate = Straight { calls: 0 };
-        PassDesk::new(
-            self.rt,
-            self.alloc,
-            &self.forecourt,
-            pass,
-            gate,
-            self.day,
-        )
+        PassDesk::new(self.rt, self.alloc, &self.forecourt, pass, gate, self.day)
     }
 
     fn serve<S: Doors + Drop>(
