@@ -10,9 +10,11 @@ use Rattle.till_request.specs.declared.act.Act.{Act}
 use Rattle.till_request.specs.declared.act.Role.{Role}
 use Rattle.till_request.specs.declared.act.Answer.{Answer}
 use Rattle.till_request.specs.declared.act.Answer.TheVariants.{OutOfMemory}
-use Rattle.till_request.specs.Grammar.{line_read}
-use Rattle.till_request.specs.Answer.{answer_line}
-use Rattle.line_session.specs.Session.{AnswersAct, desk_answers}
+use Rattle.till_request.specs.declared.look.LookAt.{LookAt}
+use Rattle.till_request.specs.declared.look.Asked.{Asked}
+use Rattle.till_request.specs.declared.look.Asked.TheVariants as asks
+use Rattle.till_request.specs.Looks.{line_asked}
+use Rattle.line_session.specs.Session.{AnswersAsked, LineAnswer, desk_answers, line_of}
 use Rattle.line_session.specs.Answering.{with_lf, all_lines, all_texts, AnswersAll, IsCut, cut_line, cut_count}
 use Rattle.line_session.specs.ReadSizes.{NoneIsOutOfMemoryText, IsDetermined, IsIndependentOfReadSizes, IsClockDetermined, IsDeskDetermined}
 
@@ -142,21 +144,27 @@ module _ {S : Type 0} (answers_with : S → List ℕ → List ℕ → S → Type
         cut = lines.1;
       }
 
-module _ {C D : Type 0} (step : D → Act → ℕ → Answer → D → Type 0) (tick : C → ℕ → C → Type 0) (tells : IsClockDetermined tick) (answers : IsDeskDetermined step) where
-  act_alike : (r : Result Act LineFault) (c : C) (d : D) (a b : Answer) (c' : C) (d' : D) (c'' : C) (d'' : D) → AnswersAct step tick r c d a c' d'
-      → AnswersAct step tick r c d b c'' d''
-      → ¬ (a ≡ OutOfMemory) → ¬ (b ≡ OutOfMemory) → (a ≡ b) × (c' ≡ c'') × (d' ≡ d'')
-  act_alike (Ok act) c d a b c' d' c'' d'' h k n m =
+module _ {C D : Type 0} (step : D → Act → ℕ → Answer → D → Type 0) (looks : D → LookAt → ℕ → LineAnswer → D → Type 0) (tick : C → ℕ → C → Type 0)
+    (tells : IsClockDetermined tick) (desk : IsDeskDetermined step looks) where
+  asked_alike : (r : Result Asked LineFault) (c : C) (d : D) (a b : LineAnswer) (c' : C) (d' : D) (c'' : C) (d'' : D) → AnswersAsked step looks tick r c d a c' d'
+      → AnswersAsked step looks tick r c d b c'' d'' → ¬ (a ≡ Err OutOfMemory) → ¬ (b ≡ Err OutOfMemory) → (a ≡ b) × (c' ≡ c'') × (d' ≡ d'')
+  asked_alike (Ok (asks.Act act)) c d (Err a) (Err b) c' d' c'' d'' h k n m =
       let e = tells c c' c'' h.0 k.0 h.1 k.1 in
-      let f = answers d d' d'' act h.0 a b h.2 (subst (λ (moment : ℕ). step d act moment b d'') (sym e.0) k.2) n m in
+      let f = desk.of_acts d d' d'' act h.0 a b h.2 (subst (λ (moment : ℕ). step d act moment b d'') (sym e.0) k.2) (λ is. n (ap (λ x. Err x) is)) (λ is. m (ap (λ x. Err x) is)) in
+      (ap (λ x. Err x) f.0, e.1, f.1)
+  asked_alike (Ok (asks.Act act)) c d (Ok text) b c' d' c'' d'' h k n m = absurd h
+  asked_alike (Ok (asks.Act act)) c d (Err a) (Ok text) c' d' c'' d'' h k n m = absurd k
+  asked_alike (Ok (asks.Look look)) c d a b c' d' c'' d'' h k n m =
+      let e = tells c c' c'' h.0 k.0 h.1 k.1 in
+      let f = desk.of_looks d d' d'' look h.0 a b h.2 (subst (λ (moment : ℕ). looks d look moment b d'') (sym e.0) k.2) n m in
       (f.0, e.1, f.1)
-  act_alike (Err why) c d a b c' d' c'' d'' h k n m = (h.0 ∙ sym k.0, h.1 ∙ sym k.1, h.2 ∙ sym k.2)
+  asked_alike (Err why) c d a b c' d' c'' d'' h k n m = (h.0 ∙ sym k.0, h.1 ∙ sym k.1, h.2 ∙ sym k.2)
 
-  desk_determined : (role : Role) → IsDetermined (desk_answers step tick role)
+  desk_determined : (role : Role) → IsDetermined (desk_answers step looks tick role)
   desk_determined role s text t o m n h k w v =
-      let e = act_alike (line_read role text) s.0 s.1 h.answer k.answer m.0 m.1 n.0 n.1 h.answers k.answers (λ is. w (h.text_is ∙ ap answer_line is))
-      (λ is. v (k.text_is ∙ ap answer_line is)) in
-      (h.text_is ∙ ap answer_line e.0 ∙ sym k.text_is, ap₂ (λ x y. (x, y)) e.1 e.2)
+      let e = asked_alike (line_asked role text) s.0 s.1 h.answer k.answer m.0 m.1 n.0 n.1 h.answers k.answers (λ is. w (h.text_is ∙ ap line_of is))
+      (λ is. v (k.text_is ∙ ap line_of is)) in
+      (h.text_is ∙ ap line_of e.0 ∙ sym k.text_is, ap₂ (λ x y. (x, y)) e.1 e.2)
 
-  pub desk_cuts_alike : (role : Role) → IsIndependentOfReadSizes (desk_answers step tick role)
-  desk_cuts_alike role = cuts_alike (desk_answers step tick role) (desk_determined role)
+  pub desk_cuts_alike : (role : Role) → IsIndependentOfReadSizes (desk_answers step looks tick role)
+  desk_cuts_alike role = cuts_alike (desk_answers step looks tick role) (desk_determined role)

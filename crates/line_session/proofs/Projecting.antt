@@ -6,13 +6,16 @@ use Rattle.till_request.specs.declared.act.Act.{Act}
 use Rattle.till_request.specs.declared.act.Role.{Role}
 use Rattle.till_request.specs.declared.act.LineFault.{LineFault}
 use Rattle.till_request.specs.declared.act.Answer.{Answer}
-use Rattle.till_request.specs.Grammar.{line_read}
+use Rattle.till_request.specs.declared.look.LookAt.{LookAt}
+use Rattle.till_request.specs.declared.look.Asked.{Asked}
+use Rattle.till_request.specs.declared.look.Asked.TheVariants as asks
+use Rattle.till_request.specs.Looks.{line_asked}
 use Rattle.line_session.specs.declared.answering.Ended.{Ended}
 use Rattle.line_session.specs.declared.line_handler.HandlerError.{HandlerError}
 use Rattle.line_session.specs.declared.line_handler.HandlerError.TheVariants as error
 use Rattle.line_session.specs.declared.answering.SessionFault.{SessionFault}
 use Rattle.line_session.specs.declared.answering.SessionFault.TheVariants as session
-use Rattle.line_session.specs.Session.{AnswersAct, desk_answers, desk_drops}
+use Rattle.line_session.specs.Session.{AnswersAsked, LineAnswer, desk_answers, desk_drops}
 use Rattle.line_session.specs.Answering.{AnswersAll, AnswersLines, Ends, DropsFor, DropsNext, Breaks, ReadsOn, StopsAtDoor, StopsFor, RunsOutAtNextLine}
 use Rattle.line_session.specs.Serving.{Outcome, RunsSession, ServesConnection, ServesConnections, Serves}
 
@@ -152,23 +155,27 @@ module _ {S T : Type 0} (f : S → T) (answers_with : S → List ℕ → List �
       }
 
 module _ {C C' D D' : Type 0} (f : C → C') (g : D → D') (step : D → Act → ℕ → Answer → D → Type 0) (step' : D' → Act → ℕ → Answer → D' → Type 0)
+    (looks : D → LookAt → ℕ → LineAnswer → D → Type 0) (looks' : D' → LookAt → ℕ → LineAnswer → D' → Type 0)
     (tick : C → ℕ → C → Type 0) (tick' : C' → ℕ → C' → Type 0)
     (steps : (d : D) (act : Act) (moment : ℕ) (a : Answer) (e : D) → step d act moment a e → step' (g d) act moment a (g e))
+    (sees : (d : D) (look : LookAt) (moment : ℕ) (a : LineAnswer) (e : D) → looks d look moment a e → looks' (g d) look moment a (g e))
     (ticks : (c : C) (moment : ℕ) (e : C) → tick c moment e → tick' (f c) moment (f e)) where
-  answers_seen : (act : Result Act LineFault) (c : C) (d : D) (a : Answer) (c' : C) (d' : D) → AnswersAct step tick act c d a c' d'
-      → AnswersAct step' tick' act (f c) (g d) a (f c') (g d')
-  answers_seen (Ok act) c d a c' d' h = (h.0, ticks c h.0 c' h.1, steps d act h.0 a d' h.2)
+  answers_seen : (asked : Result Asked LineFault) (c : C) (d : D) (a : LineAnswer) (c' : C) (d' : D) → AnswersAsked step looks tick asked c d a c' d'
+      → AnswersAsked step' looks' tick' asked (f c) (g d) a (f c') (g d')
+  answers_seen (Ok (asks.Act act)) c d (Err a) c' d' h = (h.0, ticks c h.0 c' h.1, steps d act h.0 a d' h.2)
+  answers_seen (Ok (asks.Act act)) c d (Ok text) c' d' h = absurd h
+  answers_seen (Ok (asks.Look look)) c d a c' d' h = (h.0, ticks c h.0 c' h.1, sees d look h.0 a d' h.2)
   answers_seen (Err fault) c d a c' d' h = (h.0, ap f h.1, ap g h.2)
 
-  pub desk_seen : (role : Role) (s : C × D) (line text : List ℕ) (s' : C × D) → desk_answers step tick role s line text s'
-      → desk_answers step' tick' role (f s.0, g s.1) line text (f s'.0, g s'.1)
+  pub desk_seen : (role : Role) (s : C × D) (line text : List ℕ) (s' : C × D) → desk_answers step looks tick role s line text s'
+      → desk_answers step' looks' tick' role (f s.0, g s.1) line text (f s'.0, g s'.1)
   desk_seen role s line text s' h = record {
     answer = h.answer;
-    answers = answers_seen (line_read role line) s.0 s.1 h.answer s'.0 s'.1 h.answers;
+    answers = answers_seen (line_asked role line) s.0 s.1 h.answer s'.0 s'.1 h.answers;
     has_line = h.has_line;
     text_is = h.text_is;
   }
 
-  pub desk_lost : (role : Role) (why : HandlerError) (s : C × D) (line : List ℕ) (s' : C × D) → desk_drops step tick role why s line s'
-      → desk_drops step' tick' role why (f s.0, g s.1) line (f s'.0, g s'.1)
-  desk_lost role why s line s' h = (h.0, h.1, h.2, h.3, h.4, ticks s.0 h.1 s'.0 h.5, steps s.1 h.0 h.1 h.2 s'.1 h.6)
+  pub desk_lost : (role : Role) (why : HandlerError) (s : C × D) (line : List ℕ) (s' : C × D) → desk_drops step looks tick role why s line s'
+      → desk_drops step' looks' tick' role why (f s.0, g s.1) line (f s'.0, g s'.1)
+  desk_lost role why s line s' h = (h.0, h.1, h.2, h.3, answers_seen (Ok h.0) s.0 s.1 (Err h.1) s'.0 s'.1 h.4)

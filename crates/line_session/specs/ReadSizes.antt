@@ -4,14 +4,16 @@
 -- - Neither session fails.
 -- - No answer is that memory ran out.
 -- - In each state a line has only one answer, and only one state follows, unless memory runs out.
-use Rattle.std.specs.Prelude.{◌≡◌, ℕ, List, Option, Some}
+use Rattle.std.specs.Prelude.{◌≡◌, ℕ, List, Option, Some, Err}
 use Rattle.std.specs.List.{AllByRecursion}
 use Rattle.till_request.specs.declared.act.Act.{Act}
 use Rattle.till_request.specs.declared.act.LineFault.{LineFault}
 use Rattle.till_request.specs.declared.act.Answer.{Answer}
 use Rattle.till_request.specs.declared.act.Answer.TheVariants.{OutOfMemory}
+use Rattle.till_request.specs.declared.look.LookAt.{LookAt}
 use Rattle.till_request.specs.Answer.{answer_line}
 use Rattle.line_session.specs.Answering.{Ends}
+use Rattle.line_session.specs.Session.{LineAnswer}
 
 -- the text is the answer that memory ran out
 abbrev pub IsOutOfMemoryText : List ℕ → Type 0
@@ -48,8 +50,10 @@ IsIndependentOfReadSizes {S} answers_with =
 abbrev pub IsClockDetermined : {C : Type 0} → (C → ℕ → C → Type 0) → Type 0
 IsClockDetermined {C} tick = (c d e : C) (m n : ℕ) → tick c m d → tick c n e → (m ≡ n) × (d ≡ e)
 
--- in each state the desk has only one answer to an act at a moment, and only one state follows, unless memory runs out
-abbrev pub IsDeskDetermined : {D : Type 0} → (D → Act → ℕ → Answer → D → Type 0) → Type 0
-IsDeskDetermined {D} step =
-    (d e f : D) (act : Act) (moment : ℕ) (a b : Answer) → step d act moment a e → step d act moment b f → ¬ (a ≡ OutOfMemory)
-    → ¬ (b ≡ OutOfMemory) → (a ≡ b) × (e ≡ f)
+-- in each state the desk has only one answer to an act or a look at a moment, and only one state follows, unless memory
+-- runs out
+pub record IsDeskDetermined {D : Type 0} (step : D → Act → ℕ → Answer → D → Type 0) (looks : D → LookAt → ℕ → LineAnswer → D → Type 0) : Type 0 where
+  pub of_acts : (d e f : D) (act : Act) (moment : ℕ) (a b : Answer) → step d act moment a e → step d act moment b f → ¬ (a ≡ OutOfMemory) → ¬ (b ≡ OutOfMemory)
+      → (a ≡ b) × (e ≡ f)
+  pub of_looks : (d e f : D) (look : LookAt) (moment : ℕ) (a b : LineAnswer) → looks d look moment a e → looks d look moment b f → ¬ (a ≡ Err OutOfMemory)
+      → ¬ (b ≡ Err OutOfMemory) → (a ≡ b) × (e ≡ f)

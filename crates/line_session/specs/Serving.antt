@@ -5,13 +5,14 @@ use Rattle.std.specs.Prelude.{◌≡◌, ◌≢◌, ℕ, ◌+◌, ◌≤◌, Lis
 use Rattle.till_request.specs.declared.act.Act.{Act}
 use Rattle.till_request.specs.declared.act.Role.{Role}
 use Rattle.till_request.specs.declared.act.Answer.{Answer}
+use Rattle.till_request.specs.declared.look.LookAt.{LookAt}
 use Rattle.till_request.specs.Count.{RoseBy, one_if}
 use Rattle.line_session.specs.declared.answering.Ended.{Ended}
 use Rattle.line_session.specs.declared.answering.SessionFault.{SessionFault}
 use Rattle.line_session.specs.declared.answering.SessionFault.TheVariants.{ReadsSpent, Write}
 use Rattle.line_session.specs.declared.line_handler.HandlerError.{HandlerError}
 use Rattle.line_session.specs.Answering.{Ends, Breaks, StopsAtDoor, is_read, is_write, session_reads}
-use Rattle.line_session.specs.Session.{desk_answers, desk_drops, desk_needs_memory}
+use Rattle.line_session.specs.Session.{LineAnswer, desk_answers, desk_drops, desk_needs_memory}
 
 -- how a connection went: None if it couldn't be opened, or else how its session ended
 abbrev pub Outcome : Type 0
@@ -48,9 +49,9 @@ pub record RunsSession {S I O : Type 0} (answers_with : S → List ℕ → List 
       (λ fault. fault ≢ Write → StopsAtDoor answers_with drops needs_memory fault s s' (remaining i) (remaining input) (written o) (written output))
 
 -- a session of this role, with a desk and a clock, had this result (`RunsSession`)
-abbrev pub RunsDeskSession : {C D I O : Type 0} → (D → Act → ℕ → Answer → D → Type 0) → (C → ℕ → C → Type 0) → Role → (I → Option (List ℕ)) → (I → ℕ) → (I → ℕ)
-    → (O → Option (List ℕ)) → (O → ℕ) → Result Ended SessionFault → I → O → C × D → C × D → Type 0
-RunsDeskSession step tick role = RunsSession (desk_answers step tick role) (desk_drops step tick role) (desk_needs_memory role)
+abbrev pub RunsDeskSession : {C D I O : Type 0} → (D → Act → ℕ → Answer → D → Type 0) → (D → LookAt → ℕ → LineAnswer → D → Type 0) → (C → ℕ → C → Type 0)
+    → Role → (I → Option (List ℕ)) → (I → ℕ) → (I → ℕ) → (O → Option (List ℕ)) → (O → ℕ) → Result Ended SessionFault → I → O → C × D → C × D → Type 0
+RunsDeskSession step looks tick role = RunsSession (desk_answers step looks tick role) (desk_drops step looks tick role) (desk_needs_memory role)
 
 -- How one connection went. Either it couldn't be opened, and the clock and the desk weren't asked. Or it was opened, a
 -- session ran over it, and how the session ended was reported to the doors.

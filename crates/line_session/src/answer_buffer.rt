@@ -4,8 +4,11 @@ ghost use Rattle.till_request.specs.Answer.{answer_line};
 ghost use Rattle.till_request.specs.Count.{RoseBy, one_if};
 ghost use Rattle.line_session.specs.Answering.{is_write};
 ghost use Rattle.line_session.specs.Buffering.{Sends};
+ghost use Rattle.line_session.specs.Deciding.{with_room};
+ghost use Rattle.line_session.specs.Session.{line_of};
 
 use crate::answering::SessionFault;
+use crate::desk_handler::ToWrite;
 use std::alloc::Global;
 use till_request::short_text::put_line;
 use till_request::write::write_all;
@@ -78,9 +81,32 @@ impl AnswerBuffer {
         self.put_bytes(output, line.as_str().as_bytes())
     }
 
+    /// Appends an answer or what is in the room for the line of a look, as `put` does.
+    pub fn put_written<O: LineOut>(
+        &mut self,
+        output: &mut O,
+        answer: &ToWrite,
+        room: &[u8],
+    ) -> Result<(), SessionFault>
+        ensures ok { OnOk result
+            (Sends (self.old.held.items ++ line_of (with_room answer.now room.now)) self.new.held.items
+            (O.written output.old) (O.written output.new)) }
+        ensures err { OnErr result ((lost : List ℕ)
+            × Sends (self.old.held.items ++ line_of (with_room answer.now room.now)) lost (O.written output.old)
+            (O.written output.new)) }
+        ensures failed { RoseBy (one_if (is_write result)) (O.failures output.old) (O.failures output.new) }
+        ensures cause { IfErr result (λ e. e ≡ SessionFault.Write) }
+    {
+        match answer {
+            ToWrite::Answer(answer) => self.put(output, answer),
+            ToWrite::Room => self.put_bytes(output, room),
+        }
+    }
+
     fn put_bytes<O: LineOut>(&mut self, output: &mut O, bytes: &[u8]) -> Result<(), SessionFault>
         ensures ok { OnOk result
-            (Sends (self.old.held.items ++ bytes.now) self.new.held.items (O.written output.old) (O.written output.new)) }
+            (Sends (self.old.held.items ++ bytes.now) self.new.held.items (O.written output.old)
+            (O.written output.new)) }
         ensures err { OnErr result ((lost : List ℕ)
             × Sends (self.old.held.items ++ bytes.now) lost (O.written output.old) (O.written output.new)) }
         ensures failed { RoseBy (one_if (is_write result)) (O.failures output.old) (O.failures output.new) }

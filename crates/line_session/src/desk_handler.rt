@@ -1,33 +1,51 @@
-//! The line handler that parses lines and passes the acts to a desk.
-ghost use Rattle.std.specs.Prelude.{◌≡◌, IfOk, IfErr, IfSome, IfNone, false};
-ghost use Rattle.till_request.specs.Answer.{answer_line};
-ghost use Rattle.line_session.specs.Deciding.{Decides, LeavesLine};
+//! The line handler that parses lines and passes what they ask for to a desk.
+ghost use Rattle.std.specs.Prelude.{◌≡◌, IfOk, IfErr, IfSome, IfNone, OnErr, OnOk, ℕ, take, false, is_err};
+ghost use Rattle.std.specs.Io.KnownBytes.{Appends};
+ghost use Rattle.till_request.specs.Count.{RoseBy, one_if};
+ghost use Rattle.line_session.specs.Deciding.{Decides, LeavesLine, with_room};
 ghost use Rattle.line_session.specs.Session.{IsUnwritten, desk_answers, desk_drops, desk_needs_memory, ends_unwritten};
+ghost use Rattle.line_session.specs.Session.{line_of};
 
 use crate::desk::{Clock, Desk};
 use crate::line_handler::{HandlerError, LineHandler};
 use std::alloc::Global;
-use till_request::grammar::parse_line;
-use till_request::write::write_answer;
-use till_request::{Answer, LineFault, LineOut, Role, WriteFault};
+use till_request::look::parse_asked;
+use till_request::write::{write_all, write_answer};
+use till_request::{Answer, Asked, DeviceFault, LineFault, LineOut, Role, WriteFault};
 
-/// The desk's answer to a line's act at the clock's moment, or the line's fault; then clock and desk stay as they are.
-/// `line` is without its LF.
+/// What is to be written for a line: an answer, or what is in the room for the line of a look.
+#[derive(Clone, Copy)]
+pub enum ToWrite {
+    Answer(Answer),
+    Room,
+}
+
+/// The desk's answer to what a line asks for, at the clock's moment, or the line's fault; then clock and desk stay as
+/// they are. `line` is without its LF. `room` is for the line of a look.
 fn answer_to<C: Clock, D: Desk>(
     alloc: Global,
     role: Role,
     line: &[u8],
     clock: &mut C,
     desk: &mut D,
-) -> Answer
-    ensures { Decides D.step C.tick role line.now clock.old desk.old result clock.new desk.new }
+    room: &mut Vec<u8>,
+) -> ToWrite
+    ensures { Decides D.step D.looks C.tick role line.now clock.old desk.old (with_room result room.new.items)
+        clock.new desk.new }
 {
-    match parse_line(alloc, role, line) {
-        Ok(act) => {
+    match parse_asked(alloc, role, line) {
+        Ok(Asked::Act(act)) => {
             let moment = clock.now();
-            desk.answer(act, moment)
+            ToWrite::Answer(desk.answer(act, moment))
         }
-        Err(fault) => Answer::Line(fault),
+        Ok(Asked::Look(look)) => {
+            let moment = clock.now();
+            match desk.look(look, moment, room) {
+                Ok(()) => ToWrite::Room,
+                Err(answer) => ToWrite::Answer(answer),
+            }
+        }
+        Err(fault) => ToWrite::Answer(Answer::Line(fault)),
     }
 }
 
@@ -50,22 +68,49 @@ fn unwritten_error(answer: &Answer) -> Option<HandlerError>
     }
 }
 
+/// What is to be written for a line, which is without its LF. `room` is for the line of a look.
 pub fn written_answer<C: Clock, D: Desk>(
     alloc: Global,
     role: Role,
     line: &[u8],
     clock: &mut C,
     desk: &mut D,
-) -> Result<Answer, HandlerError>
-    ensures ok { IfOk result (λ answer. desk_answers D.step C.tick role (clock.old, desk.old) line.now
-        (answer_line answer) (clock.new, desk.new)) }
-    ensures err { IfErr result (λ fault. LeavesLine (desk_drops D.step C.tick role) (desk_needs_memory role) fault
-        (clock.old, desk.old) line.now (clock.new, desk.new)) }
+    room: &mut Vec<u8>,
+) -> Result<ToWrite, HandlerError>
+    ensures ok { IfOk result (λ answer. desk_answers D.step D.looks C.tick role (clock.old, desk.old) line.now
+        (line_of (with_room answer room.new.items)) (clock.new, desk.new)) }
+    ensures err { IfErr result (λ fault. LeavesLine (desk_drops D.step D.looks C.tick role) (desk_needs_memory role)
+        fault (clock.old, desk.old) line.now (clock.new, desk.new)) }
 {
-    let answer = answer_to(alloc, role, line, clock, desk);
-    match unwritten_error(&answer) {
-        Some(fault) => Err(fault),
-        None => Ok(answer),
+    match answer_to(alloc, role, line, clock, desk, room) {
+        ToWrite::Room => Ok(ToWrite::Room),
+        ToWrite::Answer(answer) => match unwritten_error(&answer) {
+            Some(fault) => Err(fault),
+            None => Ok(ToWrite::Answer(answer)),
+        },
+    }
+}
+
+/// Writes an answer, or what is in the room. After an error a beginning of that is perhaps written.
+fn write_now<O: LineOut>(
+    alloc: Global,
+    output: &mut O,
+    answer: &ToWrite,
+    room: &[u8],
+) -> Result<(), DeviceFault>
+    ensures ok { OnOk result
+        (Appends (O.written output.old) (O.written output.new) (line_of (with_room answer.now room.now))) }
+    ensures err { OnErr result ((k : ℕ)
+        × Appends (O.written output.old) (O.written output.new) (take k (line_of (with_room answer.now room.now)))) }
+    ensures failed { RoseBy (one_if (is_err result)) (O.failures output.old) (O.failures output.new) }
+{
+    match answer {
+        ToWrite::Room => write_all(output, room),
+        ToWrite::Answer(answer) => match write_answer(alloc, output, answer) {
+            Ok(()) => Ok(()),
+            Err(WriteFault::Write) => Err(DeviceFault),
+            Err(WriteFault::OutOfMemory) => unreachable!(),
+        },
     }
 }
 
@@ -79,9 +124,9 @@ pub struct DeskHandler {
 impl<C: Clock, D: Desk> LineHandler<C, D> for DeskHandler {
     ghost use Rattle.line_session.specs.Session.{desk_answers, desk_drops, desk_needs_memory};
 
-    ghost answers_with = { λ a. desk_answers D.step C.tick a.role };
+    ghost answers_with = { λ a. desk_answers D.step D.looks C.tick a.role };
 
-    ghost drops = { λ a. desk_drops D.step C.tick a.role };
+    ghost drops = { λ a. desk_drops D.step D.looks C.tick a.role };
 
     ghost needs_memory = { λ a. desk_needs_memory a.role };
 
@@ -96,11 +141,11 @@ impl<C: Clock, D: Desk> LineHandler<C, D> for DeskHandler {
         desk: &mut D,
         output: &mut O,
     ) -> Result<(), HandlerError> {
-        let answer = written_answer(self.alloc, self.role, line, clock, desk)?;
-        match write_answer(self.alloc, output, &answer) {
+        let mut room = Vec::new(self.alloc);
+        let answer = written_answer(self.alloc, self.role, line, clock, desk, &mut room)?;
+        match write_now(self.alloc, output, &answer, &room) {
             Ok(()) => Ok(()),
-            Err(WriteFault::Write) => Err(HandlerError::Write),
-            Err(WriteFault::OutOfMemory) => Err(HandlerError::OutOfMemory),
+            Err(DeviceFault) => Err(HandlerError::Write),
         }
     }
 }

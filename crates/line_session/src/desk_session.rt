@@ -10,9 +10,9 @@ use crate::desk_handler::DeskHandler;
 use std::alloc::Global;
 use till_request::{LineIn, LineOut, Role};
 
-/// Answers the lines of an input in order, as acts of a role. A line for whose act memory ran out has no answer, and
-/// ends the session. After an error all earlier answers have been written, and after `Write` perhaps a beginning of one
-/// more.
+/// Answers the lines of an input in order, as acts and looks of a role. A line for whose act memory ran out has no
+/// answer, and ends the session. After an error all earlier answers have been written, and after `Write` perhaps a
+/// beginning of one more.
 pub fn session<I: LineIn, O: LineOut, C: Clock, D: Desk>(
     alloc: Global,
     role: Role,
@@ -22,12 +22,13 @@ pub fn session<I: LineIn, O: LineOut, C: Clock, D: Desk>(
     desk: &mut D,
 ) -> Result<Ended, SessionFault>
     // proved all_answered, broken, stopped: A session too | session_takes_lines_of_all_roles
-    ensures all_answered { IfOk result (λ ended. Ends (desk_answers D.step C.tick role) (clock.old, desk.old)
+    // proved: It answers a look by what the desk shows | look_is_answered_out_of_memory
+    ensures all_answered { IfOk result (λ ended. Ends (desk_answers D.step D.looks C.tick role) (clock.old, desk.old)
         (clock.new, desk.new)
         (I.remaining input.old) (I.remaining input.new) (O.written output.old) (O.written output.new)
         ended.lines ended.cut) }
     ensures broken { OnErr result
-        (Breaks (desk_answers D.step C.tick role) (desk_drops D.step C.tick role) (clock.old, desk.old)
+        (Breaks (desk_answers D.step D.looks C.tick role) (desk_drops D.step D.looks C.tick role) (clock.old, desk.old)
         (clock.new, desk.new) (I.remaining input.old) (I.remaining input.new) (O.written output.old)
         (O.written output.new)) }
     ensures read_fault { RoseBy (one_if (is_read result)) (I.failures input.old) (I.failures input.new) }
@@ -35,9 +36,9 @@ pub fn session<I: LineIn, O: LineOut, C: Clock, D: Desk>(
     ensures reads { SpendsReads session_reads result I.reads I.asked input.old input.new }
     // proved: It names the cause, memory or the journal | failed_journal_is_out_of_memory
     ensures stopped { IfErr result (λ fault. fault ≢ SessionFault.Write
-        → Stops (desk_answers D.step C.tick role) (desk_drops D.step C.tick role) (desk_needs_memory role) fault
-        (clock.old, desk.old) (clock.new, desk.new) (I.remaining input.old) (I.remaining input.new)
-        (O.written output.old) (O.written output.new)) }
+        → Stops (desk_answers D.step D.looks C.tick role) (desk_drops D.step D.looks C.tick role)
+        (desk_needs_memory role) fault (clock.old, desk.old) (clock.new, desk.new) (I.remaining input.old)
+        (I.remaining input.new) (O.written output.old) (O.written output.new)) }
 {
     answer_lines(input, output, &DeskHandler { alloc, role }, clock, desk)
 }

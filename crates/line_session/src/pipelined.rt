@@ -22,6 +22,8 @@ struct Progress {
     alloc: Global,
     left: u32,
     line: Vec<u8>,
+    /// For the line of a look.
+    room: Vec<u8>,
     pending: AnswerBuffer,
 }
 
@@ -34,6 +36,7 @@ impl Progress {
             alloc,
             left: READS,
             line: Vec::new(alloc),
+            room: Vec::new(alloc),
             pending: AnswerBuffer::new(alloc),
         }
     }
@@ -100,19 +103,19 @@ impl Progress {
     ) -> Result<Ended, SessionFault>
         requires { (self.old.left ≤ READS) × (self.old.pending.held.items ≡ []) }
         ensures all_answered { IfOk result (λ ended. HoldsWithBuffered
-            (λ out_old out_new. Ends (desk_answers D.step C.tick role) (clock.old, desk.old) (clock.new, desk.new)
-            (S.In.remaining connection.old.input) (S.In.remaining connection.new.input) out_old out_new ended.lines
-            ended.cut)
+            (λ out_old out_new. Ends (desk_answers D.step D.looks C.tick role) (clock.old, desk.old)
+            (clock.new, desk.new) (S.In.remaining connection.old.input) (S.In.remaining connection.new.input)
+            out_old out_new ended.lines ended.cut)
             (S.Out.written connection.old.output) (S.Out.written connection.new.output)
             self.new.pending.held.items) }
         ensures broken { OnErr result
             (RelatesConnection S.In.remaining S.Out.written connection.old connection.new
-            (Breaks (desk_answers D.step C.tick role) (desk_drops D.step C.tick role) (clock.old, desk.old)
-            (clock.new, desk.new))) }
+            (Breaks (desk_answers D.step D.looks C.tick role) (desk_drops D.step D.looks C.tick role)
+            (clock.old, desk.old) (clock.new, desk.new))) }
         ensures stopped { IfErr result (λ fault. fault ≢ SessionFault.Write → HoldsWithBuffered
-            (Stops (desk_answers D.step C.tick role) (desk_drops D.step C.tick role) (desk_needs_memory role) fault
-            (clock.old, desk.old) (clock.new, desk.new) (S.In.remaining connection.old.input)
-            (S.In.remaining connection.new.input))
+            (Stops (desk_answers D.step D.looks C.tick role) (desk_drops D.step D.looks C.tick role)
+            (desk_needs_memory role) fault (clock.old, desk.old) (clock.new, desk.new)
+            (S.In.remaining connection.old.input) (S.In.remaining connection.new.input))
             (S.Out.written connection.old.output) (S.Out.written connection.new.output)
             self.new.pending.held.items) }
         ensures read_fault { RoseBy (one_if (is_read result)) (S.In.failures connection.old.input)
@@ -131,8 +134,10 @@ impl Progress {
             self.flush_unless_more(doors, connection)?;
             match read_line_into(&mut connection.input, &mut self.line, &mut self.left)? {
                 Found::Line => {
-                    let answer = written_answer(self.alloc, role, &self.line, clock, desk)?;
-                    self.pending.put(&mut connection.output, &answer)?
+                    let room = &mut self.room;
+                    let answer = written_answer(self.alloc, role, &self.line, clock, desk, room)?;
+                    let output = &mut connection.output;
+                    self.pending.put_written(output, &answer, &self.room)?
                 }
                 found => return self.end(&mut connection.output, count, cut_of(found)),
             }
@@ -164,14 +169,15 @@ pub fn pipelined_session<S: Doors, C: Clock, D: Desk>(
     desk: &mut D,
 ) -> Result<Ended, SessionFault>
     // proved: It may write answers together
+    // proved: It writes those to looks among them | look_is_written_twice
     ensures all_answered { IfOk result (λ ended. RelatesConnection S.In.remaining S.Out.written connection.old
         connection.new
-        (λ in_old in_new out_old out_new. Ends (desk_answers D.step C.tick role) (clock.old, desk.old)
+        (λ in_old in_new out_old out_new. Ends (desk_answers D.step D.looks C.tick role) (clock.old, desk.old)
         (clock.new, desk.new) in_old in_new out_old out_new ended.lines ended.cut)) }
     // proved: After a fault, a beginning of them | held_answers_are_written_twice
     ensures broken { OnErr result
         (RelatesConnection S.In.remaining S.Out.written connection.old connection.new
-        (Breaks (desk_answers D.step C.tick role) (desk_drops D.step C.tick role) (clock.old, desk.old)
+        (Breaks (desk_answers D.step D.looks C.tick role) (desk_drops D.step D.looks C.tick role) (clock.old, desk.old)
         (clock.new, desk.new))) }
     ensures read_fault { RoseBy (one_if (is_read result)) (S.In.failures connection.old.input)
         (S.In.failures connection.new.input) }
@@ -182,8 +188,8 @@ pub fn pipelined_session<S: Doors, C: Clock, D: Desk>(
     // proved: Whole answers, where no device failed
     ensures stopped { IfErr result (λ fault. fault ≢ SessionFault.Write
         → RelatesConnection S.In.remaining S.Out.written connection.old connection.new
-        (StopsAtDoor (desk_answers D.step C.tick role) (desk_drops D.step C.tick role) (desk_needs_memory role) fault
-        (clock.old, desk.old) (clock.new, desk.new))) }
+        (StopsAtDoor (desk_answers D.step D.looks C.tick role) (desk_drops D.step D.looks C.tick role)
+        (desk_needs_memory role) fault (clock.old, desk.old) (clock.new, desk.new))) }
 {
     let mut progress = Progress::new(alloc);
     match progress.answer_lines(role, doors, connection, clock, desk) {

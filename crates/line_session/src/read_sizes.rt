@@ -1,6 +1,7 @@
 //! Laws: answers don't depend on the sizes of reads.
 ghost use Rattle.till_request.specs.declared.act.Role.{Role};
-ghost use Rattle.line_session.specs.ReadSizes.{IsDetermined, IsIndependentOfReadSizes, IsClockDetermined, IsDeskDetermined};
+ghost use Rattle.line_session.specs.ReadSizes.{IsDetermined, IsIndependentOfReadSizes};
+ghost use Rattle.line_session.specs.ReadSizes.{IsClockDetermined, IsDeskDetermined};
 ghost use Rattle.line_session.specs.Session.{desk_answers};
 
 use crate::desk::{Clock, Desk};
@@ -20,6 +21,6 @@ pub fn law_of_read_sizes<C, D, S: LineHandler<C, D>>()
 /// The same law for the sessions of a role, at a clock and a desk of which each state leads to one next state.
 pub fn law_of_read_sizes_at_desks<C: Clock, D: Desk>()
     // proved: Nor do they at a desk
-    ensures { (role : Role) → IsClockDetermined C.tick → IsDeskDetermined D.step
-        → IsIndependentOfReadSizes (desk_answers D.step C.tick role) }
+    ensures { (role : Role) → IsClockDetermined C.tick → IsDeskDetermined D.step D.looks
+        → IsIndependentOfReadSizes (desk_answers D.step D.looks C.tick role) }
 {}

@@ -33,7 +33,8 @@ pub fn worker<S: Doors, C: Clock, D: Desk>(
     // proved: It serves connections one after another | worker_serves_one_connection_too_few
     ensures { Serves
         (ServesConnection S.opens S.fails S.reported
-        (RunsDeskSession D.step C.tick role S.In.remaining S.In.reads S.In.failures S.Out.written S.Out.failures))
+        (RunsDeskSession D.step D.looks C.tick role S.In.remaining S.In.reads S.In.failures S.Out.written
+        S.Out.failures))
         connections result doors.old (clock.old, desk.old) doors.new (clock.new, desk.new) }
 {
     let mut clean = 0;

@@ -6,7 +6,7 @@ use Rattle.line_session.proofs.serving.worker.Given as goal
 abbrev pub invariant-loop : goal.invariant-loop
 invariant-loop g l = record {
   serves : Serves
-      (ServesConnection g.S.Doors.opens g.S.Doors.fails g.S.Doors.reported (RunsDeskSession g.D.Desk.step g.C.Clock.tick l.role g.S.In.LineIn.remaining g.S.In.LineIn.reads
+      (ServesConnection g.S.Doors.opens g.S.Doors.fails g.S.Doors.reported (RunsDeskSession g.D.Desk.step g.D.Desk.looks g.C.Clock.tick l.role g.S.In.LineIn.remaining g.S.In.LineIn.reads
       g.S.In.LineIn.failures g.S.Out.LineOut.written g.S.Out.LineOut.failures))
       l.counter l.clean l.initial.doors (l.initial.clock, l.initial.desk) l.doors (l.clock, l.desk);
   few : l.clean ≤ l.counter;

@@ -8,7 +8,7 @@ use Rattle.line_session.proofs.pipelined.Progress.answer_lines.Given as goal
 -- the lines so far were read and answered, and the answers were written or are buffered
 abbrev pub invariant-turns : goal.invariant-turns
 invariant-turns g l = record {
-  answering : HoldsWithBuffered (Answers (desk_answers g.D.Desk.step g.C.Clock.tick l.role) (l.initial.clock, l.initial.desk) (l.clock, l.desk)
+  answering : HoldsWithBuffered (Answers (desk_answers g.D.Desk.step g.D.Desk.looks g.C.Clock.tick l.role) (l.initial.clock, l.initial.desk) (l.clock, l.desk)
       (g.S.In.LineIn.remaining l.initial.connection.input) (g.S.In.LineIn.remaining l.connection.input) l.count)
       (g.S.Out.LineOut.written l.initial.connection.output) (g.S.Out.LineOut.written l.connection.output) l.self.pending.held.items;
   within : l.count + l.self.left ≤ l.initial.self.left;
