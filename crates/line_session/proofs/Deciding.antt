@@ -1,19 +1,16 @@
--- What a line gets is written, or it is left without an answer.
-use Rattle.std.proofs.Common.{◌≡◌, ◌⊎◌, ℕ, List, Bool, true, false, Result, Ok, Err, refl, sym, ◌∙◌, ap, ap₂, subst, inl, inr}
+-- What a line gets and is written is an answer to the line.
+use Rattle.std.proofs.Common.{◌≡◌, ℕ, List, false, Err, refl, subst, inl, inr}
 use Rattle.till_request.specs.declared.act.Act.{Act}
 use Rattle.till_request.specs.declared.act.Role.{Role}
 use Rattle.till_request.specs.declared.act.LineFault.{LineFault}
 use Rattle.till_request.specs.declared.act.LineFault.TheVariants as fault
 use Rattle.till_request.specs.declared.act.Answer.{Answer}
-use Rattle.till_request.specs.declared.act.Answer.TheVariants.{Line, JournalFailed}
+use Rattle.till_request.specs.declared.act.Answer.TheVariants.{Line}
 use Rattle.till_request.specs.declared.look.LookAt.{LookAt}
-use Rattle.till_request.specs.declared.look.Asked.{Asked}
 use Rattle.till_request.specs.Gives.{Fails}
 use Rattle.till_request.specs.Looks.{line_asked}
-use Rattle.line_session.specs.Session.{AnswersAsked, IsUnwritten, LineAnswer, desk_answers, desk_drops, desk_needs_memory, line_of, stays_unwritten}
-use Rattle.line_session.specs.Deciding.{Decides, DecidesFault, LeavesLine}
-use Rattle.line_session.specs.declared.line_handler.HandlerError.{HandlerError}
-use Rattle.line_session.specs.declared.line_handler.HandlerError.TheVariants as error
+use Rattle.line_session.specs.Session.{AnswersAsked, LineAnswer, desk_answers, line_of, stays_unwritten}
+use Rattle.line_session.specs.Deciding.{Decides, DecidesFault}
 
 module _ {C D : Type 0} (step : D → Act → ℕ → Answer → D → Type 0) (looks : D → LookAt → ℕ → LineAnswer → D → Type 0) (tick : C → ℕ → C → Type 0) (role : Role)
     (line : List ℕ) (c : C) (d : D) (c' : C) (d' : D) where
@@ -45,14 +42,3 @@ module _ {C D : Type 0} (step : D → Act → ℕ → Answer → D → Type 0) (
     has_line = written;
     text_is = refl;
   }
-
-  -- what isn't written leaves the line without an answer
-  pub unwritten_leaves : (why : HandlerError) (a : Answer) → IsUnwritten why a → Decides step looks tick role line c d (Err a) c' d'
-      → LeavesLine (desk_drops step looks tick role) (desk_needs_memory role) why (c, d) line (c', d')
-  unwritten_leaves error.Write a is h = absurd is
-  unwritten_leaves error.OutOfMemory a is (inl asked) = inr (asked.0, a, is, asked.1, asked.2)
-  unwritten_leaves error.OutOfMemory a is (inr f) =
-      let same : f.0 ≡ fault.OutOfMemory = cc in
-      inl (f.3 same, ap₂ (λ x y. (x, y)) f.4 f.5)
-  unwritten_leaves error.Journal a is (inl asked) = (asked.0, a, is, asked.1, asked.2)
-  unwritten_leaves error.Journal a is (inr f) = absurd (cc)

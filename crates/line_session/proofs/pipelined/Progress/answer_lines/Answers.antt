@@ -60,7 +60,7 @@ returns-in_err-put_written-in-Line-clause-broken g c =
     let t = rw (c.in-Line.is, c.in_ok-flush_unless_more.ensures.input) at c.in_ok-found.ensures.taken in
     on_err_always _ (breaks_gone (desk_answers g.D.Desk.step g.D.Desk.looks g.C.Clock.tick c.args.role) (desk_drops g.D.Desk.step g.D.Desk.looks g.C.Clock.tick c.args.role) _ _ _ _ _ _ _ _ (c.turns.count + 1)
     (holds_after_answer (desk_answers g.D.Desk.step g.D.Desk.looks g.C.Clock.tick c.args.role) _ _ _ _ _ _ _ _ _ c.turns.count c.read_line_into.new.line.items _ way t.1 t.0
-    (rw c.deref.ensures.value at c.in_ok-answer-in-Line.ensures.ok)) c.in_err-put_written-in-Line.ensures.err)
+    (rw c.deref.ensures.value at c.in_ok-answer-in-Line.ensures.ok)) (rw c.deref-in-Line.ensures.value at c.in_err-put_written-in-Line.ensures.err))
 
 pub returns-in_default-clause-all_answered : goal.returns-in_default-clause-all_answered
 returns-in_default-clause-all_answered g c =
@@ -82,7 +82,7 @@ turns-preserved g c =
     let t = rw (c.in-Line.is, c.in_ok-flush_unless_more.ensures.input) at c.in_ok-found.ensures.taken in
     record {
       answering = still_holds_after_write _ _ _ _ _ _ (holds_after_answer (desk_answers g.D.Desk.step g.D.Desk.looks g.C.Clock.tick c.args.role) _ _ _ _ _ _ _ _ _ c.turns.count c.read_line_into.new.line.items _ way t.1 t.0
-          (rw c.deref.ensures.value at c.in_ok-answer-in-Line.ensures.ok)) c.in_ok-put_written-in-Line.ensures.ok;
+          (rw c.deref.ensures.value at c.in_ok-answer-in-Line.ensures.ok)) (rw c.deref-in-Line.ensures.value at c.in_ok-put_written-in-Line.ensures.ok);
       within = omega (arith, c.turns.invariant.within, c.in_ok-flush_unless_more.ensures.left, c.in_ok-found.ensures.used);
       reads = rose_left c.args.self.now.left c.turns.self.left c.read_line_into.new.left (omega (arith, c.turns.invariant.within))
           (omega (arith, c.in_ok-found.ensures.left, c.in_ok-flush_unless_more.ensures.left)) c.turns.invariant.reads
