@@ -22,7 +22,7 @@ pub fn session<I: LineIn, O: LineOut, C: Clock, D: Desk>(
     desk: &mut D,
 ) -> Result<Ended, SessionFault>
     // proved all_answered, broken, stopped: A session too | session_takes_lines_of_all_roles
-    // proved: It answers a look by what the desk shows | look_is_answered_out_of_memory
+    // proved: A look shows what the desk shows | look_is_answered_out_of_memory
     ensures all_answered { IfOk result (λ ended. Ends (desk_answers D.step D.looks C.tick role) (clock.old, desk.old)
         (clock.new, desk.new)
         (I.remaining input.old) (I.remaining input.new) (O.written output.old) (O.written output.new)
