@@ -1,6 +1,6 @@
 //! What a look shows of a site. It takes no memory, since it is made under a lock: rows go into room made beforehand.
 
-ghost use Rattle.std.specs.Prelude.{◌≡◌, ◌+◌, ◌++◌, ◌<◌, ◌≤◌, ℕ, List, [], IfOk, length, map, option_map, option_to_list};
+ghost use Rattle.std.specs.Prelude.{◌≡◌, ◌+◌, ◌++◌, ◌<◌, ◌≤◌, List, [], IfOk, map, option_map, option_to_list};
 ghost use Rattle.std.specs.Prelude.{vec_capacity, vec_len};
 ghost use Rattle.std.specs.List.{filter_map, range_with_len};
 ghost use Rattle.bpf_model.specs.declared.limits.TheConstants.{COUNTERS};
