@@ -71,7 +71,7 @@ pub fn play<I: LineIn, O: LineOut>(
     ensures write_fault { RoseBy (one_if (is_write result)) (O.failures output.old) (O.failures output.new) }
     ensures reads { SpendsReads session_reads result I.reads I.asked input.old input.new }
     ensures journal { result ≢ Err SessionFault.Journal }
-    // proved: Out of memory ends it only in reading a line, a load, a look or a script's own line
+    // proved: Out of memory ends it only in reading, a load, a look or a script's own line
     ensures stopped { IfErr result (λ fault. fault ≢ SessionFault.Write
         → PlayStops fault (new_site config) (I.remaining input.old) (I.remaining input.new) (O.written output.old)
         (O.written output.new)) }
