@@ -1,9 +1,10 @@
 -- Definitions: the lines of a script (source: this project). A line is an act of any role, a look (as in `look day`),
 -- `moment N`, `counter C` or `journal`. A line of none of these forms is bad. N is read as a number of 64 bits, and C as
 -- one of 32 bits.
-use Rattle.std.specs.Prelude.{ℕ, List, [], ◌∷◌, codes, Bool, ◌&&◌, Result, Ok, if◌then◌else◌}
+use Rattle.std.specs.Prelude.{ℕ, List, [], ◌∷◌, codes, length, nat_lt, Bool, ◌&&◌, Option, Some, None, Result, Ok, Err, if◌then◌else◌}
 use Rattle.std.specs.Str.{bytes_eq}
 use Rattle.till_request.specs.declared.act.LineFault.{LineFault}
+use Rattle.till_request.specs.declared.act.LineFault.TheVariants.{TooLong}
 use Rattle.till_request.specs.declared.act.Role.TheVariants.{All}
 use Rattle.till_request.specs.declared.look.Asked.{Asked}
 use Rattle.till_request.specs.declared.look.Asked.TheVariants as asks
@@ -23,9 +24,6 @@ asking_line ws = do
   asked ← words_asked All ws
   Ok (line_for asked)
 
-abbrev pub line_alone : List ℕ → List (List ℕ) → Result ScriptLine LineFault
-line_alone word ws = if bytes_eq word (codes "journal") then Ok lines.Journal else asking_line ws
-
 -- The word is this name, and the value after it isn't empty.
 abbrev pub is_named : List ℕ → List ℕ → List ℕ → Bool
 is_named word name value = bytes_eq word name && is_some_word value
@@ -40,15 +38,23 @@ counter_line value = do
   c ← number 32 value
   Ok (lines.Counter c)
 
-abbrev pub line_with_value : List ℕ → List ℕ → List (List ℕ) → Result ScriptLine LineFault
-line_with_value word value ws =
-    if is_named word (codes "moment") value then moment_line value else if is_named word (codes "counter") value then counter_line value else asking_line ws
+-- Parses a name and its value, if only scripts have such a line.
+abbrev pub own_pair : List ℕ → List ℕ → Option (Result ScriptLine LineFault)
+own_pair word value =
+    if is_named word (codes "moment") value then Some (moment_line value)
+    else if is_named word (codes "counter") value then Some (counter_line value)
+    else None
 
-abbrev pub line_of_words : List (List ℕ) → Result ScriptLine LineFault
-line_of_words (word ∷ []) = line_alone word (word ∷ [])
-line_of_words (word ∷ value ∷ []) = line_with_value word value (word ∷ value ∷ [])
-line_of_words ws = asking_line ws
+-- Parses the words of a line that only scripts have. None for any other words.
+abbrev pub own_line : List (List ℕ) → Option (Result ScriptLine LineFault)
+own_line (word ∷ []) = if bytes_eq word (codes "journal") then Some (Ok lines.Journal) else None
+own_line (word ∷ value ∷ []) = own_pair word value
+own_line ws = None
 
--- Parses a line of a script.
+abbrev pub line_or : Option (Result ScriptLine LineFault) → Result ScriptLine LineFault → Result ScriptLine LineFault
+line_or None other = other
+line_or (Some own) other = own
+
+-- Parses a line of a script. A line of more than 8,400 bytes is too long.
 abbrev pub line_of : List ℕ → Result ScriptLine LineFault
-line_of line = line_of_words (words line)
+line_of line = if nat_lt 8400 (length line) then Err TooLong else line_or (own_line (words line)) (asking_line (words line))

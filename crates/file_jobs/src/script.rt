@@ -1,16 +1,16 @@
 //! Parses the lines of a script: the acts of all roles, looks, and the lines that only scripts have.
-ghost use Rattle.std.specs.Prelude.{◌≡◌, Err, map};
+ghost use Rattle.std.specs.Prelude.{◌≡◌, ◌≤◌, Err, length, map};
 ghost use Rattle.std.specs.Str.{bytes_eq};
 ghost use Rattle.till_request.specs.Gives.{Gives};
 ghost use Rattle.till_request.specs.Grammar.{IsLoad, words as words_of};
-ghost use Rattle.file_jobs.specs.Script.{asking_line, is_named, line_alone, line_for, line_of, line_of_words};
-ghost use Rattle.file_jobs.specs.Script.{line_with_value};
+ghost use Rattle.file_jobs.specs.Script.{asking_line, counter_line, is_named, line_for, line_of};
+ghost use Rattle.file_jobs.specs.Script.{moment_line, own_line, own_pair};
 
 use std::alloc::Global;
-use till_request::look::words_asked;
+use till_request::look::parse_asked;
 use till_request::numbers::{number_u32, number_u64};
 use till_request::parts::split_at_most;
-use till_request::{Act, Asked, LINE_WORDS, LineFault, LookAt, Role};
+use till_request::{Act, Asked, LINE_BYTES, LineFault, LookAt, Role};
 
 /// A parsed line of a script.
 #[derive(Drop)]
@@ -41,52 +41,57 @@ fn line_for(asked: Asked) -> ScriptLine
     }
 }
 
-fn read_asking(alloc: Global, words: &[&[u8]]) -> Result<ScriptLine, LineFault>
-    ensures given { Gives result (asking_line (map (λ w. w.now) words.now)) }
-    ensures memory { result ≡ Err LineFault.OutOfMemory → IsLoad Role.All (map (λ w. w.now) words.now) }
+/// The line, if all roles together may send it.
+fn read_asking(alloc: Global, line: &[u8]) -> Result<ScriptLine, LineFault>
+    requires { length line.now ≤ 8400 }
+    ensures given { Gives result (asking_line (words_of line.now)) }
+    ensures memory { result ≡ Err LineFault.OutOfMemory → IsLoad Role.All (words_of line.now) }
 {
-    Ok(line_for(words_asked(alloc, Role::All, words)?))
+    Ok(line_for(parse_asked(alloc, Role::All, line)?))
 }
 
-fn read_alone(alloc: Global, word: &[u8], words: &[&[u8]]) -> Result<ScriptLine, LineFault>
-    ensures given { Gives result (line_alone word.now (map (λ w. w.now) words.now)) }
-    ensures memory { result ≡ Err LineFault.OutOfMemory → IsLoad Role.All (map (λ w. w.now) words.now) }
+fn moment_of(value: &[u8]) -> Result<ScriptLine, LineFault>
+    ensures { result ≡ moment_line value.now }
 {
-    if word == b"journal".as_slice() {
-        Ok(ScriptLine::Journal)
-    } else {
-        read_asking(alloc, words)
-    }
+    Ok(ScriptLine::Moment(number_u64(value)?))
 }
 
-fn read_with_value(
-    alloc: Global,
-    word: &[u8],
-    value: &[u8],
-    words: &[&[u8]],
-) -> Result<ScriptLine, LineFault>
-    ensures given { Gives result (line_with_value word.now value.now (map (λ w. w.now) words.now)) }
-    ensures memory { result ≡ Err LineFault.OutOfMemory → IsLoad Role.All (map (λ w. w.now) words.now) }
+fn counter_of(value: &[u8]) -> Result<ScriptLine, LineFault>
+    ensures { result ≡ counter_line value.now }
+{
+    Ok(ScriptLine::Counter(number_u32(value)?))
+}
+
+fn own_pair(word: &[u8], value: &[u8]) -> Option<Result<ScriptLine, LineFault>>
+    ensures { result ≡ own_pair word.now value.now }
 {
     if is_pair(word, b"moment", value) {
-        let moment = number_u64(value)?;
-        return Ok(ScriptLine::Moment(moment));
+        Some(moment_of(value))
+    } else if is_pair(word, b"counter", value) {
+        Some(counter_of(value))
+    } else {
+        None
     }
-    if is_pair(word, b"counter", value) {
-        let counter = number_u32(value)?;
-        return Ok(ScriptLine::Counter(counter));
-    }
-    read_asking(alloc, words)
 }
 
-fn read_words(alloc: Global, words: &[&[u8]]) -> Result<ScriptLine, LineFault>
-    ensures given { Gives result (line_of_words (map (λ w. w.now) words.now)) }
-    ensures memory { result ≡ Err LineFault.OutOfMemory → IsLoad Role.All (map (λ w. w.now) words.now) }
+fn own_words(words: &[&[u8]]) -> Option<Result<ScriptLine, LineFault>>
+    ensures { result ≡ own_line (map (λ w. w.now) words.now) }
 {
     match words {
-        [word] => read_alone(alloc, word, words),
-        [word, value] => read_with_value(alloc, word, value, words),
-        _ => read_asking(alloc, words),
+        [word] if *word == b"journal".as_slice() => Some(Ok(ScriptLine::Journal)),
+        [_word] => None,
+        [word, value] => own_pair(word, value),
+        _ => None,
+    }
+}
+
+/// The line, if only scripts have it.
+fn read_own(line: &[u8]) -> Option<Result<ScriptLine, LineFault>>
+    ensures { result ≡ own_line (words_of line.now) }
+{
+    match split_at_most::<2>(line, b' ') {
+        Some(words) => own_words(words.as_slice()),
+        None => None,
     }
 }
 
@@ -95,8 +100,11 @@ pub fn parse_script_line(alloc: Global, line: &[u8]) -> Result<ScriptLine, LineF
     ensures given { Gives result (line_of line.now) }
     ensures memory { result ≡ Err LineFault.OutOfMemory → IsLoad Role.All (words_of line.now) }
 {
-    match split_at_most::<LINE_WORDS>(line, b' ') {
-        Some(words) => read_words(alloc, words.as_slice()),
-        None => Err(LineFault::BadLine),
+    if line.len() > LINE_BYTES {
+        return Err(LineFault::TooLong);
+    }
+    match read_own(line) {
+        Some(own) => own,
+        None => read_asking(alloc, line),
     }
 }
