@@ -157,7 +157,9 @@ pub(crate) fn sale_of(unpaid: &[Ended], entry: &Entry, change: &Change) -> Optio
 fn worth(price: u32, volume: u32) -> u64
     ensures { result ≡ worth price volume }
 {
-    (u64::from(price) * u64::from(volume) + 500) / 1000
+    let scaled = price as u64 * volume as u64;
+    let rounded = scaled + 500;
+    rounded / 1000
 }
 
 /// Returns by how many cents the amount of a sale is off what its volume costs, or `None` if its product isn't known.
