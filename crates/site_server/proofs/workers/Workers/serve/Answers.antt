@@ -1,4 +1,4 @@
-use Rattle.site_server.specs.Tasks.{Worked, opened_by}
+use Rattle.site_server.specs.Tasks.{opened_by}
 use Rattle.site_server.proofs.Keeping.{worked_keeps}
 use Rattle.site_server.proofs.Working.{worked}
 use Rattle.site_server.proofs.workers.Workers.serve.Goals as goal
