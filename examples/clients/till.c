@@ -161,8 +161,9 @@ int main(int count, char **words)
         usleep(PAUSE);
     said = ask("till %d release %d %d", till, point, cents);
     if (!said) {
-        reach();
-        said = state_of(point) >= AUTHORISED ? "granted" : ask("till %d release %d %d", till, point, cents);
+        reach(); /* it was done if the point is busy, or has sold already */
+        said = state_of(point) >= AUTHORISED || unpaid_above(point, last, &number)
+            ? "granted" : ask("till %d release %d %d", till, point, cents);
     }
     printf("point %d: release %s\n", point, said ? said : "has no answer");
     if (!said || strncmp(said, "granted", 7) != 0)

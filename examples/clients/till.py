@@ -31,9 +31,13 @@ def is_busy(state):
     return AUTHORISED <= state <= SUSPENDED_FUELLING
 
 
-def release(site, till, point, cents):
-    """Whether the site releases the point. How much it granted is the point's limit."""
-    answer = site.do(f"till {till} release {point} {cents}", lambda: is_busy(site.point(point)[0]))
+def release(site, till, point, cents, before):
+    """Whether the site releases the point. If the answer is lost, it did if the point is busy, or has already sold more
+    than what was unpaid before. How much it granted is the point's limit."""
+    answer = site.do(
+        f"till {till} release {point} {cents}",
+        lambda: is_busy(site.point(point)[0]) or site.unpaid(point).keys() > before.keys(),
+    )
     print(f"point {point}: release {' '.join(answer)}")
     return answer[0] in ("granted", "done")
 
@@ -61,7 +65,7 @@ def main():
     for number, (_, _, _, amount, _) in before.items():
         print(f"point {point}: transaction {number} of {amount} cents was left unpaid")
     wait_for_a_nozzle(site, till, point)
-    if not release(site, till, point, cents):
+    if not release(site, till, point, cents, before):
         sys.exit(1)
     follow(site, point)
     for number, (product, price, volume, amount, _) in site.unpaid(point).items():
