@@ -15,6 +15,8 @@ REFUSED = re.compile(r"(\d+ )?[SLV]\d+( |$)")
 
 
 def main():
+    if len(sys.argv) < 3:
+        raise SystemExit(__doc__)
     try:
         site = connected(sys.argv[1])
     except OSError as error:

@@ -1,6 +1,7 @@
 """A connection to the site, for a till or a dispenser: a line is sent, and its answer is read."""
 
 import socket
+import sys
 import time
 
 PATIENCE = 10  # seconds that an answer, or a connection, may take
@@ -9,6 +10,14 @@ PAUSE = 0.2  # seconds between two tries, and between two looks
 
 class Lost(Exception):
     """No answer came: whether the line was done has to be looked up."""
+
+
+def numbers(count, usage):
+    """The numbers behind the first word of the command line. Where there are others, the usage is printed."""
+    words = sys.argv[2:]
+    if len(words) != count or not all(word.isdecimal() for word in words):
+        raise SystemExit(usage)
+    return map(int, words)
 
 
 def connected(where):

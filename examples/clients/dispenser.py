@@ -3,13 +3,15 @@
 
     dispenser.py PORT|PATH POINT NOZZLE CENTS     a port of 127.0.0.1, or the path of a local socket; CENTS is what the
                                                   customer wants at most
+
+The status is 1 where the site refuses, or can't be reached for ten seconds.
 """
 
 import sys
 import time
 
 sys.dont_write_bytecode = True
-from controller import PAUSE, Controller, Lost
+from controller import PAUSE, Controller, Lost, numbers
 
 STEPS = 5
 NO_ORDER = ["S33"]
@@ -60,7 +62,7 @@ def serve(site, point, nozzle, cents):
 
 
 def main():
-    point, nozzle, cents = map(int, sys.argv[2:5])
+    point, nozzle, cents = numbers(3, __doc__)
     site = Controller(sys.argv[1])
     lifted = site.do(f"disp {point} up {nozzle}", lambda: site.point(point)[1] == nozzle)
     print(f"point {point}: up {' '.join(lifted)}")

@@ -4,7 +4,7 @@
  *     ./till PORT|PATH TILL POINT CENTS     a port of 127.0.0.1, or the path of a local socket; CENTS is the amount that
  *                                           is asked for
  *
- * The status is 1 if the release was refused or the transaction isn't settled, 3 if the site can't be reached. */
+ * The status is 1 where it comes to no sale, or the site can't be reached for ten seconds, and 2 for wrong arguments. */
 #include <arpa/inet.h>
 #include <stdarg.h>
 #include <stdio.h>
@@ -84,7 +84,7 @@ static void reach(void)
         usleep(PAUSE);
     }
     fprintf(stderr, "no connection to %s\n", where);
-    exit(3);
+    exit(1);
 }
 
 /* A look enters nothing, so one that was lost is sent again. */
@@ -101,11 +101,12 @@ static const char *look(const char *what, int point)
 
 static int state_of(int point)
 {
+    const char *said = look("point", point);
     int state;
 
-    if (sscanf(look("point", point), "point %d", &state) == 1)
+    if (sscanf(said, "point %d", &state) == 1)
         return state;
-    fprintf(stderr, "point %d: %s\n", point, answer);
+    fprintf(stderr, "point %d: %s\n", point, said);
     exit(1);
 }
 
@@ -142,21 +143,36 @@ static int settles(const char *verb, int till, int point, int number)
     return strcmp(said, "done") == 0;
 }
 
+/* Opens the point, unless it is open. The line is sent again where its answer is lost and the point is still closed. */
+static void open_point(int till, int point)
+{
+    while (state_of(point) == CLOSED) {
+        const char *said = ask("till %d open %d", till, point);
+
+        if (!said) {
+            reach();
+            continue;
+        }
+        printf("point %d: open %s\n", point, said);
+        if (strcmp(said, "done") != 0)
+            exit(1);
+    }
+}
+
 int main(int count, char **words)
 {
     int till, point, cents, number, last = 0;
     unsigned product, price, volume, amount;
     const char *said;
 
-    if (count != 5)
+    if (count != 5 || strlen(words[1]) > 100)
         return fprintf(stderr, "usage: till PORT|PATH TILL POINT CENTS\n"), 2;
     where = words[1], till = atoi(words[2]), point = atoi(words[3]), cents = atoi(words[4]);
     setvbuf(stdout, NULL, _IOLBF, 0);
     reach();
     while (unpaid_above(point, last, &number))
         printf("point %d: transaction %d was left unpaid\n", point, last = number);
-    if (state_of(point) == CLOSED && !ask("till %d open %d", till, point))
-        reach();
+    open_point(till, point);
     while (state_of(point) != CALLING)
         usleep(PAUSE);
     said = ask("till %d release %d %d", till, point, cents);

@@ -4,13 +4,15 @@ for a release, follows the delivery, and settles its transaction with a receipt.
 
     till.py PORT|PATH TILL POINT CENTS     a port of 127.0.0.1, or the path of a local socket; CENTS is the amount that
                                            is asked for
+
+The status is 1 where it comes to no sale, or the site can't be reached for ten seconds.
 """
 
 import sys
 import time
 
 sys.dont_write_bytecode = True
-from controller import PAUSE, Controller
+from controller import PAUSE, Controller, numbers
 
 CLOSED, IDLE, CALLING, AUTHORISED, SUSPENDED_FUELLING = 2, 3, 4, 5, 9
 
@@ -23,6 +25,8 @@ def wait_for_a_nozzle(site, till, point):
     if site.point(point)[0] == CLOSED:
         answer = site.do(f"till {till} open {point}", lambda: site.point(point)[0] in (IDLE, CALLING))
         print(f"point {point}: open {' '.join(answer)}")
+        if answer != ["done"]:
+            sys.exit(1)
     while site.point(point)[0] != CALLING:
         time.sleep(PAUSE)
 
@@ -59,7 +63,7 @@ def settle(site, till, point, number):
 
 
 def main():
-    till, point, cents = map(int, sys.argv[2:5])
+    till, point, cents = numbers(3, __doc__)
     site = Controller(sys.argv[1])
     before = site.unpaid(point)
     for number, (_, _, _, amount, _) in before.items():
