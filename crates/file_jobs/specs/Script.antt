@@ -55,6 +55,10 @@ abbrev pub line_or : Option (Result ScriptLine LineFault) → Result ScriptLine 
 line_or None other = other
 line_or (Some own) other = own
 
+-- Parses the words of a line of a script.
+abbrev pub words_line : List (List ℕ) → Result ScriptLine LineFault
+words_line ws = line_or (own_line ws) (asking_line ws)
+
 -- Parses a line of a script. A line of more than 8,400 bytes is too long.
 abbrev pub line_of : List ℕ → Result ScriptLine LineFault
-line_of line = if nat_lt 8400 (length line) then Err TooLong else line_or (own_line (words line)) (asking_line (words line))
+line_of line = if nat_lt 8400 (length line) then Err TooLong else words_line (words line)

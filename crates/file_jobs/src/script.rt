@@ -1,16 +1,16 @@
 //! Parses the lines of a script: the acts of all roles, looks, and the lines that only scripts have.
-ghost use Rattle.std.specs.Prelude.{◌≡◌, ◌≤◌, Err, length, map};
+ghost use Rattle.std.specs.Prelude.{◌≡◌, Err, map};
 ghost use Rattle.std.specs.Str.{bytes_eq};
 ghost use Rattle.till_request.specs.Gives.{Gives};
 ghost use Rattle.till_request.specs.Grammar.{IsLoad, words as words_of};
 ghost use Rattle.file_jobs.specs.Script.{asking_line, counter_line, is_named, line_for, line_of};
-ghost use Rattle.file_jobs.specs.Script.{moment_line, own_line, own_pair};
+ghost use Rattle.file_jobs.specs.Script.{moment_line, own_line, own_pair, words_line};
 
 use std::alloc::Global;
-use till_request::look::parse_asked;
+use till_request::look::words_asked;
 use till_request::numbers::{number_u32, number_u64};
 use till_request::parts::split_at_most;
-use till_request::{Act, Asked, LINE_BYTES, LineFault, LookAt, Role};
+use till_request::{Act, Asked, LINE_BYTES, LINE_WORDS, LineFault, LookAt, Role};
 
 /// A parsed line of a script.
 #[derive(Drop)]
@@ -42,12 +42,11 @@ fn line_for(asked: Asked) -> ScriptLine
 }
 
 /// The line, if all roles together may send it.
-fn read_asking(alloc: Global, line: &[u8]) -> Result<ScriptLine, LineFault>
-    requires { length line.now ≤ 8400 }
-    ensures given { Gives result (asking_line (words_of line.now)) }
-    ensures memory { result ≡ Err LineFault.OutOfMemory → IsLoad Role.All (words_of line.now) }
+fn read_asking(alloc: Global, words: &[&[u8]]) -> Result<ScriptLine, LineFault>
+    ensures given { Gives result (asking_line (map (λ w. w.now) words.now)) }
+    ensures memory { result ≡ Err LineFault.OutOfMemory → IsLoad Role.All (map (λ w. w.now) words.now) }
 {
-    Ok(line_for(parse_asked(alloc, Role::All, line)?))
+    Ok(line_for(words_asked(alloc, Role::All, words)?))
 }
 
 fn moment_of(value: &[u8]) -> Result<ScriptLine, LineFault>
@@ -85,14 +84,26 @@ fn own_words(words: &[&[u8]]) -> Option<Result<ScriptLine, LineFault>>
     }
 }
 
-/// The line, if only scripts have it.
-fn read_own(line: &[u8]) -> Option<Result<ScriptLine, LineFault>>
-    ensures { result ≡ own_line (words_of line.now) }
+fn read_words(alloc: Global, words: &[&[u8]]) -> Result<ScriptLine, LineFault>
+    ensures given { Gives result (words_line (map (λ w. w.now) words.now)) }
+    ensures memory { result ≡ Err LineFault.OutOfMemory → IsLoad Role.All (map (λ w. w.now) words.now) }
 {
-    match split_at_most::<2>(line, b' ') {
-        Some(words) => own_words(words.as_slice()),
-        None => None,
+    match own_words(words) {
+        Some(own) => own,
+        None => read_asking(alloc, words),
     }
+}
+
+/// As `parse_script_line`, of a line of any length.
+#[tactic(auto, using(crate::proofs::LongLines::too_many))]
+fn read_short(alloc: Global, line: &[u8]) -> Result<ScriptLine, LineFault>
+    ensures given { Gives result (words_line (words_of line.now)) }
+    ensures memory { result ≡ Err LineFault.OutOfMemory → IsLoad Role.All (words_of line.now) }
+{
+    let Some(words) = split_at_most::<LINE_WORDS>(line, b' ') else {
+        return Err(LineFault::BadLine);
+    };
+    read_words(alloc, words.as_slice())
 }
 
 /// Parses a line of a script, without its LF. Memory is taken for the bytes of a load alone.
@@ -103,8 +114,5 @@ pub fn parse_script_line(alloc: Global, line: &[u8]) -> Result<ScriptLine, LineF
     if line.len() > LINE_BYTES {
         return Err(LineFault::TooLong);
     }
-    match read_own(line) {
-        Some(own) => own,
-        None => read_asking(alloc, line),
-    }
+    read_short(alloc, line)
 }
