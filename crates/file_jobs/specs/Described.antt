@@ -1,7 +1,7 @@
 -- Promises: the `clap` argument that is made from each `Argument`, and the `clap` command that is made from each
 -- `SubcommandDescription`.
-use Rattle.std.specs.Prelude.{List, [], ◌∷◌, Some, codes}
-use Rattle.clap.specs.Words.{App, Rule, Text, new_app, new_rule, with_rule, with_subcommand}
+use Rattle.std.specs.Prelude.{List, [], ◌∷◌, codes}
+use Rattle.clap.specs.Words.{App, Rule, new_app, with_rule, with_subcommand}
 use Rattle.file_jobs.specs.JobRequest.{context_rule, file_rule, flag_rule, kind_rule, mask_rule, option_rule, spare_rule}
 use Rattle.file_jobs.specs.declared.subcommands.Argument.{Argument}
 use Rattle.file_jobs.specs.declared.subcommands.Argument.TheVariants as argument

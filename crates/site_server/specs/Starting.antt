@@ -1,5 +1,5 @@
 -- Definitions: how many of a site's workers have a thread when the site begins to be served (source: this project).
-use Rattle.std.specs.Prelude.{ℕ, ◌+◌, ◌==◌, ◌&&◌, nat_lt, not, min, if◌then◌else◌, Bool}
+use Rattle.std.specs.Prelude.{◌+◌, ◌==◌, ◌&&◌, nat_lt, not, min, if◌then◌else◌, Bool}
 use Rattle.till_request.specs.declared.act.Role.{Role}
 use Rattle.till_request.specs.declared.act.Role.TheVariants.{Till, Dispenser, Owner, All, OneTill, SomePoints}
 use Rattle.site_server.specs.declared.starting.RoleThreads.{RoleThreads}

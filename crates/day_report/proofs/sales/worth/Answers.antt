@@ -1,4 +1,4 @@
-use Rattle.std.proofs.Common.{◌≤◌, ◌*◌, arith, mul-le-mul}
+use Rattle.std.proofs.Common.{◌≤◌, arith, mul-le-mul}
 use Rattle.day_report.proofs.sales.worth.Goals as goal
 
 pub overflow_mul-scaled : goal.overflow_mul-scaled

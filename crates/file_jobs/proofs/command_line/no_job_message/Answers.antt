@@ -1,4 +1,4 @@
-use Rattle.std.proofs.Common.{◌≡◌, Box, List, None, Option, Some, ap, option_map, unwrap_or, sym, ◌∙◌}
+use Rattle.std.proofs.Common.{◌≡◌, Box, List, None, Option, Some, ap, option_map, unwrap_or, ◌∙◌}
 use Rattle.std.specs.Box.{box_value}
 use Rattle.clap.specs.Words.{Row, Text, found_of, rows_of}
 use Rattle.clap.specs.declared.parser.matches.ArgMatches.TheViews.{out-ArgMatches, out-SubCommand}

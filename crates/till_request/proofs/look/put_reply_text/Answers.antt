@@ -1,4 +1,4 @@
-use Rattle.std.proofs.Common.{◌≡◌, ◌∙◌, ◌++◌, ap, arith, rules, []}
+use Rattle.std.proofs.Common.{◌≡◌, ◌∙◌, ap, arith, rules, []}
 use Rattle.std.proofs.lemmas.Str.Pattern.{strip_prefix_char}
 use Rattle.till_request.specs.Answer.{reply_words}
 use Rattle.till_request.specs.Short.{with_words}
