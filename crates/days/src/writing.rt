@@ -201,7 +201,7 @@ fn put_journal(alloc: Global, text: &mut String, file: &OpeningFile) -> Result<(
 /// The one text of an opening: its lines, each with an LF.
 #[tactic(auto, using(crate::proofs::Written::whole_text))]
 pub fn opening_text(alloc: Global, file: &OpeningFile) -> Result<String, AllocError>
-    // proved: It is the text of the opening | lock_is_taken_off
+    // proved: It is the text of the opening | price_of_an_unpaid_is_lost
     // proved: Transactions are numbered on in it
     // proved: An unpaid transaction keeps product and price in it | price_of_an_unpaid_is_lost
     ensures { IfOk result (λ text. string_bytes text ≡ opening_text file.now) }
