@@ -11,7 +11,7 @@ use Rattle.till_request.specs.declared.act.Act.{Act}
 use Rattle.till_request.specs.declared.act.Role.{Role}
 use Rattle.till_request.specs.declared.act.Role.TheVariants as roles
 use Rattle.till_request.specs.declared.act.LineFault.{LineFault}
-use Rattle.till_request.specs.declared.act.LineFault.TheVariants.{TooLong, BadLine, BadNumber, CutLine, OutOfMemory}
+use Rattle.till_request.specs.declared.act.LineFault.TheVariants.{TooLong, BadLine, BadNumber, CutLine, OtherDoor, OutOfMemory}
 use Rattle.till_request.specs.declared.form.Form.{Form}
 use Rattle.till_request.specs.declared.form.Form.TheVariants as forms
 use Rattle.till_request.specs.declared.form.AmountVerb.{AmountVerb}
@@ -31,6 +31,7 @@ IsBad (Err TooLong) = ⊥
 IsBad (Err BadLine) = Unit {0}
 IsBad (Err BadNumber) = Unit {0}
 IsBad (Err CutLine) = ⊥
+IsBad (Err OtherDoor) = ⊥
 IsBad (Err OutOfMemory) = ⊥
 
 IsBad-bind : {A B : Type 0} (r : Result A LineFault) (f : A → Result B LineFault) → IsBad r → ((x : A) → IsBad (f x)) → IsBad (r >>= f)
@@ -39,6 +40,7 @@ IsBad-bind (Err TooLong) f h k = absurd h
 IsBad-bind (Err BadLine) f h k = tt
 IsBad-bind (Err BadNumber) f h k = tt
 IsBad-bind (Err CutLine) f h k = absurd h
+IsBad-bind (Err OtherDoor) f h k = absurd h
 IsBad-bind (Err OutOfMemory) f h k = absurd h
 
 IsBad-cond : {A : Type 0} (b : Bool) (x : A) → IsBad (cond b (Ok x) (Err BadNumber))
@@ -107,8 +109,8 @@ IsBad-act_within_role roles.Till parsed_act h = h
 IsBad-act_within_role roles.Dispenser parsed_act h = h
 IsBad-act_within_role roles.Owner parsed_act h = h
 IsBad-act_within_role roles.All parsed_act h = h
-IsBad-act_within_role (roles.OneTill number) parsed_act h = IsBad-bind parsed_act _ h (λ act. IsBad-own (names_till number act) act)
-IsBad-act_within_role (roles.SomePoints points) parsed_act h = IsBad-bind parsed_act _ h (λ act. IsBad-own (names_point points act) act)
+IsBad-act_within_role (roles.OneTill number stray) parsed_act h = IsBad-bind parsed_act _ h (λ act. IsBad-own (names_till number act) act)
+IsBad-act_within_role (roles.SomePoints points stray) parsed_act h = IsBad-bind parsed_act _ h (λ act. IsBad-own (names_point points act) act)
 
 pub IsBad-act_of_line : (role : Role) (line : List ℕ) → IsBad (act_of_line role line)
 IsBad-act_of_line role line = IsBad-act_within_role role (act_by_first_form role (words line)) (IsBad-act_by (find (suits role (words line)) all_forms) (words line))
@@ -129,4 +131,5 @@ fault_taken TooLong old new role before after line t l e load = absurd (bad_alon
 fault_taken BadLine old new role before after line t l e load = (line, t, l, e)
 fault_taken BadNumber old new role before after line t l e load = (line, t, l, e)
 fault_taken CutLine old new role before after line t l e load = absurd (bad_along (sym (short_read role line l.1) ∙ e) (IsBad-act_of_line role line))
+fault_taken OtherDoor old new role before after line t l e load = absurd (bad_along (sym (short_read role line l.1) ∙ e) (IsBad-act_of_line role line))
 fault_taken OutOfMemory old new role before after line t l e load = inr (line, t, l, load refl)

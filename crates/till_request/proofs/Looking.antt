@@ -1,6 +1,6 @@
 -- A line that looks is no act's line, and words that are too few or too many ask for nothing.
-use Rattle.std.proofs.Common.{◌≡◌, ◌<◌, ℕ, List, [], ◌∷◌, Bool, true, false, Bor, None, Result, Ok, Err, length, drop, map, find, codes, refl, sym, ◌∙◌, ap, subst, arith, nat_lt}
-use Rattle.std.specs.Prelude.{◌↔◌, if◌then◌else◌}
+use Rattle.std.proofs.Common.{◌≡◌, ◌<◌, ℕ, List, [], ◌∷◌, Bool, true, false, Bor, None, Result, Ok, Err, length, drop, map, find, codes, refl, sym, ◌∙◌, ◌&&◌, ap, subst, arith, nat_lt}
+use Rattle.std.specs.Prelude.{◌↔◌, if◌then◌else◌, is_some}
 use Rattle.std.proofs.lemmas.Bool.{and_parts}
 use Rattle.std.proofs.lemmas.Slice.Eq.{bytes_eq-Decides}
 use Rattle.bpf_model.specs.declared.context.Layout.TheVariants as layouts
@@ -8,14 +8,15 @@ use Rattle.till_request.specs.declared.act.Act.{Act}
 use Rattle.till_request.specs.declared.act.Role.{Role}
 use Rattle.till_request.specs.declared.act.Role.TheVariants as roles
 use Rattle.till_request.specs.declared.act.LineFault.{LineFault}
-use Rattle.till_request.specs.declared.act.LineFault.TheVariants.{TooLong, BadLine}
+use Rattle.till_request.specs.declared.act.LineFault.TheVariants.{TooLong, BadLine, OtherDoor}
 use Rattle.till_request.specs.declared.form.Form.{Form}
 use Rattle.till_request.specs.declared.form.Form.TheVariants as forms
 use Rattle.till_request.specs.declared.look.LookAt.{LookAt}
 use Rattle.till_request.specs.declared.look.Asked.{Asked}
 use Rattle.till_request.specs.declared.look.Asked.TheVariants as asks
 use Rattle.till_request.specs.Grammar.{◌>>=◌, act_by, act_of_words, act_within_role, all_forms, allows, fits, sender, suits, template, words}
-use Rattle.till_request.specs.Looks.{AsksForActs, is_look, look_asked, look_of_words, look_within, words_asked}
+use Rattle.till_request.specs.Looks.{AsksForActs, asked_or_told, fault_told, has_some_form, is_look, is_some_look, look_asked, look_of_words, look_within}
+use Rattle.till_request.specs.Looks.{tells_stray, words_answered, words_asked}
 use Rattle.till_request.proofs.Fitting.{between, find_none, fits_count, not_true}
 
 -- `look` alone, or no word, asks for nothing
@@ -29,8 +30,8 @@ within_fault roles.Till = refl
 within_fault roles.Dispenser = refl
 within_fault roles.Owner = refl
 within_fault roles.All = refl
-within_fault (roles.OneTill number) = refl
-within_fault (roles.SomePoints points) = refl
+within_fault (roles.OneTill number stray) = refl
+within_fault (roles.SomePoints points stray) = refl
 
 -- words that have no form are a bad line
 no_form : (role : Role) (ws : List (List ℕ)) → ((form : Form) → fits (template form) ws ≡ true → ⊥) → act_of_words role ws ≡ Err BadLine
@@ -48,14 +49,38 @@ look_too_long : (role : Role) (ws : List (List ℕ)) → 5 < length ws → look_
 look_too_long role (a ∷ b ∷ c ∷ d ∷ ws) l = refl
 look_too_long role ws l = absurd (omega (arith, l))
 
--- more than five words ask for nothing
-pub too_many : (role : Role) (ws : List (List ℕ)) → 5 < length ws → words_asked role ws ≡ Err BadLine
-too_many role ws l = by_first (is_look ws) _ (look_too_long role ws l) (act_too_long role ws l)
+asks_nothing : (role : Role) (ws : List (List ℕ)) → 5 < length ws → words_asked role ws ≡ Err BadLine
+asks_nothing role ws l = by_first (is_look ws) _ (look_too_long role ws l) (act_too_long role ws l)
   where
     by_first : (first : Bool) (look : Result Asked LineFault) → look ≡ Err BadLine → act_of_words role ws ≡ Err BadLine
         → (if first then look else (act_of_words role ws >>= (λ act. Ok (asks.Act act)))) ≡ Err BadLine
     by_first true look h k = h
     by_first false look h k = rw k refl
+
+long_look : (ws : List (List ℕ)) → 5 < length ws → look_asked (drop 1 ws) ≡ Err BadLine
+long_look (a ∷ b ∷ c ∷ d ∷ ws) l = refl
+long_look ws l = absurd (omega (arith, l))
+
+-- more than five words have no form, whoever may send them
+long_form : (ws : List (List ℕ)) → 5 < length ws → has_some_form ws ≡ false
+long_form ws l = by_first (is_look ws)
+  where
+    none : find (suits roles.All ws) all_forms ≡ None
+    none = find_none (suits roles.All ws) all_forms (λ form. not_true (suits roles.All ws form) (λ suited.
+        let fit : fits (template form) ws ≡ true = (and_parts (allows roles.All (sender form)) (fits (template form) ws) suited).1 in
+        omega (arith, l, fits_count (template form) ws fit, between form)))
+
+    by_first : (first : Bool) → (if first then is_some_look (look_asked (drop 1 ws)) else is_some (find (suits roles.All ws) all_forms)) ≡ false
+    by_first true = ap is_some_look (long_look ws l)
+    by_first false = ap is_some none
+
+no_stray : (tells form : Bool) → form ≡ false → (if tells && form then OtherDoor else BadLine) ≡ BadLine
+no_stray true form h = rw h refl
+no_stray false form h = refl
+
+-- more than five words ask for nothing, and aren't of another door
+pub too_many : (role : Role) (ws : List (List ℕ)) → 5 < length ws → words_answered role ws ≡ Err BadLine
+too_many role ws l = rw (asks_nothing role ws l) (ap Err (no_stray (tells_stray role) (has_some_form ws) (long_form ws l)))
 
 -- no form has the first word `look`
 starts_otherwise : (form : Form) (ws : List (List ℕ)) → fits (template form) (codes "look" ∷ ws) ≡ false
@@ -91,14 +116,24 @@ asks_for true seen read act never bad = (λ h. absurd (never h), λ h. let both 
 asks_for false seen (Ok a) act never bad = (λ h. cc, λ h. cc)
 asks_for false seen (Err fault) act never bad = (λ h. absurd (cc), λ h. absurd (cc))
 
+told_acts : (told : LineFault → LineFault) (asked : Result Asked LineFault) (act : Act)
+    → asked_or_told told asked ≡ Ok (asks.Act act) ↔ asked ≡ Ok (asks.Act act)
+told_acts told (Ok asked) act = (λ h. h, λ h. h)
+told_acts told (Err fault) act = (λ h. absurd (cc), λ h. absurd (cc))
+
 pub asks_for_acts : AsksForActs
 asks_for_acts role line act = by_length (nat_lt 8400 (length line))
   where
-    short : words_asked role (words line) ≡ Ok (asks.Act act) ↔ act_of_words role (words line) ≡ Ok act
-    short =
+    asked : words_asked role (words line) ≡ Ok (asks.Act act) ↔ act_of_words role (words line) ≡ Ok act
+    asked =
         asks_for (is_look (words line)) (look_of_words role (words line)) (act_of_words role (words line)) act (sees_no_act (look_asked (drop 1 (words line))) (look_within role) act)
         (λ first. no_form role (words line) (λ form. look_is_no_form form (words line) first))
 
-    by_length : (long : Bool) → (if long then Err TooLong else words_asked role (words line)) ≡ Ok (asks.Act act) ↔ (if long then Err TooLong else act_of_words role (words line)) ≡ Ok act
+    short : words_answered role (words line) ≡ Ok (asks.Act act) ↔ act_of_words role (words line) ≡ Ok act
+    short =
+        let told = told_acts (fault_told role (words line)) (words_asked role (words line)) act in
+        (λ h. asked.0 (told.0 h), λ h. told.1 (asked.1 h))
+
+    by_length : (long : Bool) → (if long then Err TooLong else words_answered role (words line)) ≡ Ok (asks.Act act) ↔ (if long then Err TooLong else act_of_words role (words line)) ≡ Ok act
     by_length true = (λ h. absurd (cc), λ h. absurd (cc))
     by_length false = short

@@ -36,12 +36,13 @@ reply_words (replies.Refused number (Some value)) = (codes "S" ++ decimal number
 abbrev pub reply_text : Reply → List ℕ
 reply_text reply = join_with_byte 32 (reply_words reply)
 
--- the text of a line's fault: `L1` to `L4`, or `S31` if memory ran out
+-- the text of a line's fault: `L1` to `L5`, or `S31` if memory ran out
 abbrev pub fault_text : LineFault → List ℕ
 fault_text faults.TooLong = codes "L1"
 fault_text faults.BadLine = codes "L2"
 fault_text faults.BadNumber = codes "L3"
 fault_text faults.CutLine = codes "L4"
+fault_text faults.OtherDoor = codes "L5"
 fault_text faults.OutOfMemory = codes "S31"
 
 -- the words of a program's refusal: V with the refusal's number; then the unit that the refusal names, if it names one;

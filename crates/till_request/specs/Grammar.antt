@@ -104,8 +104,8 @@ allows roles.All by = true
 allows roles.Till roles.Till = true
 allows roles.Dispenser roles.Dispenser = true
 allows roles.Owner roles.Owner = true
-allows (roles.OneTill number) roles.Till = true
-allows (roles.SomePoints points) roles.Dispenser = true
+allows (roles.OneTill number stray) roles.Till = true
+allows (roles.SomePoints points stray) roles.Dispenser = true
 allows role by = false
 
 -- the word isn't empty
@@ -283,16 +283,16 @@ names_point points act = false
 -- For `OneTill`, the act is a request of the till that the role names. For `SomePoints`, the act is a dispenser's event
 -- at one of the fuelling points that the role names. For every other role, true.
 abbrev pub is_within_role : Role → Act → Bool
-is_within_role (roles.OneTill number) act = names_till number act
-is_within_role (roles.SomePoints points) act = names_point points act
+is_within_role (roles.OneTill number stray) act = names_till number act
+is_within_role (roles.SomePoints points stray) act = names_point points act
 is_within_role role act = true
 
 -- Limits a parsed act to the role. For `OneTill`, an act that isn't a request of the till that the role names is a bad
 -- line. For `SomePoints`, an act that isn't a dispenser's event at one of the fuelling points that the role names is a
 -- bad line. Any other act, and a fault, stays as it is.
 abbrev pub act_within_role : Role → Result Act LineFault → Result Act LineFault
-act_within_role (roles.OneTill number) parsed_act = parsed_act >>= (λ act. if names_till number act then Ok act else Err BadLine)
-act_within_role (roles.SomePoints points) parsed_act = parsed_act >>= (λ act. if names_point points act then Ok act else Err BadLine)
+act_within_role (roles.OneTill number stray) parsed_act = parsed_act >>= (λ act. if names_till number act then Ok act else Err BadLine)
+act_within_role (roles.SomePoints points stray) parsed_act = parsed_act >>= (λ act. if names_point points act then Ok act else Err BadLine)
 act_within_role role parsed_act = parsed_act
 
 -- reads the words of a line that a sender of this role has sent

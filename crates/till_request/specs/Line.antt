@@ -102,6 +102,7 @@ TakesFault old new role before after (reading.Line line.TooLong) = TakesTooLong 
 TakesFault old new role before after (reading.Line line.BadLine) = TakesLine old new role (Err line.BadLine)
 TakesFault old new role before after (reading.Line line.BadNumber) = TakesLine old new role (Err line.BadNumber)
 TakesFault old new role before after (reading.Line line.CutLine) = TakesCut old new
+TakesFault old new role before after (reading.Line line.OtherDoor) = ⊥
 TakesFault old new role before after (reading.Line line.OutOfMemory) = ReadsUntilOutOfMemory old new role before after
 TakesFault old new role before after reading.Read = TakesPart old new
 TakesFault old new role before after reading.ReadsSpent = TakesPart old new

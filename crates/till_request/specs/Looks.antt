@@ -1,15 +1,17 @@
 -- Definitions: lines that look at the site and enter nothing, and the answers to them (source: this project). Such a
 -- line is the word `look`, what it looks at and, for some of these, a point. Everybody may look; but the dispensers of
--- some points see only those points. The answer names the number of the entries that the site has.
-use Rattle.std.specs.Prelude.{◌≡◌, ◌↔◌, not, nat_lt, ℕ, List, [], ◌∷◌, ◌++◌, length, drop, codes, Bool, true, false, Result, Ok, Err, if◌then◌else◌}
+-- some points see only those points. A line that has a form, but that isn't one of its door's own, is a bad line, or is
+-- told that it is of another door. The answer to a look names the number of the entries that the site has.
+use Rattle.std.specs.Prelude.{◌≡◌, ◌↔◌, ◌&&◌, not, nat_lt, ℕ, List, [], ◌∷◌, ◌++◌, length, drop, codes, Bool, true, false, Result, Ok, Err, find, is_some, if◌then◌else◌}
 use Rattle.std.specs.Fmt.{decimal}
 use Rattle.std.specs.List.{flat_map}
 use Rattle.std.specs.Str.{bytes_eq}
 use Rattle.till_request.specs.declared.act.Act.{Act}
 use Rattle.till_request.specs.declared.act.Role.{Role}
 use Rattle.till_request.specs.declared.act.Role.TheVariants as roles
+use Rattle.till_request.specs.declared.act.Stray.TheVariants as strays
 use Rattle.till_request.specs.declared.act.LineFault.{LineFault}
-use Rattle.till_request.specs.declared.act.LineFault.TheVariants.{TooLong, BadLine}
+use Rattle.till_request.specs.declared.act.LineFault.TheVariants.{TooLong, BadLine, OtherDoor}
 use Rattle.till_request.specs.declared.look.LookAt.{LookAt}
 use Rattle.till_request.specs.declared.look.LookAt.TheVariants as looks
 use Rattle.till_request.specs.declared.look.Asked.{Asked}
@@ -18,7 +20,7 @@ use Rattle.till_request.specs.declared.look.Seen.{Seen}
 use Rattle.till_request.specs.declared.look.Seen.TheVariants as sees
 use Rattle.till_request.specs.declared.look.Sight.{Sight}
 use Rattle.till_request.specs.Answer.{reply_text}
-use Rattle.till_request.specs.Grammar.{◌>>=◌, act_of_words, is_one_of, is_some_word, line_read, number, words}
+use Rattle.till_request.specs.Grammar.{◌>>=◌, act_of_words, all_forms, is_one_of, is_some_word, line_read, number, suits, words}
 
 -- the first word is `look`
 abbrev pub is_look : List (List ℕ) → Bool
@@ -51,9 +53,9 @@ look_asked words = Err BadLine
 
 -- whether a sender of this role may see this
 abbrev pub look_within : Role → LookAt → Bool
-look_within (roles.SomePoints points) (looks.Point point) = is_one_of points point
-look_within (roles.SomePoints points) (looks.Unpaid point) = is_one_of points point
-look_within (roles.SomePoints points) looks.AllUnpaid = false
+look_within (roles.SomePoints points stray) (looks.Point point) = is_one_of points point
+look_within (roles.SomePoints points stray) (looks.Unpaid point) = is_one_of points point
+look_within (roles.SomePoints points stray) looks.AllUnpaid = false
 look_within role look = true
 
 -- what the words of a line that looks ask for, if a sender of this role may see it
@@ -64,9 +66,38 @@ look_of_words role ws = look_asked (drop 1 ws) >>= (λ look. if look_within role
 abbrev pub words_asked : Role → List (List ℕ) → Result Asked LineFault
 words_asked role ws = if is_look ws then look_of_words role ws else (act_of_words role ws >>= (λ act. Ok (asks.Act act)))
 
+-- the words behind `look` ask to see something, perhaps by a number that can't be read
+abbrev pub is_some_look : Result LookAt LineFault → Bool
+is_some_look (Err BadLine) = false
+is_some_look look = true
+
+-- the words have a form, whoever may send them, or look at something; their values can be wrong
+abbrev pub has_some_form : List (List ℕ) → Bool
+has_some_form ws = if is_look ws then is_some_look (look_asked (drop 1 ws)) else is_some (find (suits roles.All ws) all_forms)
+
+-- the role says that a stray line is told `OtherDoor`
+abbrev pub tells_stray : Role → Bool
+tells_stray (roles.OneTill number strays.OtherDoor) = true
+tells_stray (roles.SomePoints points strays.OtherDoor) = true
+tells_stray role = false
+
+-- What a sender of this role is told of these words, if they are read with this fault: a bad line that has a form is of
+-- another door, where the role says that this is told.
+abbrev pub fault_told : Role → List (List ℕ) → LineFault → LineFault
+fault_told role ws BadLine = if tells_stray role && has_some_form ws then OtherDoor else BadLine
+fault_told role ws fault = fault
+
+abbrev pub asked_or_told : (LineFault → LineFault) → Result Asked LineFault → Result Asked LineFault
+asked_or_told told (Ok asked) = Ok asked
+asked_or_told told (Err fault) = Err (told fault)
+
+-- what the words of a line ask for, or what a sender of this role is told
+abbrev pub words_answered : Role → List (List ℕ) → Result Asked LineFault
+words_answered role ws = asked_or_told (fault_told role ws) (words_asked role ws)
+
 -- what a line asks for that a sender of this role has sent; a line of more than 8,400 bytes is too long
 abbrev pub line_asked : Role → List ℕ → Result Asked LineFault
-line_asked role line = if nat_lt 8400 (length line) then Err TooLong else words_asked role (words line)
+line_asked role line = if nat_lt 8400 (length line) then Err TooLong else words_answered role (words line)
 
 -- A promise: no act is lost or made by looks. A line asks for an act exactly if it is read as that act.
 abbrev pub AsksForActs : Type 0

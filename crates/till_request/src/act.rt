@@ -148,7 +148,14 @@ pub enum Reply {
     Refused(u32, Option<u32>),
 }
 
-/// Who sends the lines, and so which well-formed lines are accepted; others are a `BadLine`.
+/// What a stray line is told: one that has a form, but isn't of the till or the points of its door.
+#[derive(Clone, Copy)]
+pub enum Stray {
+    BadLine,
+    OtherDoor,
+}
+
+/// Who sends the lines, and so which well-formed lines are accepted. Others are a `BadLine`, or what the role says.
 #[derive(Clone, Copy)]
 pub enum Role {
     /// Any till: lines of all tills.
@@ -160,9 +167,9 @@ pub enum Role {
     /// Everybody: all lines.
     All,
     /// The till of this number: its lines.
-    OneTill(u32),
+    OneTill(u32, Stray),
     /// The dispensers of some points: their lines. Bit p - 1 is set for point p, 1 to 32.
-    SomePoints(u32),
+    SomePoints(u32, Stray),
 }
 
 /// Why a line can't be read as an act.
@@ -177,6 +184,8 @@ pub enum LineFault {
     BadNumber,
     /// `L4`: the input ended before the line's LF.
     CutLine,
+    /// `L5`: another door may take such a line, and this one doesn't.
+    OtherDoor,
     /// `S31`: an allocation failed.
     OutOfMemory,
 }

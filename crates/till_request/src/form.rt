@@ -154,8 +154,8 @@ pub fn may_send(role: Role, by: Role) -> bool
 {
     match role {
         Role::All => true,
-        Role::Till | Role::OneTill(_) => matches!(by, Role::Till),
-        Role::Dispenser | Role::SomePoints(_) => matches!(by, Role::Dispenser),
+        Role::Till | Role::OneTill(..) => matches!(by, Role::Till),
+        Role::Dispenser | Role::SomePoints(..) => matches!(by, Role::Dispenser),
         Role::Owner => matches!(by, Role::Owner),
     }
 }

@@ -17,7 +17,7 @@ pub mod short_text;
 pub mod spelling;
 pub mod write;
 
-pub use act::{Act, Answer, Bytes, LineFault, Reply, Request, Role};
+pub use act::{Act, Answer, Bytes, LineFault, Reply, Request, Role, Stray};
 pub use block::Block;
 pub use device::{DeviceFault, LineIn, LineOut};
 pub use form::{AmountVerb, Form, PointVerb, ReportVerb, RequestByForm, TransactionVerb};

@@ -4,11 +4,13 @@ ghost use Rattle.std.specs.List.{flat_map};
 ghost use Rattle.till_request.specs.Answer.{reply_text};
 ghost use Rattle.till_request.specs.Gives.{Gives};
 ghost use Rattle.till_request.specs.Grammar.{IsLoad, words as words_of};
-ghost use Rattle.till_request.specs.Looks.{AsksForActs, is_look, line_asked, look_asked, look_of_point, look_of_word};
-ghost use Rattle.till_request.specs.Looks.{look_of_words, look_within, words_asked};
+ghost use Rattle.till_request.specs.Looks.{AsksForActs, fault_told, has_some_form, is_look, is_some_look, line_asked};
+ghost use Rattle.till_request.specs.Looks.{look_asked, look_of_point, look_of_word, look_of_words, look_within};
+ghost use Rattle.till_request.specs.Looks.{tells_stray, words_answered, words_asked};
 ghost use Rattle.till_request.specs.Looks.{numbers_text, rows_text, seen_text, sight_line, spread};
 
-use crate::act::{Act, LineFault, Reply, Role};
+use crate::act::{Act, LineFault, Reply, Role, Stray};
+use crate::form::form_of;
 use crate::grammar::{LINE_WORDS, is_one_of, parse_words};
 use crate::line::LINE_BYTES;
 use crate::numbers::number_u32;
@@ -122,7 +124,7 @@ fn look_behind_first(words: &[&[u8]]) -> Result<LookAt, LineFault>
 fn look_within(role: Role, look: LookAt) -> bool
     ensures { result ≡ look_within role look }
 {
-    let Role::SomePoints(points) = role else {
+    let Role::SomePoints(points, _) = role else {
         return true;
     };
     match look {
@@ -158,23 +160,72 @@ pub fn words_asked(alloc: Global, role: Role, words: &[&[u8]]) -> Result<Asked, 
     }
 }
 
+fn is_some_look(look: Result<LookAt, LineFault>) -> bool
+    ensures { result ≡ is_some_look look }
+{
+    !matches!(look, Err(LineFault::BadLine))
+}
+
+/// Whether the words have a form, whoever may send them, or look at something; their values aren't read.
+fn has_some_form(words: &[&[u8]]) -> bool
+    ensures { result ≡ has_some_form (map (λ w. w.now) words.now) }
+{
+    if is_look(words) {
+        return is_some_look(look_behind_first(words));
+    }
+    form_of(Role::All, words).is_some()
+}
+
+/// Whether the role says that a stray line is told `OtherDoor`.
+fn tells_stray(role: Role) -> bool
+    ensures { result ≡ tells_stray role }
+{
+    match role {
+        Role::OneTill(_, Stray::OtherDoor) | Role::SomePoints(_, Stray::OtherDoor) => true,
+        _ => false,
+    }
+}
+
+/// What a sender of this role is told of words that were read with this fault.
+fn fault_told(role: Role, words: &[&[u8]], fault: LineFault) -> LineFault
+    ensures { result ≡ fault_told role (map (λ w. w.now) words.now) fault }
+{
+    match fault {
+        LineFault::BadLine if tells_stray(role) && has_some_form(words) => LineFault::OtherDoor,
+        _ => fault,
+    }
+}
+
+/// What the words ask for, or what a sender of this role is told.
+fn words_answered(alloc: Global, role: Role, words: &[&[u8]]) -> Result<Asked, LineFault>
+    ensures given { Gives result (words_answered role (map (λ w. w.now) words.now)) }
+    ensures memory { result ≡ Err LineFault.OutOfMemory → IsLoad role (map (λ w. w.now) words.now) }
+{
+    match words_asked(alloc, role, words) {
+        Ok(asked) => Ok(asked),
+        Err(fault) => Err(fault_told(role, words, fault)),
+    }
+}
+
 /// As `parse_asked`, of a line of any length.
 #[tactic(auto, using(crate::proofs::Looking::too_many))]
 fn asked_of_short(alloc: Global, role: Role, line: &[u8]) -> Result<Asked, LineFault>
-    ensures given { Gives result (words_asked role (words_of line.now)) }
+    ensures given { Gives result (words_answered role (words_of line.now)) }
     ensures memory { result ≡ Err LineFault.OutOfMemory → IsLoad role (words_of line.now) }
 {
     let Some(words) = split_at_most::<LINE_WORDS>(line, b' ') else {
         return Err(LineFault::BadLine);
     };
-    words_asked(alloc, role, words.as_slice())
+    words_answered(alloc, role, words.as_slice())
 }
 
 /// What a line asks for, given without its LF, if a sender of this role may send it. The error is that of `parse_line`;
 /// of a line that looks it is `BadLine` if the words behind `look` have no form, `BadNumber` if a point can't be read,
-/// and `BadLine` if the role may not see that.
+/// and `BadLine` if the role may not see that. It is `OtherDoor` in the place of `BadLine` if the role says so of stray
+/// lines, and the words have a form or look at something.
 pub fn parse_asked(alloc: Global, role: Role, line: &[u8]) -> Result<Asked, LineFault>
     // proved: It reads looks by the grammar, each role's | look_of_other_points_is_taken
+    // proved: It says L5 of lines of another door alone | nonsense_is_of_another_door
     ensures given { Gives result (line_asked role line.now) }
     // proved: No look takes memory to be read | a_look_of_77_bytes_is_out_of_memory
     ensures memory { result ≡ Err LineFault.OutOfMemory → IsLoad role (words_of line.now) }

@@ -120,7 +120,7 @@ pub fn put_reply(text: &mut ShortText, reply: &Reply)
     }
 }
 
-/// `L1` to `L4`, or `S31` if memory ran out.
+/// `L1` to `L5`, or `S31` if memory ran out.
 pub(crate) fn fault_word(fault: LineFault) -> &'static str
     ensures text { result.now ≡ fault_text fault }
     ensures short { length result.now ≤ 3 }
@@ -130,6 +130,7 @@ pub(crate) fn fault_word(fault: LineFault) -> &'static str
         LineFault::BadLine => "L2",
         LineFault::BadNumber => "L3",
         LineFault::CutLine => "L4",
+        LineFault::OtherDoor => "L5",
         LineFault::OutOfMemory => "S31",
     }
 }
