@@ -51,6 +51,7 @@ no_more (Some line.CutLine) r k rest x h l e =
     let q : length rest ≡ 0 = ap length h.2 in no_lf_within r k rest x h.0.0 (omega (arith, length-append r rest, length-append k (10 ∷ x), n, q)) e
 no_more (Some line.BadLine) r k rest x h l e = h
 no_more (Some line.BadNumber) r k rest x h l e = h
+no_more (Some line.OtherDoor) r k rest x h l e = h
 no_more (Some line.OutOfMemory) r k rest x h l e = h
 
 -- `Size cut n`: if a session ends with the fault `cut` of a line, or without one (None), then its input can have n
@@ -61,6 +62,7 @@ Size (Some line.TooLong) n = 8401 ≤ n
 Size (Some line.CutLine) n = (0 < n) × (n ≤ 8400)
 Size (Some line.BadLine) n = ⊥
 Size (Some line.BadNumber) n = ⊥
+Size (Some line.OtherDoor) n = ⊥
 Size (Some line.OutOfMemory) n = ⊥
 
 size : (cut : Option LineFault) (r rest : List ℕ) → IsCut cut (Some rest) r → Size cut (length (r ++ rest))
@@ -74,6 +76,7 @@ size (Some line.CutLine) r rest h =
     let few : length (r ++ rest) ≤ 8400 = omega (arith, length-append r rest, h.0.1, q) in (some, few)
 size (Some line.BadLine) r rest h = h
 size (Some line.BadNumber) r rest h = h
+size (Some line.OtherDoor) r rest h = h
 size (Some line.OutOfMemory) r rest h = h
 
 one_cut : (c d : Option LineFault) (n : ℕ) → Size c n → Size d n → c ≡ d
@@ -88,15 +91,19 @@ one_cut (Some line.CutLine) (Some line.TooLong) n h k = absurd (omega (arith, h.
 one_cut (Some line.CutLine) (Some line.CutLine) n h k = refl
 one_cut None (Some line.BadLine) n h k = absurd k
 one_cut None (Some line.BadNumber) n h k = absurd k
+one_cut None (Some line.OtherDoor) n h k = absurd k
 one_cut None (Some line.OutOfMemory) n h k = absurd k
 one_cut (Some line.TooLong) (Some line.BadLine) n h k = absurd k
 one_cut (Some line.TooLong) (Some line.BadNumber) n h k = absurd k
+one_cut (Some line.TooLong) (Some line.OtherDoor) n h k = absurd k
 one_cut (Some line.TooLong) (Some line.OutOfMemory) n h k = absurd k
 one_cut (Some line.CutLine) (Some line.BadLine) n h k = absurd k
 one_cut (Some line.CutLine) (Some line.BadNumber) n h k = absurd k
+one_cut (Some line.CutLine) (Some line.OtherDoor) n h k = absurd k
 one_cut (Some line.CutLine) (Some line.OutOfMemory) n h k = absurd k
 one_cut (Some line.BadLine) d n h k = absurd h
 one_cut (Some line.BadNumber) d n h k = absurd h
+one_cut (Some line.OtherDoor) d n h k = absurd h
 one_cut (Some line.OutOfMemory) d n h k = absurd h
 
 -- Let two sessions have the same bytes in their inputs, and let neither fail. Then the whole lines that they read, `ls`

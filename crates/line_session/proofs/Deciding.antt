@@ -20,6 +20,7 @@ module _ {C D : Type 0} (step : D → Act → ℕ → Answer → D → Type 0) (
   told fault.BadLine fails written = fails
   told fault.BadNumber fails written = fails
   told fault.CutLine fails written = fails
+  told fault.OtherDoor fails written = fails
   told fault.OutOfMemory fails written = absurd (cc)
 
   fault_answers : (a : LineAnswer) → (f : DecidesFault role line c d a c' d') → stays_unwritten a ≡ false → AnswersAsked step looks tick (line_asked role line) c d a c' d'

@@ -108,6 +108,7 @@ IsCut (Some line.TooLong) in_new rest = HasNoLf rest × (length rest ≡ 8401)
 IsCut (Some line.CutLine) in_new rest = IsLine rest × (0 < length rest) × IsAtEnd in_new
 IsCut (Some line.BadLine) in_new rest = ⊥
 IsCut (Some line.BadNumber) in_new rest = ⊥
+IsCut (Some line.OtherDoor) in_new rest = ⊥
 IsCut (Some line.OutOfMemory) in_new rest = ⊥
 
 -- the answer to the fault of the last line; no bytes if there is no such fault

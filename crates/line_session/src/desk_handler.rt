@@ -62,6 +62,7 @@ fn unwritten_error(answer: &Answer) -> Option<HandlerError>
         Answer::Line(LineFault::BadLine) => None,
         Answer::Line(LineFault::BadNumber) => None,
         Answer::Line(LineFault::CutLine) => None,
+        Answer::Line(LineFault::OtherDoor) => None,
         Answer::Line(LineFault::OutOfMemory) => Some(HandlerError::OutOfMemory),
         Answer::Program(..) => None,
         Answer::JournalFailed => Some(HandlerError::Journal),

@@ -19,6 +19,8 @@ pub trait Doors {
 
     ghost reported: { Self → Result Ended SessionFault → Type 0 };
 
+    ghost stray_reported: { Self → Type 0 };
+
     /// Waits for the next connection.
     fn next(&mut self) -> Result<(Self::In, Self::Out), DeviceFault>
         ensures ok { IfOk result (λ door. opens self.old door.0 door.1 self.new) }
@@ -28,6 +30,10 @@ pub trait Doors {
     fn has_buffered_line(&self, _input: &Self::In) -> bool {
         false
     }
+
+    /// Reports that a line is answered `OtherDoor`.
+    fn met_stray(&self)
+        ensures { stray_reported self.now };
 
     /// Reports how a session over one of these connections ended.
     fn ended(&self, outcome: &Result<Ended, SessionFault>)

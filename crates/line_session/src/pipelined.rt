@@ -11,11 +11,20 @@ use crate::answer_buffer::AnswerBuffer;
 use crate::answering::{Ended, READS, SessionFault, cut_of};
 use crate::connection::Connection;
 use crate::desk::{Clock, Desk};
-use crate::desk_handler::written_answer;
+use crate::desk_handler::{ToWrite, written_answer};
 use crate::doors::Doors;
 use std::alloc::Global;
 use till_request::line::read_line_into;
 use till_request::{Answer, Found, LineFault, LineOut, Role};
+
+/// Reports a line that gets this answer, if the answer is `OtherDoor`.
+fn report_stray<S: Doors>(doors: &S, answer: &ToWrite)
+    ensures { answer.now ≡ ToWrite.Answer (Answer.Line LineFault.OtherDoor) → S.stray_reported doors.now }
+{
+    if let ToWrite::Answer(Answer::Line(LineFault::OtherDoor)) = answer {
+        doors.met_stray();
+    }
+}
 
 #[derive(Drop)]
 struct Progress {
@@ -136,6 +145,7 @@ impl Progress {
                 Found::Line => {
                     let room = &mut self.room;
                     let answer = written_answer(self.alloc, role, &self.line, clock, desk, room)?;
+                    report_stray(doors, &answer);
                     let output = &mut connection.output;
                     self.pending.put_written(output, &answer, &self.room)?
                 }
