@@ -41,6 +41,7 @@ fn take_line(alloc: Global, reading: &mut Reading, line: &[u8]) -> Result<(), Al
         Err(LineFault::OutOfMemory) => Err(AllocError),
         Err(LineFault::TooLong) | Err(LineFault::BadLine) => Ok(()),
         Err(LineFault::BadNumber) | Err(LineFault::CutLine) => Ok(()),
+        Err(LineFault::OtherDoor) => Ok(()),
     }
 }
 
@@ -142,6 +143,7 @@ fn line_flaw(alloc: Global, number: u32, line: &[u8]) -> OpeningFlaw
         Ok(Line::Unpaid(_, _)) | Ok(Line::Journal(_, _)) => OpeningFlaw::BadLine(number),
         Err(LineFault::TooLong) | Err(LineFault::BadLine) => OpeningFlaw::BadLine(number),
         Err(LineFault::BadNumber) | Err(LineFault::CutLine) => OpeningFlaw::BadLine(number),
+        Err(LineFault::OtherDoor) => OpeningFlaw::BadLine(number),
     }
 }
 
