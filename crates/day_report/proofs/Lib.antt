@@ -12,5 +12,6 @@ pub mod Changing
 pub mod Clearing
 pub mod Earlier
 pub mod Deliveries
+pub mod Off
 pub mod OneSale
 pub mod Wholes

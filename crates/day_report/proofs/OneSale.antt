@@ -10,6 +10,7 @@ use Rattle.fuelling_point.specs.Table.{PointState}
 use Rattle.fuelling_point.specs.declared.kinds.Transaction.{Transaction}
 use Rattle.site_core.specs.Steps.{StepValue}
 use Rattle.day_report.proofs.Clearing.{sale_by, sale_with}
+use Rattle.day_report.proofs.Off.{off_at_most, off_more}
 use Rattle.day_report.specs.Sales.{SalesValue, clearing_of, end_of, no_sales, sale_of, sales_after, sales_in, unpaid_at}
 use Rattle.day_report.specs.Sums.{AddsUp, HasRoom, hour_number, no_sum, plus, plus_at, with_sale}
 use Rattle.day_report.specs.Totals.{IsSum, SumsUp, cents_in, centilitres_in, count_in, hour_of, is_in, part_of_hour, part_of_point, part_of_till}
@@ -148,6 +149,7 @@ one_more sums sales sale amount volume room a =
       points = sums_more part_of_point 32 sums.points sales sale sale.point (λ k. refl) fits a.points;
       tills = sums_more part_of_till 64 sums.tills sales sale sale.till (λ k. refl) fits a.tills;
       hours = sums_more part_of_hour 24 sums.hours sales sale (hour_number sale.moment) (hour_is sale.moment) fits a.hours;
+      off = off_more sums.off sales sale (omega (arith, off_at_most sales, a.off.count, a.all.count, room)) a.off;
       small = (
         omega (arith, count, min-le_left (sums.all.cents + sale.amount) (2 ^ 128 - 1), a.small.0, amount),
         omega (arith, count, min-le_left (sums.all.centilitres + sale.volume) (2 ^ 128 - 1), a.small.1, volume),

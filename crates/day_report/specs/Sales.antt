@@ -1,5 +1,5 @@
 -- Definitions: the sales of a day. A sale is a transaction that a till cleared.
-use Rattle.std.specs.Prelude.{ℕ, ◌+◌, ◌-◌, ◌*◌, ◌/◌, ◌==◌, ◌&&◌, not, if◌then◌else◌, Bool, List, [], ◌++◌, option_map, option_to_list, fold}
+use Rattle.std.specs.Prelude.{ℕ, ◌+◌, ◌-◌, ◌*◌, ◌/◌, ◌==◌, ◌&&◌, not, if◌then◌else◌, nat_lt, Bool, false, List, [], ◌++◌, map, option_map, option_to_list, fold}
 use Rattle.std.specs.Prelude.{filter, find, Option, Some, None}
 use Rattle.fuelling_point.specs.Table.{PointState, find_number}
 use Rattle.fuelling_point.specs.declared.kinds.Transaction.{Transaction}
@@ -119,6 +119,18 @@ abbrev pub off_by : Sale → Option ℕ
 off_by sale =
     if sale.product == 0 then None
     else Some ((sale.amount - worth sale.price sale.volume) + (worth sale.price sale.volume - sale.amount))
+
+abbrev pub is_over_a_cent : Option ℕ → Bool
+is_over_a_cent None = false
+is_over_a_cent (Some cents) = nat_lt 1 cents
+
+-- Whether a sale is off: by more than a cent. A sale whose product isn't known isn't.
+abbrev pub is_off : Sale → Bool
+is_off sale = is_over_a_cent (off_by sale)
+
+-- The numbers of the entries that cleared the sales that are off, in the order of the sales.
+abbrev pub off_entries : List Sale → List ℕ
+off_entries sales = map (λ (s : Sale). s.number) (filter is_off sales)
 
 -- ---- The contracts of private functions use these definitions.
 

@@ -21,4 +21,4 @@ pub use opening::CarriedRule;
 pub use rulings::{Decision, PriceChange, RequestKind, Rulings};
 pub use sales::{Sale, Sales, SalesPart, Sum, off_by};
 pub use steps::{Axis, Bands, Mark, Marks};
-pub use sums::Sums;
+pub use sums::{OffSales, Sums};

@@ -1,7 +1,7 @@
 //! The sales of a history. A sale is a transaction that a till cleared: it was paid, and is gone.
 
 ghost use Rattle.std.specs.Prelude.{◌≡◌, ◌<◌, ◌≤◌, find, IfSome, vec_capacity, vec_len};
-ghost use Rattle.day_report.specs.Sales.{clearing_of, end_of, ended_by, is_delivery_of, off_by, sale_of, uncleared};
+ghost use Rattle.day_report.specs.Sales.{clearing_of, end_of, ended_by, is_delivery_of, is_off, off_by, sale_of, uncleared};
 ghost use Rattle.day_report.specs.Sales.{unpaid_at, without, worth};
 
 use decision_journal::Entry;
@@ -171,6 +171,16 @@ pub fn off_by(sale: &Sale) -> Option<u64>
         return None;
     }
     Some(u64::from(sale.amount).abs_diff(worth(sale.price, sale.volume)))
+}
+
+/// Returns whether a sale is off, by more than a cent. It isn't if its product isn't known.
+pub(crate) fn is_off(sale: &Sale) -> bool
+    ensures { result ≡ is_off sale.now }
+{
+    match off_by(sale) {
+        None => false,
+        Some(cents) => cents > 1,
+    }
 }
 
 /// Removes the deliveries with point `n` and this transaction number.

@@ -1,11 +1,11 @@
 //! What the sales of a history come to, counted while the history grows.
 
-ghost use Rattle.std.specs.Prelude.{◌≡◌, ◌↔◌, ◌<◌, ◌^◌, ◌++◌, ◌∷◌, [], List, OnErr, OnOk, true};
+ghost use Rattle.std.specs.Prelude.{◌≡◌, ◌↔◌, ◌<◌, ◌^◌, ◌++◌, ◌∷◌, [], List, OnErr, OnOk, slice_set, take, true};
 ghost use Rattle.site_core.specs.Steps.{StepValue};
-ghost use Rattle.day_report.specs.Sales.{sales_in};
-ghost use Rattle.day_report.specs.Sums.{AddsUp, HasRoom, hour_number, no_sum, plus, plus_at, with_sale};
+ghost use Rattle.day_report.specs.Sales.{off_entries, sales_in};
+ghost use Rattle.day_report.specs.Sums.{AddsUp, CountsOff, HasRoom, hour_number, no_sum, plus, plus_at, with_off, with_sale};
 
-use crate::sales::{Sale, Sum, sale_of};
+use crate::sales::{Sale, Sum, is_off, sale_of};
 use decision_journal::Entry;
 use site_core::{Change, Observer};
 use std::alloc::AllocError;
@@ -16,15 +16,24 @@ const NO_SUM: Sum = Sum {
     centilitres: 0,
 };
 
+/// The sales that are off by more than a cent: how many there are, and the entries that cleared the first eight of them.
+/// If there are fewer, zeros follow.
+#[derive(Clone, Copy)]
+pub struct OffSales {
+    pub count: u64,
+    pub entries: [u32; 8],
+}
+
 /// What the sales of a history come to so far: all of them, those at each of the points 1 to 32, those that each of the
 /// tills 1 to 64 cleared, and those in each of the hours 0 to 23 of the day, in UTC. A sale without a moment is in no
-/// hour.
+/// hour. Also which sales are off by more than a cent.
 #[derive(Clone, Copy)]
 pub struct Sums {
     pub all: Sum,
     pub points: [Sum; 32],
     pub tills: [Sum; 64],
     pub hours: [Sum; 24],
+    pub off: OffSales,
 }
 
 /// Returns the sum with one sale more, of this amount and volume. A number that would be too great stays its greatest.
@@ -59,6 +68,36 @@ fn hour_number(moment: u64) -> u64
     }
 }
 
+/// Writes `number` to this place, counted from 0. If there is no such place, nothing changes.
+fn write_at(numbers: &mut [u32], place: u64, number: u32)
+    ensures { numbers.new ≡ slice_set numbers.old place number }
+{
+    if place < numbers.len() as u64 {
+        numbers[place as usize] = number;
+    }
+}
+
+impl OffSales {
+    /// Returns the entries that cleared the first sales that are off, at most eight.
+    pub fn first(&self) -> &[u32]
+        // proved: It names the first eight sales that are off
+        ensures { (sales : List Sale) → CountsOff self.now sales → result.now ≡ take 8 (off_entries sales) }
+    {
+        let count = self.count.min(self.entries.len() as u64) as usize;
+        &self.entries[..count]
+    }
+
+    /// Counts a sale, if it is off by more than a cent.
+    fn add(&mut self, sale: &Sale)
+        ensures { self.new ≡ with_off self.old sale.now }
+    {
+        if is_off(sale) {
+            write_at(&mut self.entries, self.count, sale.number);
+            self.count = self.count.saturating_add(1);
+        }
+    }
+}
+
 impl Sums {
     /// Returns the sums of no sales.
     pub fn new() -> Sums
@@ -69,6 +108,10 @@ impl Sums {
             points: [NO_SUM; 32],
             tills: [NO_SUM; 64],
             hours: [NO_SUM; 24],
+            off: OffSales {
+                count: 0,
+                entries: [0; 8],
+            },
         }
     }
 
@@ -84,6 +127,7 @@ impl Sums {
         requires { HasRoom self.old }
         // proved: Each sale is added to its point, till and hour | sale_goes_to_the_next_till
         // proved: Hours are counted from 0 | hours_begin_at_one
+        // proved: Sales that are off by more than a cent are counted | cent_is_off
         ensures { (steps : List StepValue) → AddsUp self.old (sales_in steps)
             → AddsUp self.new (sales_in (steps ++ (record { entry = entry.now; change = change.now }) ∷ [])) }
     {
@@ -102,6 +146,7 @@ impl Sums {
         add_at(&mut self.points, sale.point as u64, amount, volume);
         add_at(&mut self.tills, sale.till as u64, amount, volume);
         add_at(&mut self.hours, hour_number(sale.moment), amount, volume);
+        self.off.add(&sale);
     }
 }
 
