@@ -1,13 +1,14 @@
 //! The page of HTML that shows a site's history, and the sections of this page.
 
 use crate::builder::TextBuilder;
+use crate::parts::{digits, thousands};
 use crate::style::{HEAD, STYLE};
 use crate::texts::Text;
 use crate::{bars, drawn, prices, tables};
 use day_report::adding::{add_up, carried_in};
 use day_report::opening::opening_prices;
 use day_report::steps::{axis_of, states_by_step};
-use day_report::{Axis, Bands, CarriedIn, DayWatch, PriceChange, Sum, Totals, Unpaid};
+use day_report::{Axis, Bands, CarriedIn, DayWatch, OffSales, PriceChange, Sum, Totals, Unpaid};
 use site_core::{Head, Replayed};
 use std::alloc::{AllocError, Global};
 use std::fmt;
@@ -181,11 +182,35 @@ fn add_carried(html: &mut TextBuilder, carried: CarriedIn) {
 
 fn add_sales(html: &mut TextBuilder, totals: &Totals) {
     html.add("<section id=\"sales\"><h2>Sales</h2>\n");
+    add_off(html, &totals.sums.off);
     bars::add_points(html, totals.by_point());
     add_sums(html, totals);
     add_hours(html, &totals.sums.hours);
     add_unpaid(html, &totals.unpaid);
     html.add(SECTION_END);
+}
+
+/// Adds how many sales are off by more than a cent, and which entries cleared the first of them; nothing if none is.
+pub fn add_off(html: &mut TextBuilder, off: &OffSales) {
+    if off.count == 0 {
+        return;
+    }
+    html.fill(
+        "<p><strong>Sales off by more than a cent: {} ({}",
+        &[
+            thousands(off.count),
+            Text::Words(if off.count == 1 { "entry" } else { "entries" }),
+        ],
+    );
+    let first = off.first();
+    for (place, entry) in first.iter().enumerate() {
+        html.add(if place == 0 { " " } else { ", " });
+        html.put(digits(*entry));
+    }
+    if off.count > first.len() as u64 {
+        html.add(", ..");
+    }
+    html.add(")</strong></p>\n");
 }
 
 fn add_sums(html: &mut TextBuilder, totals: &Totals) {

@@ -292,6 +292,11 @@ fn first_sums(sums: &[Sum], count: usize) -> &[Sum] {
     &sums[..count.min(sums.len())]
 }
 
+const OFF: &str = singles!(
+    "fc_sales_off_total" is a "counter":
+        "Sales in this journal whose money and volume disagree by more than a cent."
+);
+
 fn add_sales(text: &mut TextBuilder, station: &StationSnapshot<'_>) {
     let (sums, opening) = (station.sums, station.next_opening);
     let points = first_sums(&sums.points, opening.points.len());
@@ -299,6 +304,7 @@ fn add_sales(text: &mut TextBuilder, station: &StationSnapshot<'_>) {
     add_sums!(text, "fc_sales" by "point": points, 1);
     add_sums!(text, "fc_till_sales" by "till": tills, 1);
     add_sums!(text, "fc_hour_sales" by "hour": &sums.hours, 0);
+    text.fill(OFF, &[Text::Number(sums.off.count)]);
 }
 
 fn add_counters(text: &mut TextBuilder, opening: &Opening) {

@@ -3,7 +3,7 @@ use crate::bars::add_points as add_bars;
 use crate::builder::TextBuilder;
 use crate::checking::health;
 use crate::names::state_name;
-use crate::page::{add_figure, add_hours};
+use crate::page::{add_figure, add_hours, add_off};
 use crate::parts::{ENTRIES, NONE, digits, hundredths, product_texts, thousands};
 use crate::station::{DoorCounts, Health, RoleCounts, StationSnapshot};
 use crate::style::{HEAD, STYLE};
@@ -153,6 +153,7 @@ fn add_sales(html: &mut TextBuilder, station: &StationSnapshot<'_>) {
     add_figure(html, "Sales", Text::Thousands(sums.all.count as u128));
     add_figure(html, "Litres sold", Text::Hundredths(sums.all.centilitres));
     html.add("</ul>\n");
+    add_off(html, &sums.off);
     let count = opening.points.len().min(sums.points.len());
     let points = &sums.points[..count];
     add_bars(html, points);
