@@ -110,16 +110,16 @@ impl ConnectionCounts {
 
     fn counted(&self, role: Role) -> &RoleCounters {
         match role {
-            Role::Till | Role::OneTill(_) => &self.tills,
-            Role::Dispenser | Role::SomePoints(_) => &self.dispensers,
+            Role::Till | Role::OneTill(..) => &self.tills,
+            Role::Dispenser | Role::SomePoints(..) => &self.dispensers,
             Role::Owner | Role::All => &self.owner,
         }
     }
 
     fn add_workers(&mut self, role: Role, workers: u32) {
         let counted = match role {
-            Role::Till | Role::OneTill(_) => &mut self.tills,
-            Role::Dispenser | Role::SomePoints(_) => &mut self.dispensers,
+            Role::Till | Role::OneTill(..) => &mut self.tills,
+            Role::Dispenser | Role::SomePoints(..) => &mut self.dispensers,
             Role::Owner | Role::All => &mut self.owner,
         };
         counted.workers = counted.workers.saturating_add(workers);

@@ -91,8 +91,8 @@ impl Health {
             Health::Healthy => "ok",
             Health::JournalFailed => "the journal failed",
             Health::NearlyFull => "the journal is nearly full",
-            Health::NoWorker(Role::Till | Role::OneTill(_)) => "no worker is left for tills",
-            Health::NoWorker(Role::Dispenser | Role::SomePoints(_)) =>
+            Health::NoWorker(Role::Till | Role::OneTill(..)) => "no worker is left for tills",
+            Health::NoWorker(Role::Dispenser | Role::SomePoints(..)) =>
                 "no worker is left for dispensers",
             Health::NoWorker(Role::Owner | Role::All) => "no worker is left for the owner",
         }

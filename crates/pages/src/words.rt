@@ -36,8 +36,8 @@ fn add_phrase(html: &mut TextBuilder, phrase: Phrase) {
 
 pub(crate) fn role_name(role: Role) -> &'static str {
     match role {
-        Role::Till | Role::OneTill(_) => "till",
-        Role::Dispenser | Role::SomePoints(_) => "dispenser",
+        Role::Till | Role::OneTill(..) => "till",
+        Role::Dispenser | Role::SomePoints(..) => "dispenser",
         Role::Owner | Role::All => "owner",
     }
 }
