@@ -8,14 +8,18 @@ use Rattle.std.specs.Ordering.{int_eq}
 use Rattle.std.specs.List.{list_any}
 use Rattle.std.proofs.lemmas.Nat.{shr_le}
 use Rattle.std.proofs.lemmas.Bool.Decides.{nat_tests}
+use Rattle.till_request.specs.declared.act.Role.{Role}
 use Rattle.till_request.specs.declared.act.Role.TheVariants as roles
+use Rattle.till_request.specs.declared.act.Stray.{Stray}
+use Rattle.till_request.specs.declared.act.Stray.TheVariants as strays
 use Rattle.site_config.specs.declared.flaw.ConfigFlaw.{ConfigFlaw}
 use Rattle.site_config.specs.declared.flaw.Key.TheVariants as key
 use Rattle.site_config.specs.declared.flaw.Place.{Place}
+use Rattle.site_config.specs.declared.raw.RawRole.{RawRole}
 use Rattle.site_config.specs.declared.raw.RawRole.TheVariants.{Tills, OneTill, Dispensers, SomePoints, Owner}
 use Rattle.site_config.specs.Document.{◌>>=◌, demand}
 use Rattle.site_config.specs.Demands.{ranged}
-use Rattle.site_config.specs.Doors.{sibling_key, item_of, bits_of, role_of, with_point, with_points}
+use Rattle.site_config.specs.Doors.{sibling_key, item_of, bits_of, role_of, telling, with_point, with_points}
 use Rattle.site_config.specs.Laws.{TakesOwnLines, DoorsTakeOwnLines}
 use Rattle.site_config.proofs.Bits.{bit_more}
 
@@ -90,26 +94,38 @@ same_numbers a b = grind (arith, nat_tests)
 named_point : (p : ℕ) (b c : Bool) → 1 ≤ p → p ≤ 32 → b ≡ c → c ≡ nat_le 1 p && (nat_le p 32 && b)
 named_point p b c some few e = grind (arith, nat_tests)
 
-pub own_lines : DoorsTakeOwnLines
+read_lines : (tills points : ℕ) (place : Place) (raw : RawRole) (role : Role) → role_of tills points place raw ≡ Ok role → TakesOwnLines raw role
 unfolding role_of
-own_lines tills points place Tills role e =
+read_lines tills points place Tills role e =
     let is : roles.Till ≡ role = cc in subst (TakesOwnLines Tills) is (record { of_tills = λ n r. refl; of_points = λ p v s f. refl })
-own_lines tills points place Dispensers role e =
+read_lines tills points place Dispensers role e =
     let is : roles.Dispenser ≡ role = cc in subst (TakesOwnLines Dispensers) is (record { of_tills = λ n r. refl; of_points = λ p v s f. refl })
-own_lines tills points place Owner role e =
+read_lines tills points place Owner role e =
     let is : roles.Owner ≡ role = cc in subst (TakesOwnLines Owner) is (record { of_tills = λ n r. refl; of_points = λ p v s f. refl })
-own_lines tills points place (OneTill z) role e =
-    let s = went_on (ranged (sibling_key place key.Number) 1 tills z) (λ n. Ok (roles.OneTill n)) role e in
+read_lines tills points place (OneTill z) role e =
+    let s = went_on (ranged (sibling_key place key.Number) 1 tills z) (λ n. Ok (roles.OneTill n strays.BadLine)) role e in
     let z_is : z ≡ pos s.0 = number_is (sibling_key place key.Number) 1 tills z s.0 s.1 in
-    let is : roles.OneTill s.0 ≡ role = cc in
+    let is : roles.OneTill s.0 strays.BadLine ≡ role = cc in
     subst (TakesOwnLines (OneTill z)) is (record {
       of_tills = λ n r. ap (λ x. int_eq x (pos n)) z_is ∙ same_numbers s.0 n;
       of_points = λ p v some few. refl;
     })
-own_lines tills points place (SomePoints zs) role e =
-    let s = went_on (bits_of (sibling_key place key.Points) points zs) (λ bits. Ok (roles.SomePoints bits)) role e in
-    let is : roles.SomePoints s.0 ≡ role = cc in
+read_lines tills points place (SomePoints zs) role e =
+    let s = went_on (bits_of (sibling_key place key.Points) points zs) (λ bits. Ok (roles.SomePoints bits strays.BadLine)) role e in
+    let is : roles.SomePoints s.0 strays.BadLine ≡ role = cc in
     subst (TakesOwnLines (SomePoints zs)) is (record {
       of_tills = λ n r. refl;
       of_points = λ p v some few. named_point p _ _ some few (bits_in (sibling_key place key.Points) points s.0 p zs some s.1);
     })
+
+-- what a stray line is told changes no line that the door takes
+told_lines : (stray : Stray) (raw : RawRole) (role : Role) → TakesOwnLines raw role → TakesOwnLines raw (telling stray role)
+told_lines stray raw roles.Till h = h
+told_lines stray raw roles.Dispenser h = h
+told_lines stray raw roles.Owner h = h
+told_lines stray raw roles.All h = h
+told_lines stray raw (roles.OneTill n other) h = record { of_tills = h.of_tills; of_points = h.of_points }
+told_lines stray raw (roles.SomePoints bits other) h = record { of_tills = h.of_tills; of_points = h.of_points }
+
+pub own_lines : DoorsTakeOwnLines
+own_lines tills points stray place raw role e = told_lines stray raw role (read_lines tills points place raw role e)

@@ -7,7 +7,7 @@ use Rattle.site_config.specs.declared.doors.DoorCounts.{DoorCounts}
 use Rattle.site_config.specs.declared.flaw.Place.{Place}
 use Rattle.site_config.specs.declared.raw.RawDoor.{RawDoor}
 use Rattle.site_config.specs.Document.{◌>>=◌, demand, each_of}
-use Rattle.site_config.specs.Doors.{DoorValue, ServeValue, address_of, role_of, lines_of, workers_of, door_fits, doors_fit, door_of, each_door}
+use Rattle.site_config.specs.Doors.{DoorValue, ServeValue, address_of, role_of, telling, lines_of, workers_of, door_fits, doors_fit, door_of, each_door}
 use Rattle.site_config.specs.Ranges.{price_of, prices_of}
 use Rattle.site_config.specs.Memory.{HasDoors, MakesFirst, TakesPrices}
 use Rattle.site_config.proofs.Laws.{went_on}
@@ -34,7 +34,7 @@ fits_made counts d e =
     (λ a r l. record {
       place = d.place;
       address = a;
-      role = r;
+      role = telling counts.own_lines r;
       workers = workers_of counts.till_workers counts.dispenser_workers d.role;
       lines_per_second = l;
     })

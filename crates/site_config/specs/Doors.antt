@@ -7,6 +7,8 @@ use Rattle.std.specs.List.{list_any}
 use Rattle.std.specs.Str.{bytes_eq}
 use Rattle.till_request.specs.declared.act.Role.{Role}
 use Rattle.till_request.specs.declared.act.Role.TheVariants as roles
+use Rattle.till_request.specs.declared.act.Stray.{Stray}
+use Rattle.till_request.specs.declared.act.Stray.TheVariants as strays
 use Rattle.site_config.specs.declared.flaw.ConfigFlaw.{ConfigFlaw}
 use Rattle.site_config.specs.declared.flaw.ConfigFlaw.TheVariants.{Empty, SamePort, SameSocket, SameTill, WrongCount, PointTwice, TooManyWorkers, WithoutDoor}
 use Rattle.site_config.specs.declared.flaw.Key.{Key}
@@ -107,12 +109,19 @@ unfoldable pub role_of : ℕ → ℕ → Place → RawRole → Result Role Confi
 role_of tills points place Tills = Ok roles.Till
 role_of tills points place (OneTill z) = do
   n ← ranged (sibling_key place key.Number) 1 tills z
-  Ok (roles.OneTill n)
+  Ok (roles.OneTill n strays.BadLine)
 role_of tills points place Dispensers = Ok roles.Dispenser
 role_of tills points place (SomePoints zs) = do
   bits ← bits_of (sibling_key place key.Points) points zs
-  Ok (roles.SomePoints bits)
+  Ok (roles.SomePoints bits strays.BadLine)
 role_of tills points place Owner = Ok roles.Owner
+
+-- The role of a door's sessions: that of the door, and what a stray line is told at a door of one till or of some
+-- points.
+abbrev pub telling : Stray → Role → Role
+telling stray (roles.OneTill n other) = roles.OneTill n stray
+telling stray (roles.SomePoints bits other) = roles.SomePoints bits stray
+telling stray role = role
 
 -- Ok if the address is a port of 1 to 65,535 or a path that isn't empty, or else the flaw.
 unfoldable pub address_fits : Place → RawAddress → Result (Unit {0}) ConfigFlaw
@@ -253,7 +262,7 @@ door_of counts d = do
   Ok (record {
     place = d.place;
     address = a;
-    role = r;
+    role = telling counts.own_lines r;
     workers = workers_of counts.till_workers counts.dispenser_workers d.role;
     lines_per_second = l;
   })
@@ -284,7 +293,8 @@ serve_of tills points s = do
   p ← page_of s.doors s.page_port
   of_tills ← side_fits sides.Tills t 64 tills s.doors
   of_dispensers ← side_fits sides.Dispensers w 31 points s.doors
-  doors ← each_door (door_of (record { tills = tills; points = points; till_workers = t; dispenser_workers = w; lines_per_second = l })) s.doors
+  doors ← each_door
+      (door_of (record { tills = tills; points = points; till_workers = t; dispenser_workers = w; lines_per_second = l; own_lines = s.own_lines })) s.doors
   Ok (record { doors = doors; connections = n; idle_seconds = i; page_port = p })
 
 -- The code's `Address` as an `AddressValue`. Below: the code's `Door` as a `DoorValue`, and the code's `Serve` as a

@@ -7,11 +7,12 @@ use Rattle.till_request.specs.declared.act.Act.TheVariants as acts
 use Rattle.till_request.specs.declared.act.Request.{Request}
 use Rattle.till_request.specs.declared.act.Role.{Role}
 use Rattle.till_request.specs.declared.act.Role.TheVariants as roles
+use Rattle.till_request.specs.declared.act.Stray.{Stray}
 use Rattle.till_request.specs.Grammar.{allows, is_within_role}
 use Rattle.site_config.specs.declared.flaw.Place.{Place}
 use Rattle.site_config.specs.declared.flaw.Side.TheVariants as sides
 use Rattle.site_config.specs.declared.raw.RawRole.{RawRole}
-use Rattle.site_config.specs.Doors.{role_of, takes}
+use Rattle.site_config.specs.Doors.{role_of, takes, telling}
 
 -- `raw` is a door's role in the configuration, and `role` is the role of its sessions. The door takes a till's lines
 -- exactly if `role` allows tills' lines and isn't limited to another till. For each point from 1 to 32, the door takes
@@ -25,4 +26,5 @@ pub record TakesOwnLines (raw : RawRole) (role : Role) : Type 0 where
 
 abbrev pub DoorsTakeOwnLines : Type 0
 DoorsTakeOwnLines =
-    (tills points : ℕ) (place : Place) (raw : RawRole) (role : Role) → role_of tills points place raw ≡ Ok role → TakesOwnLines raw role
+    (tills points : ℕ) (stray : Stray) (place : Place) (raw : RawRole) (role : Role) → role_of tills points place raw ≡ Ok role
+    → TakesOwnLines raw (telling stray role)

@@ -4,6 +4,8 @@ use Rattle.std.specs.Prelude.{◌||◌, not, ◌+◌, ℕ, ℤ, pos, List, [], �
 use Rattle.std.specs.Prelude.{option_map, is_some, if◌then◌else◌}
 use Rattle.std.specs.Str.{bytes_eq}
 use Rattle.toml.specs.Data.{Data, Items, Members, no_items, item, no_members, member, get_member, as_integer, as_str, as_array, as_table}
+use Rattle.till_request.specs.declared.act.Stray.{Stray}
+use Rattle.till_request.specs.declared.act.Stray.TheVariants as strays
 use Rattle.site_config.specs.declared.flaw.ConfigFlaw.{ConfigFlaw}
 use Rattle.site_config.specs.declared.flaw.ConfigFlaw.TheVariants.{UnknownKey, Missing, WrongType, BothThere, Needless}
 use Rattle.site_config.specs.declared.flaw.«Type».TheVariants as types
@@ -57,7 +59,9 @@ is_number_key k =
 
 unfoldable pub is_serve_key : List ℕ → Bool
 is_serve_key k =
-    is_port_key k || (is_socket_key k || (is_number_key k || (bytes_eq k (codes "till") || bytes_eq k (codes "dispenser"))))
+    is_port_key k
+    || (is_socket_key k
+    || (is_number_key k || (bytes_eq k (codes "till") || (bytes_eq k (codes "dispenser") || bytes_eq k (codes "own_lines")))))
 
 unfoldable pub is_till_key : List ℕ → Bool
 is_till_key k =
@@ -113,6 +117,15 @@ limit_by place None None = Err (WrongType place types.IntegerOrUnlimited)
 
 abbrev pub limit_of : Place → Data → Result (Option ℤ) ConfigFlaw
 limit_of place d = limit_by place (as_integer d) (as_str d)
+
+-- What a stray line is told, by the value as a text: "L2" (`BadLine`) or "L5" (`OtherDoor`). Any other value, also
+-- another text, is of a wrong type.
+abbrev pub stray_by : Place → Option (List ℕ) → Result Stray ConfigFlaw
+stray_by place (Some text) =
+    if bytes_eq text (codes "L2") then Ok strays.BadLine
+    else if bytes_eq text (codes "L5") then Ok strays.OtherDoor
+    else Err (WrongType place types.L2OrL5)
+stray_by place None = Err (WrongType place types.L2OrL5)
 
 -- The value of a key of a section, or the flaw `Missing` if the key isn't given.
 abbrev pub value_at : Section → Key → Members → Result Data ConfigFlaw
@@ -297,10 +310,15 @@ page_from (Some d) = do
   z ← integer_of (At Serve key.PagePort) d
   Ok (Some z)
 
+-- What a stray line is told at the doors of one till or of some points: `BadLine`, if the key is left out.
+abbrev pub own_lines_from : Option Data → Result Stray ConfigFlaw
+own_lines_from None = Ok strays.BadLine
+own_lines_from (Some d) = stray_by (At Serve key.OwnLines) (as_str d)
+
 -- The values of the keys of `[serve]`. `till_workers` is None if there is no shared door of all tills, and
 -- `dispenser_workers` is None if there is no shared door of all dispensers. `connections` is None if it is "unlimited".
 -- `page_port` is None if there is no page on which the site is shown. `lines_per_second` is for the doors without a table
--- of their own.
+-- of their own, and `own_lines` for those of one till or of some points.
 pub record TypedServe : Type 0 where
   pub doors : List RawDoor
   pub till_workers : Option ℤ
@@ -309,6 +327,7 @@ pub record TypedServe : Type 0 where
   pub idle_seconds : ℤ
   pub page_port : Option ℤ
   pub lines_per_second : ℤ
+  pub own_lines : Stray
 
 unfoldable pub served_in : Data → Result TypedServe ConfigFlaw
 served_in d = do
@@ -321,6 +340,7 @@ served_in d = do
   i ← optional_at Serve key.IdleSeconds ms
   p ← page_from (get_member (codes "page_port") ms)
   lines ← optional_at Serve key.LinesPerSecond ms
+  own ← own_lines_from (get_member (codes "own_lines") ms)
   Ok (record {
     doors = doors;
     till_workers = t;
@@ -329,6 +349,7 @@ served_in d = do
     idle_seconds = i;
     page_port = p;
     lines_per_second = lines;
+    own_lines = own;
   })
 
 abbrev pub served_from : Option Data → Result (Option TypedServe) ConfigFlaw
@@ -371,6 +392,7 @@ seen_serve s = record {
   idle_seconds = s.idle_seconds;
   page_port = s.page_port;
   lines_per_second = s.lines_per_second;
+  own_lines = s.own_lines;
 }
 
 abbrev pub seen : Raw → Typed

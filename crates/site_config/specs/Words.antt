@@ -14,6 +14,7 @@ use Rattle.site_config.specs.Keys.{section_text, place_text}
 abbrev pub type_text : ValueType → List ℕ
 type_text types.Integer = codes "a whole number"
 type_text types.IntegerOrUnlimited = codes "a whole number or \"unlimited\""
+type_text types.L2OrL5 = codes "\"L2\" or \"L5\""
 type_text types.Text = codes "a string"
 type_text types.Array = codes "an array"
 type_text types.Table = codes "a table"

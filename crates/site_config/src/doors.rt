@@ -4,7 +4,7 @@ ghost use Rattle.site_config.specs.Document.{Finds};
 ghost use Rattle.site_config.specs.Demands.{ranged};
 ghost use Rattle.site_config.specs.Typed.{seen_serve};
 ghost use Rattle.site_config.specs.Document.{without};
-ghost use Rattle.site_config.specs.Doors.{sibling_key, item_of, address_of, with_point, with_points, bits_of, role_of};
+ghost use Rattle.site_config.specs.Doors.{sibling_key, item_of, address_of, with_point, with_points, bits_of, role_of, telling};
 ghost use Rattle.site_config.specs.Doors.{door_fits, doors_fit, address_clash, till_clash, pair_clash, clash_with};
 ghost use Rattle.site_config.specs.Doors.{clash_among, page_clash, page_of, shared_workers, workers_of, is_single};
 ghost use Rattle.site_config.specs.Doors.{count_single, takes, is_taken, first_without_door, side_fits, door_of};
@@ -19,7 +19,7 @@ use crate::number::in_range;
 use crate::raw::{RawAddress, RawDoor, RawRole, Served};
 use crate::settings::{Address, Door, Serve};
 use std::alloc::Global;
-use till_request::Role;
+use till_request::{Role, Stray};
 
 /// The most workers of all doors of tills. A worker serves one connection at a time.
 const MOST_OF_TILLS: u32 = 64;
@@ -155,14 +155,27 @@ fn make_role(tills: u32, points: u32, place: Place, role: &RawRole) -> Result<Ro
         RawRole::Tills => Ok(Role::Till),
         RawRole::OneTill(number) => {
             let place = sibling_key(place, Key::Number);
-            Ok(Role::OneTill(value_of!(in_range(place, *number, 1, tills))))
+            let number = value_of!(in_range(place, *number, 1, tills));
+            Ok(Role::OneTill(number, Stray::BadLine))
         }
         RawRole::Dispensers => Ok(Role::Dispenser),
         RawRole::SomePoints(numbers) => {
             let place = sibling_key(place, Key::Points);
-            Ok(Role::SomePoints(value_of!(make_bits(place, points, numbers.as_slice()))))
+            let bits = value_of!(make_bits(place, points, numbers.as_slice()));
+            Ok(Role::SomePoints(bits, Stray::BadLine))
         }
         RawRole::Owner => Ok(Role::Owner),
+    }
+}
+
+/// The role of a door's sessions: `role`, with what a stray line is told at a door of one till or of some points.
+fn telling(stray: Stray, role: Role) -> Role
+    ensures { result ≡ telling stray role }
+{
+    match role {
+        Role::OneTill(number, _) => Role::OneTill(number, stray),
+        Role::SomePoints(points, _) => Role::SomePoints(points, stray),
+        Role::Till | Role::Dispenser | Role::Owner | Role::All => role,
     }
 }
 
@@ -427,8 +440,8 @@ fn workers_for(till_workers: u32, dispenser_workers: u32, role: &RawRole) -> u32
     }
 }
 
-/// How many tills and points a site has, how many workers its shared doors (0 where there is none), and how many lines
-/// a second are read at each door without a table of its own (0 without a bound).
+/// How many tills and points a site has, how many workers its shared doors (0 where there is none), how many lines a
+/// second are read at each door without a table of its own (0 without a bound), and what a stray line is told.
 #[derive(Clone, Copy)]
 struct DoorCounts {
     tills: u32,
@@ -436,6 +449,7 @@ struct DoorCounts {
     till_workers: u32,
     dispenser_workers: u32,
     lines_per_second: u32,
+    own_lines: Stray,
 }
 
 #[tactic(auto, unfolding(crate::specs::Doors::door_of))]
@@ -452,7 +466,7 @@ fn make_door(alloc: Global, counts: DoorCounts, door: &RawDoor) -> Result<Door, 
     Ok(Door {
         place: door.place,
         address,
-        role,
+        role: telling(counts.own_lines, role),
         workers,
         lines_per_second,
     })
@@ -511,6 +525,7 @@ pub(crate) fn make_serve(
         till_workers,
         dispenser_workers,
         lines_per_second,
+        own_lines: served.own_lines,
     };
     Ok(Serve {
         doors: value_of!(make_doors(alloc, counts, doors)),

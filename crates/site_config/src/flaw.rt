@@ -29,6 +29,7 @@ pub enum Key {
     IdleSeconds,
     LinesPerSecond,
     PagePort,
+    OwnLines,
     TillSocket,
     DispenserSocket,
     OwnerSocket,
@@ -68,6 +69,7 @@ impl Key {
             Key::IdleSeconds => "idle_seconds",
             Key::LinesPerSecond => "lines_per_second",
             Key::PagePort => "page_port",
+            Key::OwnLines => "own_lines",
             Key::TillSocket => "till_socket",
             Key::DispenserSocket => "dispenser_socket",
             Key::OwnerSocket => "owner_socket",
@@ -190,6 +192,7 @@ impl Side {
 pub enum Type {
     Integer,
     IntegerOrUnlimited,
+    L2OrL5,
     Text,
     Array,
     Table,
@@ -205,6 +208,7 @@ impl fmt::Display for Type {
         f.write_str(match self {
             Type::Integer => "a whole number",
             Type::IntegerOrUnlimited => "a whole number or \"unlimited\"",
+            Type::L2OrL5 => "\"L2\" or \"L5\"",
             Type::Text => "a string",
             Type::Array => "an array",
             Type::Table => "a table",

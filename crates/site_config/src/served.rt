@@ -6,7 +6,7 @@ ghost use Rattle.site_config.specs.Document.{Finds, with_front};
 ghost use Rattle.site_config.specs.Keys.{name_of};
 ghost use Rattle.site_config.specs.Typed.{text_of, has_shared, door_at, shared_at, workers_at, till_in};
 ghost use Rattle.site_config.specs.Typed.{dispenser_in, single_in, each_in, tables_from, owner_at, doors_at};
-ghost use Rattle.site_config.specs.Typed.{own_door_at, page_from, served_in, served_at, seen_serve};
+ghost use Rattle.site_config.specs.Typed.{own_door_at, own_lines_from, page_from, served_in, served_at, seen_serve};
 ghost use Rattle.site_config.specs.Memory.{KeepsFirst, TakesDoor, TakesShared, TakesTill, TakesDispenser};
 ghost use Rattle.site_config.specs.Memory.{TakesSingle, TakesTables, TakesDoors, TakesServed};
 
@@ -15,9 +15,10 @@ use crate::raw::{Numbers, RawAddress, RawDoor, RawRole, Served};
 use crate::text::Text;
 use crate::values::{
     array_of, check_keys, find_array, find_value, has_key, integer_of, read_integer, read_integers,
-    read_limit, read_optional, table_of, text_of,
+    read_limit, read_optional, stray_of, table_of, text_of,
 };
 use std::alloc::Global;
+use till_request::Stray;
 use toml::{Table, Value};
 
 /// Port and socket of the tills' shared door.
@@ -282,6 +283,18 @@ fn read_page(table: &Table) -> Result<Option<i64>, ConfigFlaw>
     }
 }
 
+/// What a stray line is told at the doors of one till or of some points: `BadLine` if the key isn't given.
+fn read_own_lines(table: &Table) -> Result<Stray, ConfigFlaw>
+    ensures read { Finds (λ x. x) result
+        (own_lines_from (get_member (name_of Key.OwnLines) (table_view table.now))) }
+    ensures memory { result ≢ Err ConfigFlaw.OutOfMemory }
+{
+    match find_value(table, Key::OwnLines.name()) {
+        Some(value) => stray_of(value, Place::At(Section::Serve, Key::OwnLines)),
+        None => Ok(Stray::BadLine),
+    }
+}
+
 #[tactic(auto, unfolding(crate::specs::Typed::served_in, crate::specs::Memory::TakesServed))]
 fn read_served(alloc: Global, value: &Value) -> Result<Served, ConfigFlaw>
     ensures read { Finds seen_serve result (served_in (view value.now)) }
@@ -296,6 +309,7 @@ fn read_served(alloc: Global, value: &Value) -> Result<Served, ConfigFlaw>
     let idle_seconds = value_of!(read_optional(table, Section::Serve, Key::IdleSeconds));
     let page_port = value_of!(read_page(table));
     let lines_per_second = value_of!(read_optional(table, Section::Serve, Key::LinesPerSecond));
+    let own_lines = value_of!(read_own_lines(table));
     Ok(Served {
         doors,
         till_workers,
@@ -304,6 +318,7 @@ fn read_served(alloc: Global, value: &Value) -> Result<Served, ConfigFlaw>
         idle_seconds,
         page_port,
         lines_per_second,
+        own_lines,
     })
 }
 

@@ -3,18 +3,19 @@ ghost use Rattle.std.specs.Prelude.{◌≡◌, ◌≢◌, Err, not, option_map, 
 ghost use Rattle.std.specs.List.{find};
 ghost use Rattle.std.specs.BTreeMap.{keys};
 ghost use Rattle.toml.specs.View.{view, table_view, items_view};
-ghost use Rattle.toml.specs.Data.{get_member};
+ghost use Rattle.toml.specs.Data.{as_str, get_member};
 ghost use Rattle.site_config.specs.Document.{Finds};
 ghost use Rattle.site_config.specs.Typed.{is_top_key, is_point_key, is_counter_key, is_serve_key, is_till_key};
 ghost use Rattle.site_config.specs.Typed.{is_port_key, is_socket_key, is_number_key, is_dispenser_key};
 ghost use Rattle.site_config.specs.Typed.{is_key_of, other_key, known_in, has_key, integer_of, text_of, table_of};
 ghost use Rattle.site_config.specs.Typed.{array_of, integer_at, integer_in, array_at, each_in};
-ghost use Rattle.site_config.specs.Typed.{limit_of, limit_at, optional_at};
+ghost use Rattle.site_config.specs.Typed.{limit_of, limit_at, optional_at, stray_by};
 ghost use Rattle.site_config.specs.Memory.{CopiesKey, KeepsFirst, TakesNone};
 
 use crate::flaw::{ConfigFlaw, Key, Place, Section, Type};
 use crate::text::Text;
 use std::alloc::Global;
+use till_request::Stray;
 use toml::{Table, Value};
 
 pub fn find_value<'a>(table: &'a Table, key: &str) -> Option<&'a Value>
@@ -80,6 +81,18 @@ fn limit_of(value: &Value, place: Place) -> Result<Option<i64>, ConfigFlaw>
     match value.as_str() {
         Some(text) if text == "unlimited" => Ok(None),
         _ => Err(ConfigFlaw::WrongType(place, Type::IntegerOrUnlimited)),
+    }
+}
+
+/// What a stray line is told: `"L2"` or `"L5"`. `place` is where it stands.
+pub fn stray_of(value: &Value, place: Place) -> Result<Stray, ConfigFlaw>
+    ensures read { Finds (λ x. x) result (stray_by place (as_str (view value.now))) }
+    ensures memory { result ≢ Err ConfigFlaw.OutOfMemory }
+{
+    match value.as_str() {
+        Some(text) if text == "L2" => Ok(Stray::BadLine),
+        Some(text) if text == "L5" => Ok(Stray::OtherDoor),
+        _ => Err(ConfigFlaw::WrongType(place, Type::L2OrL5)),
     }
 }
 
@@ -203,7 +216,12 @@ fn is_number(key: &str) -> bool
 fn is_serve(key: &str) -> bool
     ensures { result ≡ is_serve_key key.now }
 {
-    is_port(key) || is_socket(key) || is_number(key) || key == "till" || key == "dispenser"
+    is_port(key)
+        || is_socket(key)
+        || is_number(key)
+        || key == "till"
+        || key == "dispenser"
+        || key == "own_lines"
 }
 
 #[tactic(auto, unfolding(crate::specs::Typed::is_till_key))]
