@@ -4,7 +4,7 @@
 use Rattle.std.specs.Prelude.{ℕ, ◌-◌, min, Bool, true, false, Result, Ok, Err}
 use Rattle.std.specs.Option.{option_map_or}
 use Rattle.till_request.specs.declared.act.LineFault.{LineFault}
-use Rattle.till_request.specs.declared.act.LineFault.TheVariants.{TooLong, BadLine, BadNumber, CutLine, OutOfMemory}
+use Rattle.till_request.specs.declared.act.LineFault.TheVariants.{TooLong, BadLine, BadNumber, CutLine, OtherDoor, OutOfMemory}
 use Rattle.line_session.specs.declared.answering.Ended.{Ended}
 use Rattle.line_session.specs.declared.answering.SessionFault.{SessionFault}
 use Rattle.line_session.specs.declared.answering.SessionFault.TheVariants as session
@@ -15,6 +15,7 @@ is_too_long TooLong = true
 is_too_long BadLine = false
 is_too_long BadNumber = false
 is_too_long CutLine = false
+is_too_long OtherDoor = false
 is_too_long OutOfMemory = false
 
 -- all reads of the session were made

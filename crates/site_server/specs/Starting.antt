@@ -19,9 +19,9 @@ one_more role has_thread = record {
 -- the counts with one worker more of this role; one with `All` counts for the owner
 abbrev pub counted : ThreadCounts → Role → Bool → ThreadCounts
 counted counts Till has_thread = record { tills = one_more counts.tills has_thread; dispensers = counts.dispensers; owner = counts.owner }
-counted counts (OneTill till) has_thread = record { tills = one_more counts.tills has_thread; dispensers = counts.dispensers; owner = counts.owner }
+counted counts (OneTill till stray) has_thread = record { tills = one_more counts.tills has_thread; dispensers = counts.dispensers; owner = counts.owner }
 counted counts Dispenser has_thread = record { tills = counts.tills; dispensers = one_more counts.dispensers has_thread; owner = counts.owner }
-counted counts (SomePoints points) has_thread = record { tills = counts.tills; dispensers = one_more counts.dispensers has_thread; owner = counts.owner }
+counted counts (SomePoints points stray) has_thread = record { tills = counts.tills; dispensers = one_more counts.dispensers has_thread; owner = counts.owner }
 counted counts Owner has_thread = record { tills = counts.tills; dispensers = counts.dispensers; owner = one_more counts.owner has_thread }
 counted counts All has_thread = record { tills = counts.tills; dispensers = counts.dispensers; owner = one_more counts.owner has_thread }
 

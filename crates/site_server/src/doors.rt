@@ -200,6 +200,8 @@ impl<'a, R: Wait + Clock, N: Notices> Doors for SocketDoors<'a, R, N> {
         doors.pass failure)
         × N.end_reported doors.role doors.pass };
 
+    ghost stray_reported = { λ doors. N.stray_reported doors.role doors.pass };
+
     fn next(&mut self) -> Result<(Self::In, Self::Out), DeviceFault> {
         self.asked = self.asked.wrapping_add(1);
         self.current = None;
@@ -221,6 +223,10 @@ impl<'a, R: Wait + Clock, N: Notices> Doors for SocketDoors<'a, R, N> {
     // have to wait, and no answer is to wait with it.
     fn has_buffered_line(&self, input: &Self::In) -> bool {
         self.door.lines_per_second == 0 && input.input.holds_line()
+    }
+
+    fn met_stray(&self) {
+        self.notices.met_stray(self.role, self.pass);
     }
 
     fn ended(&self, outcome: &Result<Ended, SessionFault>) {

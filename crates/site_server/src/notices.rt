@@ -44,6 +44,8 @@ pub trait Notices {
 
     ghost line_reported: { Role → ℕ → Type 0 };
 
+    ghost stray_reported: { Role → ℕ → Type 0 };
+
     /// A connection couldn't be opened.
     fn accept_failed(&self, role: Role, pass: u32, error: &io::Error);
 
@@ -59,6 +61,10 @@ pub trait Notices {
 
     fn line_read(&self, role: Role, pass: u32)
         ensures { line_reported role pass };
+
+    /// A line is answered `OtherDoor`.
+    fn met_stray(&self, role: Role, pass: u32)
+        ensures { stray_reported role pass };
 
     /// The worker has a thread. It serves once `started` has returned.
     fn began(&self, role: Role, pass: u32);

@@ -82,12 +82,12 @@ impl ThreadCounts {
             owner,
         } = self;
         match role {
-            Role::Till | Role::OneTill(_) => ThreadCounts {
+            Role::Till | Role::OneTill(..) => ThreadCounts {
                 tills: tills.one_more(has_thread),
                 dispensers,
                 owner,
             },
-            Role::Dispenser | Role::SomePoints(_) => ThreadCounts {
+            Role::Dispenser | Role::SomePoints(..) => ThreadCounts {
                 tills,
                 dispensers: dispensers.one_more(has_thread),
                 owner,

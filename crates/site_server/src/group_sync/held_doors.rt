@@ -47,6 +47,8 @@ impl<'a, A: Release, S: Doors> Doors for HeldDoors<'a, A, S> {
 
     ghost reported = { λ doors outcome. ReportsHeld A.journal_synced A.failed (S.reported doors.doors) outcome };
 
+    ghost stray_reported = { λ doors. S.stray_reported doors.doors };
+
     fn next(&mut self) -> Result<(Self::In, Self::Out), DeviceFault> {
         let (input, output) = self.doors.next()?;
         Ok((input, HeldOut::new(output, self.release)))
@@ -54,6 +56,10 @@ impl<'a, A: Release, S: Doors> Doors for HeldDoors<'a, A, S> {
 
     fn has_buffered_line(&self, input: &Self::In) -> bool {
         self.doors.has_buffered_line(input)
+    }
+
+    fn met_stray(&self) {
+        self.doors.met_stray();
     }
 
     fn ended(&self, outcome: &Result<Ended, SessionFault>) {
