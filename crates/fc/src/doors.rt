@@ -27,8 +27,8 @@ impl Display for Name {
             Role::Till => f.write_str("tills"),
             Role::Dispenser => f.write_str("dispensers"),
             Role::Owner | Role::All => f.write_str("owner"),
-            Role::OneTill(number) => write!(f, "till {number}"),
-            Role::SomePoints(points) => write_points(f, points),
+            Role::OneTill(number, _) => write!(f, "till {number}"),
+            Role::SomePoints(points, _) => write_points(f, points),
         }
     }
 }
@@ -110,7 +110,7 @@ impl Display for DoorListing<'_> {
 fn mode_of(role: Role) -> u32 {
     match role {
         Role::Owner | Role::All => 0o600,
-        Role::Till | Role::Dispenser | Role::OneTill(_) | Role::SomePoints(_) => 0o660,
+        Role::Till | Role::Dispenser | Role::OneTill(..) | Role::SomePoints(..) => 0o660,
     }
 }
 

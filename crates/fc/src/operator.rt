@@ -8,6 +8,7 @@ use site_config::{Door, Serve};
 use site_server::{Limiter, Notices, SessionFailure, SessionFault, ThreadCounts};
 use std::fmt::{self, Display};
 use std::io;
+use std::sync::atomic::{AtomicU64, Ordering};
 use std::sync::{Mutex, Wait};
 use std::time::{Clock, SystemTime, UNIX_EPOCH};
 use till_request::{LineFault, Role};
@@ -17,14 +18,18 @@ const MOST_IN_SECOND: u32 = 10;
 const MOST_STRANGERS_IN_MINUTE: u32 = 1;
 
 /// Prints reports for an operator on standard error, at most ten a second, and at most one a minute on connections that
-/// speak another protocol. A line before the next printed one says how many were left out. If a report can't be
-/// printed, the site is served all the same.
+/// speak another protocol, and one on lines of another door. Of the latter it says how many there were; of others a line
+/// before the next printed one says how many were left out. If a report can't be printed, the site is served all the
+/// same.
 #[derive(Drop)]
 pub struct OperatorReports<'a, H: Wait + Clock> {
     rt: &'a HostRuntime,
     host: &'a H,
     limiter: Mutex<Limiter>,
     strangers: Mutex<Limiter>,
+    strays: AtomicU64,
+    /// The last minute in which a line of another door was reported.
+    stray_minute: AtomicU64,
     serve: &'a Serve,
     connections: Option<&'a ConnectionCounts>,
 }
@@ -37,8 +42,8 @@ impl Display for Peer {
     fn fmt<W: fmt::Write>(&self, f: &mut fmt::Formatter<W>) -> fmt::Result {
         match self.0 {
             Role::Till => f.write_str("a till"),
-            Role::OneTill(number) => write!(f, "till {number}"),
-            Role::Dispenser | Role::SomePoints(_) => f.write_str("a dispenser"),
+            Role::OneTill(number, _) => write!(f, "till {number}"),
+            Role::Dispenser | Role::SomePoints(..) => f.write_str("a dispenser"),
             Role::Owner | Role::All => f.write_str("the owner"),
         }
     }
@@ -77,8 +82,12 @@ fn code_of(failure: SessionFailure) -> &'static str {
         SessionFailure::Line(LineFault::TooLong) => " (L1)",
         SessionFailure::Line(LineFault::CutLine) => " (L4)",
         // These faults of a line never end a session.
-        SessionFailure::Line(LineFault::BadLine | LineFault::BadNumber | LineFault::OutOfMemory) =>
-            "",
+        SessionFailure::Line(
+            LineFault::BadLine
+            | LineFault::BadNumber
+            | LineFault::OtherDoor
+            | LineFault::OutOfMemory,
+        ) => "",
         SessionFailure::Session(SessionFault::Read) => " (N1)",
         SessionFailure::Session(SessionFault::Write) => " (N2)",
         SessionFailure::Session(SessionFault::ReadsSpent) => " (N3)",
@@ -113,6 +122,8 @@ impl<'a, H: Wait + Clock> OperatorReports<'a, H> {
             host,
             limiter: Mutex::new(Limiter::new(MOST_IN_SECOND)),
             strangers: Mutex::new(Limiter::new(MOST_STRANGERS_IN_MINUTE)),
+            strays: AtomicU64::new(0),
+            stray_minute: AtomicU64::new(u64::MAX),
             serve,
             connections,
         }
@@ -167,6 +178,8 @@ impl<H: Wait + Clock> Notices for OperatorReports<'_, H> {
 
     ghost line_reported = { λ _ _. Unit {0} };
 
+    ghost stray_reported = { λ _ _. Unit {0} };
+
     fn accept_failed(&self, role: Role, pass: u32, error: &io::Error) {
         if self.is_admitted() {
             let who = Peer(role);
@@ -212,6 +225,22 @@ impl<H: Wait + Clock> Notices for OperatorReports<'_, H> {
     fn line_read(&self, role: Role, pass: u32) {
         if let Some(connections) = self.connections {
             connections.line_read(role, pass);
+        }
+    }
+
+    // Without a lock, since each stray line comes here, however many a peer sends.
+    fn met_stray(&self, role: Role, pass: u32) {
+        let so_far = self
+            .strays
+            .fetch_add(1, Ordering::Relaxed)
+            .saturating_add(1);
+        let minute = self.second() / 60;
+        if self.stray_minute.swap(minute, Ordering::Relaxed) != minute {
+            let (who, lines) = (Peer(role), if so_far == 1 { "line" } else { "lines" });
+            let words = format_args!(
+                "pass {pass}: {who}: a line of another door (L5); {so_far} such {lines} so far"
+            );
+            print_message(self.rt, &words);
         }
     }
 
