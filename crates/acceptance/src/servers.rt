@@ -14,7 +14,7 @@ use std::sync::Wait;
 use std::test::Fail;
 use std::thread::{Threads, join};
 use std::time::Clock;
-use till_request::Role;
+use till_request::{Role, Stray};
 
 /// A receiver of notices that ignores them.
 #[derive(Drop)]
@@ -29,6 +29,8 @@ impl Notices for Silent {
 
     ghost line_reported = { λ _ _. Unit {0} };
 
+    ghost stray_reported = { λ _ _. Unit {0} };
+
     fn accept_failed(&self, _role: Role, _pass: u32, _error: &io::Error) {}
 
     fn session_failed(&self, _role: Role, _pass: u32, _breach: SessionFailure) {}
@@ -38,6 +40,8 @@ impl Notices for Silent {
     fn turned_away(&self, _role: Role, _pass: u32) {}
 
     fn line_read(&self, _role: Role, _pass: u32) {}
+
+    fn met_stray(&self, _role: Role, _pass: u32) {}
 
     fn began(&self, _role: Role, _pass: u32) {}
 
@@ -110,7 +114,7 @@ fn addresses_of(ports: &Ports) -> io::Result<Addresses> {
 fn doors_at(alloc: Global, ports: Ports) -> Result<Vec<OpenDoor>, AllocError> {
     let mut doors = Vec::new(alloc);
     for (role, listener) in [
-        (Role::OneTill(1), ports.till),
+        (Role::OneTill(1, Stray::BadLine), ports.till),
         (Role::Dispenser, ports.dispenser),
         (Role::Owner, ports.owner),
     ] {
