@@ -97,6 +97,7 @@ pub fn run_in_threads<
     A: Release + Sync,
     R: Threads + Wait + Clock + Sync,
 >(workers: &Workers<'_, L, J, N, A, R>, tasks: Vec<WorkerTask<L>>) -> Option<Vec<WorkerTask<L>>>
+    // proved: It gives the tasks back only where each ran | half_of_the_tasks_run
     ensures { IfSome result (λ done. RunEach (opened_by L.config L.parts L.base L.taken) J.may_fail workers.now.day
         workers.now.connections (map (λ p. p.waiting) tasks.items) (map (λ p. p.done) done.items)) }
 {
