@@ -1,14 +1,17 @@
 #!/bin/sh
-# Compiles a rule in C and has it verified by fc. Prints its units as `fc asm` does, and a line on standard error: how
-# many units there are, the mask of the counters that the rule uses, and the layout of its request. With -o the units go
-# to FILE.hex, and the line to standard output. If the rule can't be loaded, the reason is printed with its line of C,
-# and FILE.hex stays as it was.
-# usage: tools/rule.sh [-o FILE.hex] FILE.c    or FILE.o, an object that was compiled before
-# LLVM is the end of the names of the compiler and its tools (LLVM=-19 for clang-19). FC is the fc that verifies.
+# Compiles a rule in C, or assembles one, and has it verified by fc. Prints its units as `fc asm` does, and a line on
+# standard error: how many units there are, the mask of the counters that the rule uses, and the layout of its request.
+# With -o the units go to FILE.hex, and the line to standard output. If the rule can't be loaded, the reason is printed
+# with its line of C, and FILE.hex stays as it was.
+# usage: tools/rule.sh [-o FILE.hex] FILE.c    or FILE.o, an object that was compiled before, or FILE.bpf
+# LLVM is the end of the names of the compiler and its tools (LLVM=-19 for clang-19). FC is the fc that verifies;
+# without it that is the one of this checkout, or of this installation.
 # Status: 0 done, 1 the rule is refused, 2 the arguments are wrong, 3 a tool or a file can't be used.
 set -u
 here=$(CDPATH='' cd -- "$(dirname -- "$(readlink -f -- "$0")")/.." && pwd -P) || exit 3
-fc=${FC-$here/fc}
+fc=$here/fc
+[ -x "$fc" ] || fc=$here/../../bin/fc
+fc=${FC-$fc}
 LLVM=${LLVM-}
 
 say() { echo "rule.sh: $*" >&2; }
@@ -19,26 +22,40 @@ stop() {
     exit "$status"
 }
 usage() {
-    echo 'usage: tools/rule.sh [-o FILE.hex] FILE.c' >&2
+    echo 'usage: tools/rule.sh [-o FILE.hex] FILE.c|FILE.o|FILE.bpf' >&2
     exit 2
 }
 
-need_tools() {
+need_compiler() {
     for tool in clang llvm-objdump llvm-objcopy; do
         command -v "$tool$LLVM" >/dev/null ||
             stop 3 "there is no $tool$LLVM here; Debian's packages are clang$LLVM and llvm$LLVM"
     done
-    "$fc" --version >/dev/null || stop 3 "$fc doesn't run"
 }
 
 # Compiles the file $1. Functions are inlined, and loops with a constant number of turns are unrolled, however large
-# they get: fc accepts neither calls of a rule's own functions nor jumps backwards. A switch isn't compiled to a table.
-# An if stays a branch, which is shorter here.
+# they get: fc accepts neither calls of a rule's own functions nor loops. A switch isn't compiled to a table. An if
+# stays a branch, which is shorter here.
 compile() {
     "clang$LLVM" --target=bpfel -mcpu=v3 -O2 -g -ffreestanding -fno-jump-tables \
         -mllvm -inline-threshold=20000 -mllvm -unroll-threshold=20000 -mllvm -two-entry-phi-node-folding-threshold=0 \
-        -Wall -Wextra -Werror=implicit-function-declaration -fmacro-backtrace-limit=1 -fno-crash-diagnostics \
+        -Wall -Wextra -Wconditional-uninitialized -Werror=implicit-function-declaration -fmacro-backtrace-limit=1 \
+        -fno-crash-diagnostics \
         -I "$here/examples/c" -c -o "$object" -- "$1" >&2 || exit 1
+}
+
+# Assembles the file $1 to the file of units. It is for the second layout if it is accepted for that one alone.
+assemble() {
+    "$fc" asm "$1" >"$work/hex" 2>"$work/said" || {
+        status=$?
+        sed 's/^fc: //' "$work/said" | while read -r words; do say "$words"; done
+        exit "$status"
+    }
+    : >"$work/places"
+    layout=1
+    find_mask
+    "$fc" verify --counters "$mask" "$work/hex" >"$work/said" 2>&1 ||
+        ! "$fc" verify --counters "$mask" --context 2 "$work/hex" >"$work/said" 2>&1 || layout=2
 }
 
 # Checks the first bytes of the object: ELF, 64 bits, least significant byte first, and the machine 247, which is BPF.
@@ -118,23 +135,42 @@ look_at_references() {
     esac
 }
 
-# Checks that no jump goes backwards. The distance of a jump is in its offset, or for gotol (06) in its immediate value.
-look_at_jumps() {
+# Whether a jump goes backwards. The distance of a jump is in its offset, or for gotol (06) in its immediate value.
+jumps_backwards() {
     awk '
         wide { wide = 0; next }
         { opcode = substr($0, 1, 2); wide = opcode == "18" }
         opcode == "85" || opcode !~ /[56de]$/ { next }
-        substr($0, opcode == "06" ? 15 : 7, 1) ~ /[89a-f]/ {
-            print NR - 1, "a loop that isn'\''t unrolled: give it a constant number of turns, or #pragma unroll"
-            exit
-        }' "$work/hex" >"$work/flaw"
-    read -r unit words <"$work/flaw" || return 0
-    fault "$unit" "$words"
+        substr($0, opcode == "06" ? 15 : 7, 1) ~ /[89a-f]/ { found = 1; exit }
+        END { exit !found }' "$work/hex"
+}
+
+# Puts the units in an order in which no jump goes backwards, and their places too. If there is none, it is a loop.
+put_in_order() {
+    jumps_backwards || return 0
+    awk -f "$here/tools/in_order.awk" "$work/hex" >"$work/order" || exit 3
+    read -r word unit <"$work/order" || return 0
+    [ "$word" != loop ] ||
+        fault "$unit" "a loop that isn't unrolled: give it a constant number of turns, or #pragma unroll"
+    sed 's/ .*//' "$work/order" >"$work/hex"
+    awk '
+        NR == FNR { unit = $0; sub(/:.*/, "", unit); sub(/^[0-9]*:/, ""); place[unit] = $0; next }
+        { print FNR - 1 ":" place[$2] }' "$work/places" "$work/order" >"$work/ordered"
+    mv "$work/ordered" "$work/places"
+}
+
+# Writes the units of the object's rule, and their places, to files.
+read_object() {
+    look_at_target
+    read_section
+    look_at_functions
+    look_at_references
+    put_in_order
 }
 
 # Sets `mask` to the counters that the code uses: the last constant in r1 before each call of the helpers 1 to 3.
 find_mask() {
-    awk '/^b701/ { counter = substr($0, 9, 2) } /^850000000[123]/ { print counter }' "$work/hex" |
+    awk '/^b[47]01/ { counter = substr($0, 9, 2) } /^850000000[123]/ { print counter }' "$work/hex" |
         sort -u >"$work/counters"
     mask=0
     while read -r counter; do
@@ -172,23 +208,22 @@ while [ $# -gt 0 ]; do
     esac
     shift
 done
-case $source in *.c | *.o) ;; *) usage ;; esac
+case $source in *.c | *.o | *.bpf) ;; *) usage ;; esac
 if [ ! -f "$source" ] || [ ! -r "$source" ]; then stop 3 "$source can't be read"; fi
-need_tools
+[ "$source" != "${source%.bpf}" ] || need_compiler
+"$fc" --version >/dev/null || stop 3 "$fc doesn't run"
 work=$(mktemp -d) || stop 3 "no folder can be made below ${TMPDIR:-/tmp}"
 trap 'rm -rf "$work"' EXIT
 object=$source
 case $source in
+    *.bpf) assemble "$source" ;;
     *.c)
         object=$work/rule.o
         compile "$source"
+        read_object
         ;;
+    *.o) read_object ;;
 esac
-look_at_target
-read_section
-look_at_functions
-look_at_references
-look_at_jumps
 find_mask
 verify
 told="$accepted, mask $mask, layout $layout"
