@@ -1,6 +1,8 @@
 /*
  * What a rule in C sees and calls: the request, kinds and states by name, and the helpers. tools/rule.sh compiles a
- * rule, and docs/use/rules-in-c.md tells how one is written.
+ * rule, and docs/use/rules-in-c.md tells how one is written. This compiles one by hand, and tools/rule.sh takes rule.o:
+ *
+ *     clang --target=bpfel -mcpu=v3 -O2 -g -ffreestanding -fno-jump-tables -c rule.c
  *
  * Amounts are cents, volumes centilitres, prices thousandths of the currency for a litre, moments seconds since 1970.
  */
@@ -8,7 +10,7 @@
 #define FORECOURT_H
 
 #ifndef __bpf__
-#error "a rule is compiled for BPF: tools/rule.sh does it, or clang --target=bpfel -O2"
+#error "a rule is compiled for BPF: tools/rule.sh does it, or the command at the head of this file"
 #endif
 
 #include <stddef.h>
