@@ -5,7 +5,7 @@
 set -u
 cd ../.. || exit 1
 awk -v rule="$1" -v room="$ROOM" '
-    $1 == "$" && $2 == "sh" && $3 == "try" && $4 == rule {
+    $1 == "$" && $2 == "sh" && $3 == "try" && $4 == "examples/rules/" rule ".bpf" {
         print ($7 == "load2" ? "load2" : "load"), $5, $6 > (room "/load")
         sending = 1
         next
