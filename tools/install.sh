@@ -2,9 +2,10 @@
 # Installs the proved program below PREFIX, with its systemd units, its manual page and its completions for bash:
 #   bin/fc  lib/systemd/system/fc.service  lib/systemd/system/fc-new-day.service  lib/systemd/system/fc-new-day.timer
 #   share/man/man1/fc.1  share/bash-completion/completions/fc
-# With --uninstall it removes exactly these six files; folders stay. If DESTDIR is set, all six are below DESTDIR, but
-# the units name the program by its path below PREFIX. An older file of fc in one of these places is replaced. If
-# something else is there (also a link), that is printed, and nothing is changed.
+# and share/fc, which has README, tools/rule.sh and examples/ (with forecourt.h, ask.py and the rules), as a checkout.
+# With --uninstall it removes exactly these files, and of share/fc the folders that are empty then; other folders stay.
+# If DESTDIR is set, all are below DESTDIR, but the units name the program by its path below PREFIX. An older file of fc
+# in one of these places is replaced. If something else is there (also a link), that is printed, and nothing is changed.
 # usage: tools/install.sh [--uninstall] PREFIX
 # Status: 0 done, 1 it can't be done, 2 the arguments are wrong.
 set -u
@@ -13,9 +14,16 @@ here=$(CDPATH='' cd -P -- "$(dirname -- "$0")/.." && pwd) || exit 1
 program=$here/out/fc
 system=$here/examples/system
 units='lib/systemd/system/fc.service lib/systemd/system/fc-new-day.service lib/systemd/system/fc-new-day.timer'
-places="bin/fc $units share/man/man1/fc.1 share/bash-completion/completions/fc"
-# These words are in each of the six files, and in the program as a part of its help. A file without them isn't ours.
+mark=share/fc/README
+places="bin/fc $units share/man/man1/fc.1 share/bash-completion/completions/fc $mark"
+# These words are in each of these files, and in the program as a part of its help. A file without them isn't ours.
 ours="a petrol station's site"
+# The other files of share/fc are as in this checkout. They are ours where README is, or if they are the same.
+shared=$(
+    cd "$here" || exit
+    for file in tools/rule.sh tools/in_order.awk examples/*/*.*; do [ ! -f "$file" ] || echo "share/fc/$file"; done
+)
+places="$places $shared"
 
 say() { printf 'install.sh: %s\n' "$*" >&2; }
 stop() {
@@ -28,7 +36,19 @@ usage() {
     exit 2
 }
 
-is_ours() { [ -f "$1" ] && [ ! -L "$1" ] && LC_ALL=C grep -q "$ours" "$1"; }
+has_words() { [ -f "$1" ] && [ ! -L "$1" ] && LC_ALL=C grep -q "$ours" "$1"; }
+
+# Whether the file at the place $1 is one of ours.
+is_ours() {
+    case $1 in
+        "$mark") has_words "$root/$1" ;;
+        share/fc/*)
+            [ -f "$root/$1" ] && [ ! -L "$root/$1" ] || return 1
+            has_words "$root/$mark" || text_of "$1" | cmp -s - "$root/$1"
+            ;;
+        *) has_words "$root/$1" ;;
+    esac
+}
 
 is_there() { [ -e "$1" ] || [ -L "$1" ]; }
 
@@ -36,15 +56,16 @@ look_at_places() {
     for place in $places; do
         file=$root/$place
         is_there "$file" || continue
-        is_ours "$file" || stop "$file is there, and is none of fc's files: nothing is changed"
+        is_ours "$place" || stop "$file is there, and is none of fc's files: nothing is changed"
     done
 }
 
 look_at_program() {
     [ -x "$program" ] || stop "there is no proved program in $program: ./fc --version proves and builds it"
-    is_ours "$program" || stop "$program is none of fc's programs: ./fc --version proves and builds it"
+    has_words "$program" || stop "$program is none of fc's programs: ./fc --version proves and builds it"
     set -- "$here/crates.txt" "$here"/crates/*/src "$here"/crates/*/specs
-    [ -z "$(find "$@" -newer "$program.mark" -print 2>/dev/null)" ] || say "the sources are newer than $program, which is installed as it is"
+    [ -z "$(find "$@" -newer "$program.mark" -print 2>/dev/null)" ] ||
+        say "the sources are newer than $program, which is installed as it is"
 }
 
 make_folders() {
@@ -61,17 +82,37 @@ text_of() {
     case $1 in
         bin/fc) cat "$program" ;;
         */completions/fc) cat "$system/fc.bash" ;;
+        "$mark")
+            echo "This folder is of fc, which keeps a petrol station's site. Its next installation replaces the files."
+            echo 'tools/rule.sh compiles a rule in C, and examples/clients/ask.py sends lines to a site that is served.'
+            ;;
+        share/fc/*) cat "$here/${1#share/fc/}" ;;
         *) sed "s|=/usr/bin/fc |=$prefix/bin/fc |" "$system/${1##*/}" ;;
     esac
 }
 
-mode_of() { case $1 in bin/*) echo 755 ;; *) echo 644 ;; esac; }
+# A file of share/fc can be run if it can be in the checkout.
+mode_of() {
+    case $1 in
+        bin/*) echo 755 ;;
+        *) if [ -x "$here/${1#share/fc/}" ]; then echo 755; else echo 644; fi ;;
+    esac
+}
+
+# Says that the place $1 is done, with the words before it. Of share/fc README alone is named.
+tell() {
+    case $2 in
+        "$mark") echo "$1 $root/share/fc" ;;
+        share/fc/*) ;;
+        *) echo "$1 $root/$2" ;;
+    esac
+}
 
 take_new_away() {
     for place in $places; do rm -f -- "$root/$place.new$$"; done
 }
 
-# Writes all six files beside their places first, and then renames them. A program that is running goes on as it was.
+# Writes all files beside their places first, and then renames them. A program that is running goes on as it was.
 put_in_place() {
     trap take_new_away EXIT
     trap 'exit 1' HUP INT TERM
@@ -82,23 +123,27 @@ put_in_place() {
     done
     for place in $places; do
         mv -f -- "$root/$place.new$$" "$root/$place" || stop "$root/$place can't be replaced: it stays as it was"
-        echo "installed $root/$place"
+        tell installed "$place"
     done
 }
 
+# README goes last: until then what is left is known as ours.
 take_away() {
     set --
     for place in $places; do
         file=$root/$place
         is_there "$file" || continue
         [ -w "${file%/*}" ] || stop "the folder ${file%/*} can't be written: nothing is taken away"
-        set -- "$@" "$file"
+        [ "$place" = "$mark" ] || set -- "$@" "$place"
     done
+    ! is_there "$root/$mark" || set -- "$@" "$mark"
     [ $# != 0 ] || say "nothing of fc is below $root/"
-    for file in "$@"; do
-        rm -f -- "$file" 2>/dev/null || stop "$file can't be taken away"
-        echo "taken away $file"
+    for place in "$@"; do
+        rm -f -- "$root/$place" 2>/dev/null || stop "$root/$place can't be taken away"
+        tell 'taken away' "$place"
     done
+    rmdir "$root"/share/fc/examples/* "$root"/share/fc/* "$root/share/fc" 2>/dev/null
+    return 0
 }
 
 job=install
