@@ -1,4 +1,7 @@
 //! Counts of a site's workers, of their connections, and of what comes in at each door.
+ghost use Rattle.std.specs.Prelude.{◌≡◌, ◌+◌, ◌-◌, ◌≤◌, ◌++◌, ◌∷◌, [], IfOk, OnOk, length, map, min, string_bytes};
+ghost use Rattle.page_port.specs.Counting.{DoorName, listed, name_of_counts, name_of_door, roles_with_doors};
+
 use pages::{DoorCounts, RoleCounts};
 use std::alloc::{AllocError, Global};
 use std::sync::atomic::{AtomicU32, AtomicU64, Ordering};
@@ -17,7 +20,9 @@ struct RoleCounters {
 }
 
 impl RoleCounters {
-    fn new() -> RoleCounters {
+    fn new() -> RoleCounters
+        ensures { result.workers ≡ 0 }
+    {
         RoleCounters {
             workers: 0,
             began: AtomicU32::new(0),
@@ -27,18 +32,52 @@ impl RoleCounters {
         }
     }
 
+    fn add_workers(&mut self, workers: u32)
+        ensures { self.new.workers ≡ min (self.old.workers + workers) 4294967295 }
+    {
+        self.workers = self.workers.saturating_add(workers);
+    }
+
     /// A connection that ends during this call can still count as open.
-    fn role_counts(&self, role: Role) -> RoleCounts {
+    fn role_counts(&self, role: Role) -> RoleCounts
+        ensures role { result.role ≡ role }
+        ensures open { result.open ≤ result.total }
+    {
         let left = self.left.load(Ordering::SeqCst);
         let closed = self.closed.load(Ordering::SeqCst);
         let total = self.opened.load(Ordering::SeqCst);
-        RoleCounts {
-            role,
-            workers: self.began.load(Ordering::SeqCst).saturating_sub(left),
-            open: total.saturating_sub(closed),
-            total,
-        }
+        counts_of(role, (self.began.load(Ordering::SeqCst), left), (total, closed))
     }
+}
+
+/// `workers` are those that began and those that left, `connections` those that were opened and those that were closed.
+fn counts_of(role: Role, workers: (u32, u32), connections: (u64, u64)) -> RoleCounts
+    ensures role { result.role ≡ role }
+    ensures workers { result.workers ≡ workers.0 - workers.1 }
+    ensures open { result.open ≡ connections.0 - connections.1 }
+    ensures total { result.total ≡ connections.0 }
+{
+    RoleCounts {
+        role,
+        workers: workers.0.saturating_sub(workers.1),
+        open: connections.0.saturating_sub(connections.1),
+        total: connections.0,
+    }
+}
+
+/// Adds the counts of a role, if it has a door.
+fn put_counts(
+    role_counts: &mut Vec<RoleCounts>,
+    role: Role,
+    counted: &RoleCounters,
+) -> Result<(), AllocError>
+    ensures { OnOk result (map (λ (c : RoleCounts). c.role) role_counts.new.items
+        ≡ map (λ (c : RoleCounts). c.role) role_counts.old.items ++ listed counted.now.workers role) }
+{
+    if counted.workers > 0 {
+        role_counts.push(counted.role_counts(role))?;
+    }
+    Ok(())
 }
 
 /// What comes to one worker. Its counts are 128 bytes apart from the next worker's, so that workers on several
@@ -60,6 +99,16 @@ impl PassCounters {
     }
 }
 
+/// Adds the counters of this many workers.
+fn add_passes(passes: &mut Vec<PassCounters>, workers: u32) -> Result<(), AllocError>
+    ensures { OnOk result (length passes.new.items ≡ length passes.old.items + workers) }
+{
+    for _ in 0..workers {
+        passes.push(PassCounters::new())?;
+    }
+    Ok(())
+}
+
 #[derive(Drop)]
 struct NamedDoor {
     address: String,
@@ -69,7 +118,9 @@ struct NamedDoor {
 
 impl NamedDoor {
     /// `passes` are the counters of the door's workers.
-    fn counts(&self, passes: &[PassCounters]) -> DoorCounts<'_> {
+    fn counts(&self, passes: &[PassCounters]) -> DoorCounts<'_>
+        ensures { name_of_counts result ≡ name_of_door self.now }
+    {
         let (mut lines, mut turned_away) = (0u64, 0u64);
         for pass in passes {
             lines = lines.saturating_add(pass.lines.load(Ordering::Relaxed));
@@ -98,7 +149,10 @@ pub struct ConnectionCounts {
 }
 
 impl ConnectionCounts {
-    pub fn new(alloc: Global) -> ConnectionCounts {
+    pub fn new(alloc: Global) -> ConnectionCounts
+        ensures doors { result.doors.items ≡ [] }
+        ensures roles { roles_with_doors result ≡ [] }
+    {
         ConnectionCounts {
             tills: RoleCounters::new(),
             dispensers: RoleCounters::new(),
@@ -116,13 +170,15 @@ impl ConnectionCounts {
         }
     }
 
-    fn add_workers(&mut self, role: Role, workers: u32) {
-        let counted = match role {
-            Role::Till | Role::OneTill(..) => &mut self.tills,
-            Role::Dispenser | Role::SomePoints(..) => &mut self.dispensers,
-            Role::Owner | Role::All => &mut self.owner,
-        };
-        counted.workers = counted.workers.saturating_add(workers);
+    fn add_workers(&mut self, role: Role, workers: u32)
+        ensures doors { self.new.doors ≡ self.old.doors }
+        ensures passes { self.new.passes ≡ self.old.passes }
+    {
+        match role {
+            Role::Till | Role::OneTill(..) => self.tills.add_workers(workers),
+            Role::Dispenser | Role::SomePoints(..) => self.dispensers.add_workers(workers),
+            Role::Owner | Role::All => self.owner.add_workers(workers),
+        }
     }
 
     /// Adds a door with `workers` workers, which have the next passes. `who` and `address` are shown.
@@ -132,11 +188,14 @@ impl ConnectionCounts {
         workers: u32,
         who: String,
         address: String,
-    ) -> Result<(), AllocError> {
+    ) -> Result<(), AllocError>
+        // proved doors, passes: A door is added behind the others, with a counter for each of its workers
+        ensures doors { OnOk result (map name_of_door self.new.doors.items
+            ≡ map name_of_door self.old.doors.items ++ (string_bytes address, string_bytes who) ∷ []) }
+        ensures passes { OnOk result (length self.new.passes.items ≡ length self.old.passes.items + workers) }
+    {
         self.add_workers(role, workers);
-        for _ in 0..workers {
-            self.passes.push(PassCounters::new())?;
-        }
+        add_passes(&mut self.passes, workers)?;
         self.doors.push(NamedDoor {
             address,
             who,
@@ -162,7 +221,10 @@ impl ConnectionCounts {
         }
     }
 
-    pub(crate) fn door_counts(&self, alloc: Global) -> Result<Vec<DoorCounts<'_>>, AllocError> {
+    pub(crate) fn door_counts(&self, alloc: Global) -> Result<Vec<DoorCounts<'_>>, AllocError>
+        // proved: It lists each door, in order
+        ensures { IfOk result (λ counts. map name_of_counts counts.items ≡ map name_of_door self.now.doors.items) }
+    {
         let mut door_counts = Vec::new(alloc);
         let mut passes = self.passes.as_slice();
         for door in &self.doors {
@@ -192,14 +254,14 @@ impl ConnectionCounts {
     }
 
     /// For tills, for dispensers and for the owner, in this order, but for a role without a door.
-    pub(crate) fn role_counts(&self, alloc: Global) -> Result<Vec<RoleCounts>, AllocError> {
+    pub(crate) fn role_counts(&self, alloc: Global) -> Result<Vec<RoleCounts>, AllocError>
+        // proved: It lists each role that has a door, in order
+        ensures { IfOk result (λ counts. map (λ (c : RoleCounts). c.role) counts.items ≡ roles_with_doors self.now) }
+    {
         let mut role_counts = Vec::new(alloc);
-        for role in [Role::Till, Role::Dispenser, Role::Owner] {
-            let counted = self.counted(role);
-            if counted.workers > 0 {
-                role_counts.push(counted.role_counts(role))?;
-            }
-        }
+        put_counts(&mut role_counts, Role::Till, &self.tills)?;
+        put_counts(&mut role_counts, Role::Dispenser, &self.dispensers)?;
+        put_counts(&mut role_counts, Role::Owner, &self.owner)?;
         Ok(role_counts)
     }
 }

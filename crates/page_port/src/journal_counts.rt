@@ -1,4 +1,6 @@
 //! Counts of the bytes and the syncs of the file in which a served site's journal is kept.
+ghost use Rattle.std.specs.Prelude.{◌≡◌, is_some};
+
 use crate::timings::Timings;
 use pages::JournalFileStats;
 use std::sync::atomic::{AtomicBool, AtomicU64, Ordering};
@@ -15,7 +17,9 @@ pub struct JournalCounts {
 }
 
 impl JournalCounts {
-    pub fn new(bytes: u64, is_synced: bool) -> JournalCounts {
+    pub fn new(bytes: u64, is_synced: bool) -> JournalCounts
+        ensures { is_some result.syncs ≡ is_synced }
+    {
         JournalCounts {
             bytes: AtomicU64::new(bytes),
             has_failed: AtomicBool::new(false),
@@ -51,7 +55,10 @@ impl JournalCounts {
         self.bytes.load(Ordering::SeqCst)
     }
 
-    pub(crate) fn file(&self) -> JournalFileStats {
+    pub(crate) fn file(&self) -> JournalFileStats
+        // proved: It counts syncs exactly where answers wait for them
+        ensures { is_some result.syncs ≡ is_some self.now.syncs }
+    {
         JournalFileStats {
             bytes: self.bytes(),
             syncs: match &self.syncs {
