@@ -1,11 +1,18 @@
 -- Definitions: the answers to requests on the page port, a port on which a browser looks at the site.
-use Rattle.std.specs.Prelude.{◌≡◌, ◌⊎◌, ℕ, List, [], ◌∷◌, ◌++◌, codes, Result, Ok, Err}
+use Rattle.std.specs.Prelude.{◌≡◌, ◌⊎◌, ℕ, List, [], ◌∷◌, ◌++◌, length, map, codes, Bool, true, Result, Ok, Err}
 use Rattle.http1.specs.Fields.{Header}
 use Rattle.http_server.specs.Response.{fields_of}
 use Rattle.http_server.specs.declared.response.Response.{Response}
 use Rattle.pages.specs.declared.station.Health.{Health}
 use Rattle.pages.specs.declared.station.Health.TheVariants as health
-use Rattle.pages.specs.Health.{health_text}
+use Rattle.pages.specs.Health.{health_of, health_text}
+use Rattle.site_lock.specs.Looks.{CanBeUnderLock}
+use Rattle.site_lock.specs.LockedSites.{LockedSiteValue}
+use Rattle.site_lock.specs.Passes.{Opened}
+use Rattle.pages.specs.declared.station.RoleCounts.{RoleCounts}
+use Rattle.page_port.specs.Counting.{roles_with_doors}
+use Rattle.page_port.specs.Shown.{AreLinesBehind}
+use Rattle.page_port.specs.declared.connections.ConnectionCounts.{ConnectionCounts}
 use Rattle.page_port.specs.declared.routing.Refusal.{Refusal}
 use Rattle.page_port.specs.declared.routing.Refusal.TheVariants as refusals
 use Rattle.page_port.specs.declared.routing.Endpoint.{Endpoint}
@@ -75,16 +82,26 @@ abbrev pub ReportsHealth : Health → PageAnswer → Type 0
 ReportsHealth health page_answer =
     (page_answer.status ≡ status_of_health health) × (page_answer.kind ≡ kinds.Plain) × (page_answer.text ≡ health_text health ++ codes "\n")
 
--- The answer fits this endpoint:
+-- The answer reports the health of what the lock protected at one moment: a journal that had failed then is reported,
+-- and the workers of each role that has a door are counted.
+abbrev pub IsHealthOf : Opened → Type 0 → ConnectionCounts → PageAnswer → Type 0
+IsHealthOf f may_fail connections page_answer =
+    (held : LockedSiteValue) × (has_failed : Bool) × (role_counts : List RoleCounts) × CanBeUnderLock f may_fail held
+    × (held.journal_failed ≡ true → has_failed ≡ true)
+    × (map (λ (counts : RoleCounts). counts.role) role_counts ≡ roles_with_doors connections)
+    × ReportsHealth (health_of has_failed (length held.site.history) role_counts) page_answer
+
+-- The answer fits this endpoint, of a site under a lock and the counts of its connections:
 -- - `Page`: the status is 200, and the text is of the kind `Html`
 -- - `Metrics`: the status is 200, and the text is of the kind `Metrics`
--- - `Health`: the answer reports a health of the station; nothing is claimed of which health it is
--- - `Journal`: the status is 200, and the text is of the kind `Plain`
-abbrev pub FitsEndpoint : Endpoint → PageAnswer → Type 0
-FitsEndpoint endpoints.Page page_answer = IsOkOfKind kinds.Html page_answer
-FitsEndpoint endpoints.Metrics page_answer = IsOkOfKind kinds.Metrics page_answer
-FitsEndpoint endpoints.Health page_answer = (health : Health) × ReportsHealth health page_answer
-FitsEndpoint (endpoints.Journal _) page_answer = IsOkOfKind kinds.Plain page_answer
+-- - `Health`: the answer reports the health of one moment
+-- - `Journal`: the status is 200, the text is of the kind `Plain`, and it is the lines behind this entry
+abbrev pub FitsEndpoint : Opened → Type 0 → ConnectionCounts → Endpoint → PageAnswer → Type 0
+FitsEndpoint f may_fail connections endpoints.Page page_answer = IsOkOfKind kinds.Html page_answer
+FitsEndpoint f may_fail connections endpoints.Metrics page_answer = IsOkOfKind kinds.Metrics page_answer
+FitsEndpoint f may_fail connections endpoints.Health page_answer = IsHealthOf f may_fail connections page_answer
+FitsEndpoint f may_fail connections (endpoints.Journal after) page_answer =
+    IsOkOfKind kinds.Plain page_answer × AreLinesBehind f may_fail after page_answer.text
 
 -- The answer reports that memory ran out: it has the status 503 and the plain text "out of memory", with an LF.
 abbrev pub ReportsOutOfMemory : PageAnswer → Type 0
@@ -105,6 +122,8 @@ pub record HasAnswer (page_answer : PageAnswer) (response : Response) : Type 0 w
 -- The response answers a request for which `requested_endpoint` gives this result:
 -- - a refusal: the response refuses the request for this reason
 -- - an endpoint: the response has an answer that fits the endpoint, or reports that memory ran out
-abbrev pub IsAnswer : Result Endpoint Refusal → Response → Type 0
-IsAnswer (Err refusal) response = Refuses refusal response
-IsAnswer (Ok endpoint) response = (page_answer : PageAnswer) × HasAnswer page_answer response × (FitsEndpoint endpoint page_answer ⊎ ReportsOutOfMemory page_answer)
+abbrev pub IsAnswer : Opened → Type 0 → ConnectionCounts → Result Endpoint Refusal → Response → Type 0
+IsAnswer f may_fail connections (Err refusal) response = Refuses refusal response
+IsAnswer f may_fail connections (Ok endpoint) response =
+    (page_answer : PageAnswer) × HasAnswer page_answer response
+    × (FitsEndpoint f may_fail connections endpoint page_answer ⊎ ReportsOutOfMemory page_answer)

@@ -2,3 +2,4 @@ pub mod Answering
 pub mod Asking
 pub mod Counting
 pub mod Limits
+pub mod Shown

@@ -1,4 +1,6 @@
 //! The page port: a port of 127.0.0.1 on which a browser or a script looks at a site while it is served.
+ghost use Rattle.std.specs.Prelude.{◌≡◌, None, true, is_some};
+
 use crate::client::{Client, TurnOutcome};
 use crate::connections::ConnectionCounts;
 use crate::journal_counts::JournalCounts;
@@ -115,7 +117,9 @@ impl<'a> PagePort<'a> {
         }
     }
 
-    pub fn connections(&self) -> &ConnectionCounts {
+    pub fn connections(&self) -> &ConnectionCounts
+        ensures { result.now ≡ self.now.connections }
+    {
         &self.connections
     }
 
@@ -123,15 +127,24 @@ impl<'a> PagePort<'a> {
         self.rt.alloc()
     }
 
-    pub(crate) fn journal(&self) -> Option<JournalFileStats> {
+    pub(crate) fn journal(&self) -> Option<JournalFileStats>
+        ensures { is_some result ≡ is_some self.now.journal }
+    {
         match self.journal {
             Some(counts) => Some(counts.file()),
             None => None,
         }
     }
 
-    /// Whether the journal's file failed. The site itself learns of a failed sync only when the next event is entered.
-    pub(crate) fn has_journal_failed(&self) -> bool {
+    /// Whether the journal failed, also if only its file did: the site learns of a failed sync only when the next event
+    /// is entered.
+    pub(crate) fn has_failed(&self, has_site_failed: bool) -> bool
+        ensures site { has_site_failed ≡ true → result ≡ true }
+        ensures unkept { self.now.journal ≡ None → result ≡ has_site_failed }
+    {
+        if has_site_failed {
+            return true;
+        }
         match self.journal {
             Some(counts) => counts.has_failed(),
             None => false,
