@@ -189,7 +189,7 @@ impl ConnectionCounts {
         who: String,
         address: String,
     ) -> Result<(), AllocError>
-        // proved doors, passes: A door is added behind the others, with a counter for each of its workers
+        // proved doors, passes: A door is added behind the others, with its workers
         ensures doors { OnOk result (map name_of_door self.new.doors.items
             ≡ map name_of_door self.old.doors.items ++ (string_bytes address, string_bytes who) ∷ []) }
         ensures passes { OnOk result (length self.new.passes.items ≡ length self.old.passes.items + workers) }
