@@ -4,6 +4,7 @@ use crate::printed::serve_printed;
 use file_jobs::audits::audit_files;
 use file_jobs::carry::carry_files;
 use file_jobs::chained::audit_folder;
+use file_jobs::command_line::help;
 use file_jobs::export::export_files;
 use file_jobs::job_error::print_text;
 use file_jobs::plays::{play_files, play_input};
@@ -11,6 +12,7 @@ use file_jobs::printing::print_file;
 use file_jobs::report::report_files;
 use file_jobs::{Folder, Job, JobError, PrintRequest, ServeJob, SiteFiles};
 use std::fs::Files;
+use std::io::IsTerminal;
 use std::net::{Net, TcpListener, TcpStream};
 use std::sync::Wait;
 use std::thread::Threads;
@@ -22,7 +24,7 @@ pub fn do_job<
     H: Files + Net<Listener = TcpListener, Stream = TcpStream> + Threads + Wait + Clock + Sync,
 >(rt: &HostRuntime, host: &H, job: &Job) -> Result<(), JobError> {
     match job {
-        Job::NoWords => play_input(rt),
+        Job::NoWords => without_words(rt),
         Job::Show(text) => print_text(rt, text),
         Job::Asm(file) => print_file(rt, file, PrintRequest::Asm),
         Job::Dis(file) => print_file(rt, file, PrintRequest::Dis),
@@ -62,6 +64,14 @@ pub fn do_job<
         } => export_files(rt, *rows, *format, site_files(config, opening), journal),
         Job::Serve(job) => serve(rt, host, job),
     }
+}
+
+/// Plays standard input, or prints the help where that is a terminal.
+fn without_words(rt: &HostRuntime) -> Result<(), JobError> {
+    if rt.stdin().is_terminal() {
+        return print_text(rt, &help(rt.alloc())?);
+    }
+    play_input(rt)
 }
 
 fn serve<

@@ -491,3 +491,9 @@ pub fn command(alloc: Global, words: Vec<String>) -> Result<Job, CommandFault>
         Err(error) => job_from_error(error.kind(), error.to_string(alloc)),
     }
 }
+
+/// Returns the text that `fc --help` prints.
+pub fn help(alloc: Global) -> Result<String, AllocError> {
+    let mut command = fc(alloc)?;
+    command.render_help()
+}

@@ -6,7 +6,6 @@ ghost use Rattle.file_jobs.specs.PlaysAndDays.{BreaksOff, IsPlayed};
 
 use crate::answers::{Answers, Incoming, Outgoing};
 use crate::files::{lines_in, name_of, stream, too_long};
-use crate::messages::print_message;
 use crate::playing::play_within;
 use crate::progress::Progress;
 use crate::refused_loads::RefusedLoads;
@@ -20,10 +19,6 @@ use std::alloc::Global;
 use std::io::{self, IsTerminal};
 use till_request::LineFault;
 use till_request::devices::{Ahead, StreamIn, StreamOut};
-
-/// For a user at a terminal who gave no argument.
-const AWAITED: &str =
-    "reading a configuration, a line --- and a script from standard input; fc --help tells more";
 
 /// The input of a play: read from the device in blocks, and taken byte by byte.
 type Script<'a, 'b, 'c> = Ahead<StreamIn<Incoming<'a, 'b, 'c>>>;
@@ -89,9 +84,6 @@ pub fn play_input(rt: &HostRuntime) -> Result<(), JobError>
     // proved: A play that isn't done has status 1 or 3
     ensures { IfErr result (Refuses 1) }
 {
-    if rt.stdin().is_terminal() {
-        print_message(rt, &AWAITED);
-    }
     let answers = Answers::new(rt)?;
     play_both(rt, &mut script_of(Source::input(rt), &answers, None))
 }
