@@ -115,9 +115,9 @@ class Station:
             file.write(changed(read(os.path.join(NETWORK, "site.toml")), site))
         self.journal = open(os.path.join(self.folder, "journal"), "w+")
         self.program = started([fc, "serve", self.config], stdout=self.journal, stderr=subprocess.PIPE)
-        self.told = self.program.stderr.readline().decode()
+        unkept, self.told = (self.program.stderr.readline().decode() for _ in range(2))
         if not self.told.startswith("fc: serving"):
-            raise SystemExit(f"fc serve said {self.told!r}")
+            raise SystemExit(f"fc serve said {unkept + self.told!r}")
         self.open_controller()
 
     def open_controller(self):
