@@ -96,6 +96,14 @@ fn code_of(failure: SessionFailure) -> &'static str {
     }
 }
 
+/// Returns what a write to a peer that failed means, or nothing for any other fault.
+fn why_of(failure: SessionFailure) -> &'static str {
+    match failure {
+        SessionFailure::Session(SessionFault::Write) => ": the peer hung up, or took nothing",
+        SessionFailure::Line(_) | SessionFailure::Session(_) => "",
+    }
+}
+
 /// The workers of `doors` have the passes from 1 on, door after door.
 fn door_at(doors: &[Door], pass: u32) -> Option<&Door> {
     let mut passes = 0u32;
@@ -190,8 +198,8 @@ impl<H: Wait + Clock> Notices for OperatorReports<'_, H> {
 
     fn session_failed(&self, role: Role, pass: u32, failure: SessionFailure) {
         if self.is_admitted() {
-            let (who, code) = (Peer(role), code_of(failure));
-            let words = format_args!("pass {pass}: the session of {who}: {failure}{code}");
+            let (who, why, code) = (Peer(role), why_of(failure), code_of(failure));
+            let words = format_args!("pass {pass}: the session of {who}: {failure}{why}{code}");
             print_message(self.rt, &words);
         }
     }
