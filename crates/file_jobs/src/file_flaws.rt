@@ -47,6 +47,27 @@ impl From<ProgramFileFault> for FileFlaw<'_> {
     }
 }
 
+/// A fault of a program file, and of one with other bytes also how such a file is made of a text.
+#[derive(Clone, Copy)]
+struct FileFault(ProgramFileFault);
+
+impl fmt::Display for FileFault {
+    ghost use Rattle.std.specs.Prelude.{Some};
+    ghost use Rattle.file_jobs.specs.FlawTexts.{file_fault_text};
+
+    ghost output = { λ fault. Some (file_fault_text fault.0) };
+
+    fn fmt<W: fmt::Write>(&self, f: &mut fmt::Formatter<W>) -> fmt::Result {
+        match self.0 {
+            ProgramFileFault::BadDigits => {
+                let fault = self.0;
+                write!(f, "{fault}; fc asm assembles a text")
+            }
+            fault => write!(f, "{fault}"),
+        }
+    }
+}
+
 impl fmt::Display for FileFlaw<'_> {
     ghost use Rattle.std.specs.Prelude.{Some};
     ghost use Rattle.file_jobs.specs.FlawTexts.{file_flaw_text};
@@ -55,7 +76,7 @@ impl fmt::Display for FileFlaw<'_> {
 
     fn fmt<W: fmt::Write>(&self, f: &mut fmt::Formatter<W>) -> fmt::Result {
         match self {
-            FileFlaw::File(fault) => write!(f, "{fault}"),
+            FileFlaw::File(fault) => write!(f, "{}", FileFault(*fault)),
             FileFlaw::Text(_, flaw) => write!(f, "{flaw}"),
             FileFlaw::Program(refused) => write!(f, "{refused}"),
             FileFlaw::OutOfMemory => f.write_str("out of memory"),
