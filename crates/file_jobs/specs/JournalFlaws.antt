@@ -7,7 +7,7 @@ use Rattle.file_jobs.specs.declared.journal_reasons.JournalFlaw.TheVariants as f
 use Rattle.file_jobs.specs.Reasons.{Names}
 
 -- `reported` says the same as what an audit found wrong with an entry, and `at` is the entry's place. For a refused
--- program it also has the line of the unit at fault and the kind of value that an argument must be.
+-- program it also has the line of the unit at fault and what the message says more (`Names`).
 abbrev pub Explains : EntryFlaw → ℕ → JournalFlaw → Type 0
 Explains (entry.Number place number) at (flaw.Number shown of) = (at ≡ place) × (shown ≡ number) × (of ≡ place)
 Explains (entry.Program place slot bytes refusal) at (flaw.Program shown refused) =

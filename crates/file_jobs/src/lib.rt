@@ -56,7 +56,7 @@ pub use open_journals::OpenJournal;
 pub use opening::Day;
 pub use player::Player;
 pub use printing::PrintRequest;
-pub use reasons::RefusedProgram;
+pub use reasons::{Hint, RefusedProgram};
 pub use script::ScriptLine;
 pub use settings::SiteFiles;
 pub use statuses::{DONE, FAILED, REFUSED, USAGE};

@@ -2,28 +2,40 @@
 ghost use Rattle.std.specs.Prelude.{◌≡◌, ◌↔◌, IfOk, IsOk, IsTrue, MatchOption, Some, None, option_map, string_bytes};
 ghost use Rattle.bpf_model.specs.Reading.{units};
 ghost use Rattle.verifier.specs.Refusals.{refusal_numbers};
-ghost use Rattle.file_jobs.specs.Reasons.{number_in, unit_in, kind_wanted, wanted_at, wanted_in};
+ghost use Rattle.file_jobs.specs.Reasons.{number_in, unit_in, wanted_at, wanted_by, hint_for, hint_in};
+ghost use Rattle.file_jobs.specs.Reasons.{counter_hint, counter_numbered, in_second_alone, layout_hint, load_size, reads_second_layout, sets_r1};
 ghost use Rattle.file_jobs.specs.Reasons.{digits_line, line_named};
 ghost use Rattle.file_jobs.specs.FlawTexts.{kind_text};
 
 use bpf_asm::instruction_line;
 use bpf_asm::program_file::unit_lines;
 use bpf_model::decode::decode;
-use bpf_model::instruction::Unit;
+use bpf_model::instruction::{Form, Inst, Unit};
 use bpf_model::{Code, DecodeFault};
 use std::alloc::{AllocError, Global};
 use std::fmt;
 use verifier::helpers::{Kind, arguments};
 use verifier::{Refusal, TypeFault};
 
-/// Why a program is refused, with the line of the unit at fault, and what kind of value an argument at fault must be.
+/// What a message says more of a refused program.
+#[derive(Clone, Copy)]
+pub enum Hint {
+    /// What kind of value the argument at fault must be.
+    Wanted(Kind),
+    /// The load at fault reads what only a context of the second layout has.
+    SecondLayout,
+    /// The counter that isn't declared, and its bit of the mask.
+    Counter(u32, u32),
+}
+
+/// Why a program is refused, with the line of the unit at fault.
 #[derive(Drop)]
 pub struct RefusedProgram {
     pub refusal: Refusal,
     /// The instruction as `fc dis` prints it, or the unit's 16 hexadecimal digits if the bytes don't decode; with an
     /// LF.
     pub line: Option<String>,
-    pub wanted: Option<Kind>,
+    pub hint: Option<Hint>,
 }
 
 impl fmt::Display for RefusedProgram {
@@ -34,7 +46,7 @@ impl fmt::Display for RefusedProgram {
     fn fmt<W: fmt::Write>(&self, f: &mut fmt::Formatter<W>) -> fmt::Result {
         let unit = UnitAtFault(unit_of(self.refusal));
         let line = LineAtFault(&self.line);
-        let wrong = Wrong(self.refusal, self.wanted);
+        let wrong = Wrong(self.refusal, self.hint);
         write!(f, "{unit}{line}{wrong}")
     }
 }
@@ -73,9 +85,63 @@ impl fmt::Display for LineAtFault<'_> {
     }
 }
 
-/// What is wrong, in words, and the kind that an argument must be.
+/// What is wrong with an argument that isn't of this kind.
 #[derive(Clone, Copy)]
-struct Wrong(Refusal, Option<Kind>);
+struct WrongArgument(Refusal, Kind);
+
+impl fmt::Display for WrongArgument {
+    ghost use Rattle.file_jobs.specs.FlawTexts.{argument_text};
+
+    ghost output = { λ wrong. Some (argument_text wrong.0 wrong.1) };
+
+    fn fmt<W: fmt::Write>(&self, f: &mut fmt::Formatter<W>) -> fmt::Result {
+        match self.0 {
+            Refusal::Type(TypeFault::BadArgument(_, argument)) => {
+                write!(f, "argument {argument} isn't {}", words_of(self.1))
+            }
+            refusal => write!(f, "{refusal}"),
+        }
+    }
+}
+
+/// A counter that isn't declared, and its bit of the mask.
+#[derive(Clone, Copy)]
+struct Undeclared(u32, u32);
+
+impl fmt::Display for Undeclared {
+    ghost use Rattle.file_jobs.specs.FlawTexts.{undeclared_text};
+
+    ghost output = { λ counter. Some (undeclared_text counter.0 counter.1) };
+
+    fn fmt<W: fmt::Write>(&self, f: &mut fmt::Formatter<W>) -> fmt::Result {
+        write!(f, "counter {} isn't declared: the mask lacks {}", self.0, self.1)
+    }
+}
+
+/// What is wrong where the message says more than the refusal's text.
+#[derive(Clone, Copy)]
+struct Hinted(Refusal, Hint);
+
+impl fmt::Display for Hinted {
+    ghost use Rattle.file_jobs.specs.FlawTexts.{hinted_text};
+
+    ghost output = { λ wrong. Some (hinted_text wrong.0 wrong.1) };
+
+    fn fmt<W: fmt::Write>(&self, f: &mut fmt::Formatter<W>) -> fmt::Result {
+        let refusal = self.0;
+        match self.1 {
+            Hint::Wanted(kind) => write!(f, "{}", WrongArgument(refusal, kind)),
+            Hint::SecondLayout => {
+                write!(f, "{refusal}; load2 (--context 2) gives a context of 80 bytes")
+            }
+            Hint::Counter(counter, bit) => write!(f, "{}", Undeclared(counter, bit)),
+        }
+    }
+}
+
+/// What is wrong, in words.
+#[derive(Clone, Copy)]
+struct Wrong(Refusal, Option<Hint>);
 
 impl fmt::Display for Wrong {
     ghost use Rattle.file_jobs.specs.FlawTexts.{wrong_text};
@@ -83,11 +149,10 @@ impl fmt::Display for Wrong {
     ghost output = { λ wrong. Some (wrong_text wrong.0 wrong.1) };
 
     fn fmt<W: fmt::Write>(&self, f: &mut fmt::Formatter<W>) -> fmt::Result {
-        match (self.0, self.1) {
-            (Refusal::Type(TypeFault::BadArgument(_, argument)), Some(kind)) => {
-                write!(f, "argument {argument} isn't {}", words_of(kind))
-            }
-            (refusal, _) => write!(f, "{refusal}"),
+        let refusal = self.0;
+        match self.1 {
+            None => write!(f, "{refusal}"),
+            Some(hint) => write!(f, "{}", Hinted(refusal, hint)),
         }
     }
 }
@@ -133,16 +198,12 @@ fn digits_of(alloc: Global, bytes: &[u8], unit: u32) -> Result<Option<String>, A
     }
 }
 
-/// Returns the kind of value that a helper must be given as the argument that a refusal names. The helper's number is
-/// the immediate of the instruction at the refusal's unit.
-fn wanted_by(code: &Code, refusal: Refusal) -> Option<Kind>
-    ensures { result ≡ kind_wanted code.now refusal }
+/// Returns the kind of value that the helper of a call takes as an argument.
+fn wanted_by(call: Option<&Unit>, argument: u32) -> Option<Hint>
+    ensures { result ≡ option_map Hint.Wanted (wanted_by (option_map (λ u. u.now) call.entry) argument) }
 {
-    let Refusal::Type(TypeFault::BadArgument(unit, argument)) = refusal else {
-        return None;
-    };
-    match code.units().get(unit as usize) {
-        Some(Unit::First(inst)) => kind_of(inst.imm, argument),
+    match call {
+        Some(Unit::First(inst)) => kind_of(inst.imm, argument).map(Hint::Wanted),
         _ => None,
     }
 }
@@ -157,6 +218,82 @@ fn kind_of(helper: i32, argument: u32) -> Option<Kind>
         Some(kinds[1])
     } else {
         None
+    }
+}
+
+/// Returns how many bytes an instruction of this form loads, or 0 if it doesn't.
+fn load_size(form: Option<Form>) -> u8
+    ensures { result ≡ load_size form }
+{
+    match form {
+        Some(Form::Load(size) | Form::LoadSigned(size)) => size.bytes(),
+        _ => 0,
+    }
+}
+
+fn in_second_alone(size: u8, end: i32) -> bool
+    ensures { result ≡ in_second_alone size end }
+{
+    size > 0 && (end > 64 && end <= 80)
+}
+
+fn reads_second_layout(inst: Inst) -> bool
+    ensures { result ≡ reads_second_layout inst }
+{
+    let size = load_size(Form::from_opcode(inst.opcode));
+    let end = i32::from(inst.offset) + i32::from(size);
+    inst.src != 10 && in_second_alone(size, end)
+}
+
+fn layout_hint(load: Option<&Unit>) -> Option<Hint>
+    ensures { result ≡ layout_hint (option_map (λ u. u.now) load.entry) }
+{
+    match load {
+        Some(Unit::First(inst)) if reads_second_layout(*inst) => Some(Hint::SecondLayout),
+        _ => None,
+    }
+}
+
+fn counter_numbered(number: i32) -> Option<Hint>
+    ensures { result ≡ counter_numbered number }
+{
+    match u32::try_from(number) {
+        Ok(counter) if counter < 32 => Some(Hint::Counter(counter, 1 << counter)),
+        _ => None,
+    }
+}
+
+/// Returns the counter whose number an instruction sets r1 to.
+fn counter_hint(before: Option<&Unit>) -> Option<Hint>
+    ensures { result ≡ counter_hint (option_map (λ u. u.now) before.entry) }
+{
+    match before {
+        Some(Unit::First(inst)) if sets_r1(*inst) => counter_numbered(inst.imm),
+        _ => None,
+    }
+}
+
+/// Returns whether an instruction sets r1 to a number.
+fn sets_r1(inst: Inst) -> bool
+    ensures { result ≡ sets_r1 inst }
+{
+    (inst.opcode == 0xb7 || inst.opcode == 0xb4) && inst.dst == 1
+}
+
+fn hint_for(code: &Code, refusal: Refusal) -> Option<Hint>
+    ensures { result ≡ hint_for code.now refusal }
+{
+    let units = code.units();
+    match refusal {
+        Refusal::Type(TypeFault::BadArgument(unit, argument)) => {
+            wanted_by(units.get(unit as usize), argument)
+        }
+        Refusal::Type(TypeFault::OutOfRange(unit)) => layout_hint(units.get(unit as usize)),
+        // The unit before the call mostly sets the number.
+        Refusal::Type(TypeFault::UndeclaredCounter(unit)) => {
+            counter_hint(units.get(unit.saturating_sub(1) as usize))
+        }
+        _ => None,
     }
 }
 
@@ -182,8 +319,8 @@ fn units_of(alloc: Global, bytes: &[u8]) -> Result<Option<Code>, AllocError>
     }
 }
 
-/// Returns `refusal` with the line of the unit that it names, and the kind of value that a helper takes as the argument
-/// at fault, as far as `bytes` have them. Without a unit there is no error.
+/// Returns `refusal` with the line of the unit that it names, and with what the message says more, as far as `bytes`
+/// have them. Without a unit there is no error.
 pub fn explain_refusal(
     alloc: Global,
     bytes: &[u8],
@@ -193,25 +330,25 @@ pub fn explain_refusal(
     ensures refusal { IfOk result (λ reported. reported.refusal ≡ refusal) }
     ensures line { IfOk result
         (λ reported. option_map string_bytes reported.line ≡ line_named bytes.now (unit_in (refusal_numbers refusal))) }
-    // proved: It says what an argument has to be
-    ensures wanted { IfOk result (λ reported. reported.wanted ≡ wanted_in (units bytes.now) refusal) }
+    // proved: It says what an argument has to be, which counter isn't declared, and what another layout has
+    ensures hint { IfOk result (λ reported. reported.hint ≡ hint_in (units bytes.now) refusal) }
     ensures unitless { unit_in (refusal_numbers refusal) ≡ None → IsOk result }
 {
     let Some(unit) = unit_of(refusal) else {
         return Ok(RefusedProgram {
             refusal,
             line: None,
-            wanted: None,
+            hint: None,
         });
     };
     match units_of(alloc, bytes)? {
         Some(code) => {
             let line = instruction_line(alloc, &code, unit)?;
-            let wanted = wanted_by(&code, refusal);
+            let hint = hint_for(&code, refusal);
             Ok(RefusedProgram {
                 refusal,
                 line,
-                wanted,
+                hint,
             })
         }
         None => {
@@ -219,7 +356,7 @@ pub fn explain_refusal(
             Ok(RefusedProgram {
                 refusal,
                 line,
-                wanted: None,
+                hint: None,
             })
         }
     }
