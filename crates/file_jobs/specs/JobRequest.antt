@@ -1,23 +1,22 @@
 -- Definitions: the subcommands of `fc`, the job that a parsed command line asks for, and the error message if it asks
 -- for none. The first argument of a command line is the program's name.
-use Rattle.std.specs.Prelude.{◌≡◌, ◌≢◌, ◌⊎◌, ◌<◌, ◌^◌, ℕ, List, [], ◌∷◌, codes, Bool, true, false, Option, Some, None, option_and_then, option_map}
-use Rattle.std.specs.Prelude.{if◌then◌else◌, ◌++◌, String, string_bytes, pos}
+use Rattle.std.specs.Prelude.{◌≡◌, ◌≢◌, ◌⊎◌, ℕ, List, [], ◌∷◌, codes, Bool, true, false, Option, Some, None, option_and_then, option_map}
+use Rattle.std.specs.Prelude.{if◌then◌else◌, ◌++◌, String, string_bytes}
 use Rattle.std.specs.Global.{Global}
 use Rattle.std.specs.Option.{option_map_or}
 use Rattle.std.specs.Str.{bytes_eq}
-use Rattle.std.specs.Str.Parse.{IsNumeral, digits_value, without_leading_plus}
-use Rattle.clap.specs.Words.{App, Row, Rule, Text, new_app, new_rule, with_rule, with_subcommand, first_of, one_of}
+use Rattle.clap.specs.Words.{App, Row, Rule, Text, new_app, new_rule, with_rule, with_subcommand, first_of}
 use Rattle.clap.specs.declared.builder.action.ArgAction.TheVariants.{SetTrue}
 use Rattle.clap.specs.Kinds.{Kinds, IsAmong}
 use Rattle.clap.specs.declared.error.kind.ErrorKind.{ErrorKind}
 use Rattle.clap.specs.declared.error.kind.ErrorKind.TheVariants as kind
-use Rattle.clap.specs.declared.builder.value_parser.ValueParser.TheVariants as parser
 use Rattle.bpf_model.specs.declared.context.Layout.{Layout}
 use Rattle.bpf_model.specs.declared.context.Layout.TheVariants as layouts
 use Rattle.day_export.specs.declared.cells.Rows.{Rows}
 use Rattle.day_export.specs.declared.cells.Rows.TheVariants as kinds
 use Rattle.day_export.specs.declared.cells.Format.{Format}
 use Rattle.day_export.specs.declared.cells.Format.TheVariants as formats
+use Rattle.file_jobs.specs.Mask.{mask_named}
 use Rattle.file_jobs.specs.declared.job.Job.{Job}
 use Rattle.file_jobs.specs.declared.job.Job.TheVariants as job
 use Rattle.file_jobs.specs.declared.job.ServeJob.{ServeJob}
@@ -39,15 +38,10 @@ spare_rule name = new_rule name
 abbrev pub kind_rule : Rule
 kind_rule = record (new_rule (codes "kind")) { required = true }
 
--- the option --counters MASK; MASK is a number from 0 to 2^32 - 1, and is 0 if the option isn't given
+-- the option --counters MASK; MASK is 0 if the option isn't given
 abbrev pub mask_rule : Rule
 mask_rule =
-    record (new_rule (codes "counters")) {
-      long = Some (codes "counters");
-      value_names = 1;
-      parser = Some (parser.Signed (pos 0) (pos 4294967295));
-      defaults = codes "0" ∷ [];
-    }
+    record (new_rule (codes "counters")) { long = Some (codes "counters"); value_names = 1; defaults = codes "0" ∷ [] }
 
 -- the option --context LAYOUT; LAYOUT is 1 if the option isn't given
 abbrev pub context_rule : Rule
@@ -178,10 +172,9 @@ is_set id rows = option_map_or (λ (t : Text). bytes_eq t (codes "true")) (first
 abbrev pub dis_in : List Row → Option JobRequest
 dis_in rows = file_in (codes "file") (if is_set (codes "units") rows then dis_units else dis) rows
 
--- The number that --counters gives; None if --counters has no value. If the value isn't the text of a number, the
--- result means nothing.
+-- the number that --counters gives; None if its value is no mask
 abbrev pub mask_in : List Row → Option ℕ
-mask_in rows = option_map (λ (t : Text). digits_value 10 (without_leading_plus t)) (one_of (codes "counters") rows)
+mask_in rows = option_and_then mask_named (first_of (codes "counters") rows)
 
 -- the layout that a text names; None for a text that isn't 1 or 2
 abbrev pub layout_named : Text → Option Layout
@@ -318,17 +311,9 @@ MayShow kinds = (k : ErrorKind) × IsAmong k kinds × IsHelpOrVersion k
 abbrev pub MayRefuse : Kinds → Type 0
 MayRefuse kinds = (k : ErrorKind) × IsAmong k kinds × ¬ IsHelpOrVersion k × (k ≢ kind.OutOfMemory)
 
--- The value of --counters isn't the text of a number from 0 to 2^32 - 1.
-abbrev pub HasNoMask : List Row → Type 0
-HasNoMask rows =
-    (t : Text) × (one_of (codes "counters") rows ≡ Some t)
-    × ¬ (IsNumeral 10 (without_leading_plus t) × (digits_value 10 (without_leading_plus t) < 2 ^ 32))
-
--- There is no job for a parsed command line, for at least one of two reasons:
--- - `parsed_request` is None, as for an `audit` with neither JOURNAL nor --days.
--- - The value of --counters isn't the text of a number from 0 to 2^32 - 1.
+-- There is no job for a parsed command line, as for an `audit` with neither JOURNAL nor --days.
 abbrev pub HasNoJob : Option (Text × List Row) → Type 0
-HasNoJob found = (parsed_request found ≡ None) ⊎ ((p : Text × List Row) × (found ≡ Some p) × HasNoMask p.1)
+HasNoJob found = parsed_request found ≡ None
 
 -- the last line of the error message for a command line that `clap` accepts, but whose values are wrong, contradictory
 -- or incomplete
@@ -355,6 +340,14 @@ serve_message rows =
           else codes "error: --sync wants --journal FILE or --days FOLDER"
     ]
 
+-- the first line of the error message for a `verify` that `clap` accepts, but whose values are wrong
+abbrev pub verify_message : List Row → Text
+verify_message rows =
+    elim (mask_in rows) [
+      | Some _ ↦ codes "error: --context takes 1 or 2"
+      | None ↦ codes "error: --counters takes a number of 32 bits, as 6 or 0x6"
+    ]
+
 -- the first line of the error message for the subcommand with this name and these values, if `clap` accepts the values
 -- but they are wrong, contradictory or incomplete
 abbrev pub unasked_by : Text → List Row → Text
@@ -362,7 +355,7 @@ unasked_by name rows =
     if bytes_eq name (codes "serve") then serve_message rows
     else if bytes_eq name (codes "audit") then audit_message rows
     else if bytes_eq name (codes "export") then codes "error: export takes sales, decisions or events"
-    else codes "error: --context takes 1 or 2"
+    else verify_message rows
 
 -- the first line of the error message for a command line that `clap` accepts, but whose values are wrong, contradictory
 -- or incomplete

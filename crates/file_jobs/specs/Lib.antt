@@ -1,3 +1,4 @@
+pub mod Mask
 pub mod JobRequest
 pub mod Described
 pub use Rattle.clap.specs.Words

@@ -5,16 +5,10 @@ use Rattle.std.specs.declared.alloc.AllocError.{AllocError}
 use Rattle.clap.specs.Words.{Row, Text}
 use Rattle.clap.specs.declared.error.kind.ErrorKind.{ErrorKind}
 use Rattle.clap.specs.declared.error.kind.ErrorKind.TheVariants as kind
-use Rattle.file_jobs.specs.JobRequest.{JobRequest, HasNoMask, HasNoJob, IsHelpOrVersion, requested, subcommand_request, parsed_request, files_in, mask_in, unasked_text}
+use Rattle.file_jobs.specs.JobRequest.{JobRequest, HasNoJob, IsHelpOrVersion, requested, subcommand_request, parsed_request, files_in, unasked_text}
 use Rattle.file_jobs.specs.declared.job.Job.{Job}
 use Rattle.file_jobs.specs.declared.job.CommandFault.{CommandFault}
 use Rattle.file_jobs.specs.declared.job.CommandFault.TheVariants as refusal
-
--- `ReadsMask rows result`: `result` is the number that --counters gives. It is None only if --counters has no value, or
--- one that isn't the text of a number from 0 to 2^32 - 1.
-abbrev pub ReadsMask : List Row → Option ℕ → Type 0
-ReadsMask rows (Some n) = mask_in rows ≡ Some n
-ReadsMask rows None = (mask_in rows ≡ None) ⊎ HasNoMask rows
 
 -- `FindsFiles first second rows result`: `result` is the two files that the arguments `first` and `second` give, or
 -- None if one of them isn't given.
@@ -29,11 +23,10 @@ Asks wanted (Some job) = (wanted ≡ requested job) × IsSome (requested job)
 Asks wanted None = wanted ≡ None
 
 -- `Finds name rows result`: `result` is the job that the subcommand `name` with the values `rows` asks for. It is None
--- only if there is no job for these values (`subcommand_request` is None), or if the value of --counters isn't the text
--- of a number from 0 to 2^32 - 1.
+-- only if there is no job for these values.
 abbrev pub Finds : Text → List Row → Option Job → Type 0
 Finds name rows (Some job) = (subcommand_request name rows ≡ requested job) × IsSome (requested job)
-Finds name rows None = (subcommand_request name rows ≡ None) ⊎ HasNoMask rows
+Finds name rows None = subcommand_request name rows ≡ None
 
 abbrev pub IsJobOfLine : Option (Text × List Row) → Option Job → Type 0
 IsJobOfLine found (Some job) = (parsed_request found ≡ requested job) × IsSome (requested job)

@@ -3,13 +3,14 @@
 ghost use Rattle.std.specs.Prelude.{◌≡◌, IsTrue, IsSome, None, false, [], IfOk, IfErr, IsOk, IsOkAnd, OnOk};
 ghost use Rattle.std.specs.Prelude.{map, codes, is_some, option_map, string_bytes, ◌↔◌};
 ghost use Rattle.clap.specs.Words.{first_of, rows_of, found_of, subcommand_of, subcommand_rows_of, takes, fault_of};
-ghost use Rattle.file_jobs.specs.JobRequest.{fc_app, requested, parsed_request, is_set, layout_in, layout_named, IsHelpOrVersion, MayShow};
+ghost use Rattle.file_jobs.specs.JobRequest.{fc_app, requested, parsed_request, is_set, layout_in, layout_named, mask_in, IsHelpOrVersion, MayShow};
 ghost use Rattle.file_jobs.specs.JobRequest.{RefusesBy, audit_by, days_in, format_in, kind_in, named, opening_in};
 ghost use Rattle.file_jobs.specs.JobRequest.{rows_named, serve_by, serve_days_by, unasked_by, unasked_text, unasked_words};
-ghost use Rattle.file_jobs.specs.JobRequest.{audit_message, serve_message};
-ghost use Rattle.file_jobs.specs.Refusing.{Asks, Finds, FindsFiles, IsJobOfLine, ReadsMask, IsNoJobMessage, IsRefusalOf};
+ghost use Rattle.file_jobs.specs.JobRequest.{audit_message, serve_message, verify_message};
+ghost use Rattle.file_jobs.specs.Refusing.{Asks, Finds, FindsFiles, IsJobOfLine, IsNoJobMessage, IsRefusalOf};
 
 use crate::job::{CommandFault, Job, ServeJob};
+use crate::mask::mask_named;
 use crate::subcommands::fc;
 use bpf_model::context::Layout;
 use clap::ArgMatches;
@@ -31,9 +32,12 @@ fn file_of(alloc: Global, matches: &ArgMatches, id: &str) -> Result<Option<Strin
 
 /// The mask is 0 if the option isn't given.
 fn mask_of(matches: &ArgMatches) -> Option<u32>
-    ensures { ReadsMask (rows_of (found_of matches.now)) result }
+    ensures { result ≡ mask_in (rows_of (found_of matches.now)) }
 {
-    matches.get_one::<u32>("counters")
+    match matches.get_str("counters") {
+        Some(text) => mask_named(text),
+        None => None,
+    }
 }
 
 fn layout_named(text: &str) -> Option<Layout>
@@ -92,6 +96,7 @@ fn dis_of(alloc: Global, matches: &ArgMatches) -> Result<Option<Job>, AllocError
 
 fn verify_of(alloc: Global, matches: &ArgMatches) -> Result<Option<Job>, AllocError>
     ensures job { IfOk result (Finds (codes "verify") (rows_of (found_of matches.now))) }
+    ensures mask { mask_in (rows_of (found_of matches.now)) ≡ None → IsOk result }
     ensures layout { layout_in (rows_of (found_of matches.now)) ≡ None → IsOk result }
 {
     let Some(counters) = mask_of(matches) else {
@@ -402,6 +407,15 @@ fn serve_message(matches: &ArgMatches) -> &'static str
     }
 }
 
+fn verify_message(matches: &ArgMatches) -> &'static str
+    ensures { result.now ≡ verify_message (rows_of (found_of matches.now)) }
+{
+    match mask_of(matches) {
+        Some(_) => "error: --context takes 1 or 2",
+        None => "error: --counters takes a number of 32 bits, as 6 or 0x6",
+    }
+}
+
 /// Returns the first line of the message for arguments of the subcommand `name` that give no job.
 fn unasked_by(name: &str, matches: &ArgMatches) -> &'static str
     ensures { result.now ≡ unasked_by name.now (rows_of (found_of matches.now)) }
@@ -410,7 +424,7 @@ fn unasked_by(name: &str, matches: &ArgMatches) -> &'static str
         "serve" => serve_message(matches),
         "audit" => audit_message(matches),
         "export" => "error: export takes sales, decisions or events",
-        _ => "error: --context takes 1 or 2",
+        _ => verify_message(matches),
     }
 }
 

@@ -20,6 +20,7 @@ pub mod job_error;
 pub mod journal_reasons;
 pub mod kept_file;
 mod memory_folder;
+mod mask;
 pub mod messages;
 pub mod newest;
 mod notices;

@@ -7,7 +7,7 @@ ghost use Rattle.file_jobs.specs.JobRequest.{option_rule, spare_rule};
 ghost use Rattle.file_jobs.specs.JobRequest.{fc_app, top_app};
 ghost use Rattle.file_jobs.specs.Described.{app_for, rule_for, with_words};
 
-use clap::{Arg, ArgAction, Command, value_parser};
+use clap::{Arg, ArgAction, Command};
 use std::alloc::{AllocError, Global};
 
 /// An argument of a subcommand.
@@ -74,10 +74,8 @@ fn mask_arg<'a>(alloc: Global) -> Arg<'a>
     ensures rule { rule_of result ≡ mask_rule }
     ensures local { result.global ≡ false }
 {
-    let help = "the declared counters: bit c of this number for counter c";
-    option_arg(alloc, "counters", "MASK", help)
-        .default_value("0")
-        .value_parser(value_parser!(u32))
+    let help = "the declared counters: bit c of this number, such as 6 or 0x6, for counter c";
+    option_arg(alloc, "counters", "MASK", help).default_value("0")
 }
 
 fn context_arg<'a>(alloc: Global) -> Arg<'a>

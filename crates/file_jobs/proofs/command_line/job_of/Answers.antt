@@ -1,10 +1,10 @@
-use Rattle.std.proofs.Common.{◌≡◌, Box, IfOk, IsSome, List, None, Ok, Err, Option, Result, Some, ap, refl, inl, inr, option_map, subst, sym, unwrap_or}
+use Rattle.std.proofs.Common.{◌≡◌, Box, IfOk, IsSome, List, None, Ok, Err, Option, Result, Some, ap, option_map, subst, sym, unwrap_or}
 use Rattle.std.specs.Box.{box_value}
 use Rattle.clap.specs.Words.{Row, Text, found_of, rows_of}
 use Rattle.clap.specs.declared.parser.matches.ArgMatches.TheViews.{out-ArgMatches, out-SubCommand}
 use Rattle.clap.specs.declared.parser.matches.SubCommand.{SubCommand}
 use Rattle.clap.specs.Simple.{subcommand_rows}
-use Rattle.file_jobs.specs.JobRequest.{HasNoMask, requested, subcommand_request}
+use Rattle.file_jobs.specs.JobRequest.{requested, subcommand_request}
 use Rattle.file_jobs.specs.Refusing.{Finds, IsJobOfLine}
 use Rattle.file_jobs.specs.declared.job.Job.{Job}
 use Rattle.file_jobs.proofs.command_line.job_of.Goals as goal
@@ -16,9 +16,8 @@ finds_in : (p : Text × List Row) (name : Text) (rows : List Row) → p.0 ≡ na
 finds_in p name rows n r (Some job) h =
     subst (λ (t : Text). (subcommand_request t p.1 ≡ requested job) × IsSome (requested job)) (sym n)
     (subst (λ (rs : List Row). (subcommand_request name rs ≡ requested job) × IsSome (requested job)) (sym r) h)
-finds_in p name rows n r None (inl h) =
-    inl (subst (λ (t : Text). subcommand_request t p.1 ≡ None) (sym n) (subst (λ (rs : List Row). subcommand_request name rs ≡ None) (sym r) h))
-finds_in p name rows n r None (inr h) = inr (p, refl, subst HasNoMask (sym r) h)
+finds_in p name rows n r None h =
+    subst (λ (t : Text). subcommand_request t p.1 ≡ None) (sym n) (subst (λ (rs : List Row). subcommand_request name rs ≡ None) (sym r) h)
 
 module _ {Z : Type 0} where
   finds : (o : Option (Box SubCommand Z)) (name : Text) (rows : List Row) → Some name ≡ option_map (λ b. (out-SubCommand (box_value b)).name.now) o
