@@ -16,6 +16,7 @@ pub mod Printed
 pub mod Reasons
 pub mod FlawTexts
 pub mod PlaysAndDays
+pub mod Unopened
 pub mod PrintRequests
 pub mod Chained
 pub mod Loading

@@ -6,8 +6,8 @@ ghost use Rattle.file_jobs.specs.JobErrors.{Ends, Refuses};
 use crate::job_error::print_text;
 use crate::newest::refuse_uncarried;
 use crate::progress::watch;
-use crate::refused_journals::audited;
 use crate::settings::day_and;
+use crate::unopened::audited_by;
 use crate::{FileIn, JobError, SiteFiles};
 use days::Closed;
 use days::closing::close;
@@ -25,7 +25,8 @@ pub fn carry_files(rt: &HostRuntime, site: SiteFiles<'_>, journal: &str) -> Resu
     let mut input = watch(rt, source, size);
     let audit = close(rt.alloc(), day.config, &mut input);
     input.progress.clear();
-    match audited(rt.alloc(), journal, audit, input.input.reader.failure()) {
+    let failure = input.input.reader.failure();
+    match audited_by(rt.alloc(), journal, site.is_opened(), audit, failure) {
         Ok(closed) => print_opening(rt, journal, number, &closed),
         Err(job_error) => Err(job_error),
     }

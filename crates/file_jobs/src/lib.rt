@@ -40,6 +40,7 @@ pub mod script;
 pub mod settings;
 mod statuses;
 mod subcommands;
+pub mod unopened;
 
 pub use entering::Entered;
 pub use file_flaws::FileFlaw;

@@ -1,5 +1,5 @@
 //! Reads the files that say what a site begins with.
-ghost use Rattle.std.specs.Prelude.{◌≡◌, ◌&&◌, [], false, None, Some, Ok, IfOk, IfErr, IsErrAnd, IsSome, IsTrue, option_map};
+ghost use Rattle.std.specs.Prelude.{◌≡◌, ◌&&◌, [], false, None, Some, Ok, IfOk, IfErr, IsErrAnd, IsSome, IsTrue, is_some, option_map};
 ghost use Rattle.site_core.specs.Limits.{ConfigValue};
 ghost use Rattle.site_config.specs.Flaws.{fault_of};
 ghost use Rattle.site_config.specs.Ranges.{config_of, settings_view};
@@ -36,6 +36,12 @@ impl<'a> SiteFiles<'a> {
         ensures { result.now ≡ self.entry.config.now }
     {
         self.config
+    }
+
+    pub fn is_opened(self) -> bool
+        ensures { result ≡ is_some self.entry.opening }
+    {
+        self.opening.is_some()
     }
 
     fn is_opening_input(self) -> bool
