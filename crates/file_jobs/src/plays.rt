@@ -51,7 +51,7 @@ fn stopped(alloc: Global, word: &str, line: u64, fault: LineFault) -> JobError
         LineFault::TooLong => ("over 8,400 bytes", "L1"),
         LineFault::CutLine => ("the last line has no LF", "L4"),
         // These are no faults at which a script stops.
-        LineFault::BadLine | LineFault::BadNumber | LineFault::OutOfMemory => {
+        LineFault::BadLine | LineFault::BadNumber | LineFault::OtherDoor | LineFault::OutOfMemory => {
             return JobError::silent(alloc, REFUSED);
         }
     };
