@@ -9,3 +9,4 @@ pub mod Journals
 pub mod LongLines
 pub mod FolderDays
 pub mod NoChain
+pub mod Said

@@ -8,6 +8,7 @@
 use Rattle.std.specs.Prelude.{◌≡◌, ◌⊎◌, ◌++◌, ℕ, ⊤, List, [], Option, Some, None, MatchOption, String, codes, decimal, string_bytes}
 use Rattle.std.specs.Global.{Global}
 use Rattle.pages.specs.Printing.{printable}
+use Rattle.file_jobs.specs.StandardInput.{name_of}
 use Rattle.file_jobs.specs.declared.messages.Place.{Place}
 use Rattle.file_jobs.specs.declared.job_error.JobError.{JobError}
 use Rattle.file_jobs.specs.declared.job_error.JobError.TheVariants as job_error
@@ -59,8 +60,11 @@ after_colon None = []
 after_colon (Some number) = codes ":" ++ decimal number
 
 -- a place as messages name it: the file, and behind colons the line and the column, if they are given
+abbrev pub named_place : List ℕ → Option ℕ → Option ℕ → List ℕ
+named_place name line column = name ++ (after_colon line ++ after_colon column)
+
 abbrev pub place_text : Place → List ℕ
-place_text place = place.name.now ++ (after_colon place.line ++ after_colon place.column)
+place_text place = named_place place.name.now place.line place.column
 
 -- the words of a message about this place
 abbrev pub words_at : Place → List ℕ → List ℕ
@@ -69,3 +73,7 @@ words_at place words = place_text place ++ (codes ": " ++ words)
 -- the words of a message about a fault, with the fault's number, such as `K1`
 abbrev pub numbered_words : List ℕ → List ℕ → List ℕ
 numbered_words words code = words ++ (codes " (" ++ (code ++ codes ")"))
+
+-- The job prints these words about the file that the argument `word` names, and about this line of it, if one is given.
+abbrev pub SaysOf : List ℕ → Option ℕ → List ℕ → JobError → Type 0
+SaysOf word line words error = Says (named_place (name_of word) line None ++ (codes ": " ++ words)) error

@@ -17,6 +17,7 @@ pub mod Reasons
 pub mod FlawTexts
 pub mod PlaysAndDays
 pub mod Unopened
+pub mod Told
 pub mod PrintRequests
 pub mod Chained
 pub mod Loading

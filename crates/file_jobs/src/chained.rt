@@ -9,6 +9,7 @@ ghost use Rattle.file_jobs.specs.StandardInput.{is_input};
 ghost use Rattle.file_jobs.specs.Days.{FolderText, IsConfigOf, file_of, own_config};
 ghost use Rattle.file_jobs.specs.JobErrors.{Ends, EndsOrRunsOut, Refuses};
 ghost use Rattle.file_jobs.specs.PlaysAndDays.{RefusesBeginning, RefusesJournal, RefusesDays};
+ghost use Rattle.file_jobs.specs.Told.{SaysUnbegun};
 ghost use Rattle.file_jobs.specs.Chained.{AgreeFor, AreLegal, IsOtherLine, NoConfigIsRefused, day_in, days_left};
 
 use crate::files::{lines_in, text_of};
@@ -322,7 +323,8 @@ fn same_len(text: &[u8], left: &[u8]) -> usize
 }
 
 fn refuse_unbegun(alloc: Global, opening: &str, day: u32, why: Unbegun) -> JobError
-    ensures { RefusesBeginning day why result }
+    ensures refuses { RefusesBeginning day why result }
+    ensures says { SaysUnbegun opening.now why result }
 {
     let place = Place::of(opening);
     match why {

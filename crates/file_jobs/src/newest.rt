@@ -1,8 +1,10 @@
 //! Closes the newest day of a station, or goes on with it.
-ghost use Rattle.std.specs.Prelude.{◌≡◌, ◌≢◌, ◌⊎◌, ◌+◌, ◌++◌, Ok, Some, [], false, IfOk, IfErr, codes, is_some, option_map};
+ghost use Rattle.std.specs.Prelude.{◌≡◌, ◌≢◌, ◌⊎◌, ◌+◌, ◌++◌, Ok, None, Some, [], false, IfOk, IfErr, IfSome, codes, is_some, option_map, string_bytes};
 ghost use Rattle.std.specs.Fmt.{decimal};
-ghost use Rattle.file_jobs.specs.JobErrors.{Ends, EndsOrRunsOut, Refuses};
-ghost use Rattle.days.specs.Chain.{BeginsBy};
+ghost use Rattle.file_jobs.specs.JobErrors.{Ends, EndsOrRunsOut, Refuses, Says, SaysOf, numbered_words, words_at};
+ghost use Rattle.days.specs.Chain.{BeginsBy, next_opening};
+ghost use Rattle.days.specs.Text.{opening_text};
+ghost use Rattle.days.specs.Words.{uncarried_text};
 ghost use Rattle.file_jobs.specs.Days.{day_plan, BeginsDay, FolderText, GoesOn, IsServed};
 ghost use Rattle.file_jobs.specs.Days.{IsConfigOf, file_of, is_written, kept_config, own_config, span_of};
 
@@ -253,7 +255,9 @@ pub const UNOPENED: &str = "the day has no opening";
 /// Makes the error O1 for a day that doesn't follow the day before it.
 pub fn refuse_link<D: Display>(alloc: Global, place: Place<'_>, day: u32, words: &D) -> JobError
     // proved: Days that don't follow one another: O1, the day, status 1
-    ensures { EndsOrRunsOut 1 (codes "O1 " ++ (decimal day ++ codes "\n")) result }
+    ensures ends { EndsOrRunsOut 1 (codes "O1 " ++ (decimal day ++ codes "\n")) result }
+    ensures says { IfSome (D.output words.now)
+        (λ text. Says (words_at place.entry (numbered_words text (codes "O1"))) result) }
 {
     JobError::refused_as(alloc, place, words, "O1", &format_args!("O1 {day}"))
 }
@@ -325,21 +329,34 @@ fn begin_next_day(
     ensures next { IfOk result (λ next. next ≡ number + 1) }
     ensures refused { IfErr result (Refuses 1) }
 {
-    let opening = match closed.opening(number) {
-        Ok(opening) => opening,
-        Err(why) => {
-            let path = folder.file(rt, number, Part::Journal)?;
-            return Err(refuse_uncarried(rt.alloc(), &path, why));
-        }
-    };
-    let text = opening_text(rt.alloc(), &opening)?;
+    let path = folder.file(rt, number, Part::Journal)?;
+    let (day, text) = opening_left(rt.alloc(), &path, number, closed)?;
     let file = DayFile {
-        day: opening.day,
+        day,
         part: Part::Opening,
         bytes: text.as_bytes(),
     };
     put_next_day(rt, folder, number, file, texts)?;
-    Ok(opening.day)
+    Ok(day)
+}
+
+/// Returns the next day, and the text of the opening that day `number` leaves for it. `journal` names its journal.
+pub fn opening_left(
+    alloc: Global,
+    journal: &str,
+    number: u32,
+    closed: &Closed,
+) -> Result<(u32, String), JobError>
+    // proved day, text: What a day leaves is written as its opening's one text
+    ensures day { IfOk result (λ next. next.0 ≡ number + 1) }
+    ensures text { IfOk result
+        (λ next. string_bytes next.1 ≡ opening_text (next_opening number closed.now.site)) }
+    ensures refused { IfErr result (Refuses 1) }
+{
+    match closed.opening(number) {
+        Ok(opening) => Ok((opening.day, opening_text(alloc, &opening)?)),
+        Err(why) => Err(refuse_uncarried(alloc, journal, why)),
+    }
 }
 
 /// Writes the opening last: by it the next day begins.
@@ -390,6 +407,7 @@ pub fn refuse_uncarried(alloc: Global, journal: &str, why: Uncarried) -> JobErro
     // proved ends, memory: A day that leaves no opening: status 1, unless memory ran out
     ensures ends { why ≢ Uncarried.Fault OpeningFault.OutOfMemory → Ends 1 [] result }
     ensures memory { why ≡ Uncarried.Fault OpeningFault.OutOfMemory → result ≡ JobError.OutOfMemory }
+    ensures says { SaysOf journal.now None (uncarried_text why) result }
 {
     match why {
         Uncarried::Fault(fault) => refuse_fault(alloc, journal, fault, &why),

@@ -1,5 +1,5 @@
 //! Reads the opening that a site begins with, and says why one is refused.
-ghost use Rattle.std.specs.Prelude.{◌≡◌, ◌≢◌, ◌≤◌, ◌++◌, ◌∷◌, ℕ, List, [], Some, decimal, length, IfOk, IfErr, vec_len};
+ghost use Rattle.std.specs.Prelude.{◌≡◌, ◌≢◌, ◌≤◌, ◌++◌, ◌∷◌, ℕ, List, [], None, Some, decimal, length, IfOk, IfErr, IfSome, vec_len};
 ghost use Rattle.verifier.specs.Refusals.{refusal_numbers};
 ghost use Rattle.file_jobs.specs.AuditOutput.{program_text};
 ghost use Rattle.days.specs.Chain.{BeginsBy};
@@ -7,8 +7,10 @@ ghost use Rattle.days.specs.File.{IsOpeningFile};
 ghost use Rattle.days.specs.Fitting.{BeginsWith};
 ghost use Rattle.days.specs.Ranges.{FileFits};
 ghost use Rattle.days.specs.Text.{opening_text};
-ghost use Rattle.file_jobs.specs.JobErrors.{Ends, EndsOrRunsOut, Refuses};
+ghost use Rattle.days.specs.Words.{unfit_text};
+ghost use Rattle.file_jobs.specs.JobErrors.{Ends, EndsOrRunsOut, Refuses, SaysOf};
 ghost use Rattle.file_jobs.specs.FileRefusals.{RefusesOpening};
+ghost use Rattle.file_jobs.specs.Told.{SaysFault, SaysOpening, SaysRule};
 ghost use Rattle.file_jobs.specs.Days.{BeginsDay};
 
 use crate::JournalFlaw;
@@ -99,6 +101,8 @@ pub fn refuse_opening(alloc: Global, word: &str, flaw: OpeningFlaw) -> JobError
     // proved refused, status: So is a text that is no opening
     ensures refused { RefusesOpening flaw result }
     ensures status { Refuses 1 result }
+    // proved: Its message names the line and the fault
+    ensures says { SaysOpening word.now flaw result }
 {
     match flaw {
         OpeningFlaw::BadLine(line) => refuse_line(alloc, word, line, "no line of an opening", "J1"),
@@ -120,7 +124,8 @@ pub fn refuse_opening(alloc: Global, word: &str, flaw: OpeningFlaw) -> JobError
 }
 
 fn refuse_line(alloc: Global, word: &str, line: u32, words: &str, code: &str) -> JobError
-    ensures { EndsOrRunsOut 1 (code.now ++ 32 ∷ decimal line ++ 10 ∷ []) result }
+    ensures ends { EndsOrRunsOut 1 (code.now ++ 32 ∷ decimal line ++ 10 ∷ []) result }
+    ensures says { SaysFault word.now (Some line) words.now code.now result }
 {
     let place = Place::of(word).line(u64::from(line));
     JobError::refused_as(alloc, place, &words, code, &format_args!("{code} {line}"))
@@ -134,7 +139,8 @@ fn refuse_rule(
     program: &[u8],
     refusal: Refusal,
 ) -> JobError
-    ensures { EndsOrRunsOut 1 (program_text line (refusal_numbers refusal)) result }
+    ensures ends { EndsOrRunsOut 1 (program_text line (refusal_numbers refusal)) result }
+    ensures says { SaysRule word.now line slot program.now refusal result }
 {
     let place = Place::of(word).line(u64::from(line));
     let Ok(output) = refused_program_line(alloc, line, refusal) else {
@@ -154,6 +160,8 @@ pub fn refuse_unfit(alloc: Global, word: &str, unfit: Unfit) -> JobError
     // proved ends, memory: An opening that doesn't fit has status 1, unless memory ran out
     ensures ends { unfit ≢ Unfit.Fault OpeningFault.OutOfMemory → Ends 1 [] result }
     ensures memory { unfit ≡ Unfit.Fault OpeningFault.OutOfMemory → result ≡ JobError.OutOfMemory }
+    // proved: Its message says why
+    ensures says { SaysOf word.now None (unfit_text unfit) result }
 {
     match unfit {
         Unfit::Misfit(misfit) => refuse_words(alloc, word, &misfit),
@@ -169,6 +177,7 @@ pub(crate) fn refuse_fault<D: Display>(
 ) -> JobError
     ensures ends { fault ≢ OpeningFault.OutOfMemory → Ends 1 [] result }
     ensures memory { fault ≡ OpeningFault.OutOfMemory → result ≡ JobError.OutOfMemory }
+    ensures says { IfSome (D.output words.now) (λ text. SaysOf word.now None text result) }
 {
     match fault {
         OpeningFault::OutOfMemory => JobError::OutOfMemory,
@@ -186,7 +195,8 @@ pub(crate) fn refuse_fault<D: Display>(
 
 /// Makes the error for a file in which `words` say what is wrong, with no number and nothing on standard output.
 pub fn refuse_words<D: Display>(alloc: Global, word: &str, words: &D) -> JobError
-    ensures { Ends 1 [] result }
+    ensures ends { Ends 1 [] result }
+    ensures says { IfSome (D.output words.now) (λ text. SaysOf word.now None text result) }
 {
     JobError::at(alloc, Place::of(word), words, REFUSED)
 }

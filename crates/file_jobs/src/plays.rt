@@ -3,6 +3,7 @@ ghost use Rattle.std.specs.Prelude.{◌≤◌, [], IfErr, IsErrAnd, IsTrue, opti
 ghost use Rattle.file_jobs.specs.StandardInput.{reads_twice};
 ghost use Rattle.file_jobs.specs.JobErrors.{Ends, Refuses};
 ghost use Rattle.file_jobs.specs.PlaysAndDays.{BreaksOff, IsPlayed};
+ghost use Rattle.file_jobs.specs.Told.{SaysBreak, SaysPlayed, SaysStop};
 
 use crate::answers::{Answers, Incoming, Outgoing};
 use crate::files::{lines_in, name_of, stream, too_long};
@@ -32,7 +33,8 @@ fn played(
     read: Option<&io::Error>,
     answers: &Answers<'_>,
 ) -> Result<(), JobError>
-    ensures { IsPlayed ended result }
+    ensures played { IsPlayed ended result }
+    ensures says { SaysPlayed word.now lines ended result }
 {
     match ended {
         Ok(ended) => match ended.cut {
@@ -45,17 +47,21 @@ fn played(
 
 /// Makes the error of a script that stopped at a line of over 8,400 bytes (L1), or at its last line, without LF (L4).
 fn stopped(alloc: Global, word: &str, line: u64, fault: LineFault) -> JobError
-    ensures { Ends 1 [] result }
+    ensures ends { Ends 1 [] result }
+    ensures says { SaysStop word.now line fault result }
 {
-    let (words, code) = match fault {
-        LineFault::TooLong => ("over 8,400 bytes", "L1"),
-        LineFault::CutLine => ("the last line has no LF", "L4"),
-        // These are no faults at which a script stops.
-        LineFault::BadLine | LineFault::BadNumber | LineFault::OtherDoor | LineFault::OutOfMemory => {
-            return JobError::silent(alloc, REFUSED);
+    let place = Place::of(word).line(line);
+    match fault {
+        LineFault::TooLong => JobError::fault(alloc, place, &"over 8,400 bytes", "L1", REFUSED),
+        LineFault::CutLine => {
+            JobError::fault(alloc, place, &"the last line has no LF", "L4", REFUSED)
         }
-    };
-    JobError::fault(alloc, Place::of(word).line(line), &words, code, REFUSED)
+        // These are no faults at which a script stops.
+        LineFault::BadLine
+        | LineFault::BadNumber
+        | LineFault::OtherDoor
+        | LineFault::OutOfMemory => JobError::silent(alloc, REFUSED),
+    }
 }
 
 /// Makes the error of a play that was broken off: a read (N1) or a write failed, or no more reads are allowed (N3).
@@ -66,7 +72,8 @@ fn broken_off(
     read: Option<&io::Error>,
     answers: &Answers<'_>,
 ) -> JobError
-    ensures { BreaksOff fault result }
+    ensures breaks { BreaksOff fault result }
+    ensures says { SaysBreak word.now fault result }
 {
     let place = Place::of(word);
     match (fault, read) {

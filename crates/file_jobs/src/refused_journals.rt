@@ -3,6 +3,7 @@ ghost use Rattle.std.specs.Prelude.{◌≡◌, Ok, IfErr, IsErrAnd, MatchResult}
 ghost use Rattle.file_jobs.specs.AuditOutput.{line_of_flaw};
 ghost use Rattle.file_jobs.specs.JobErrors.{EndsOrRunsOut, Refuses};
 ghost use Rattle.file_jobs.specs.FileRefusals.{RefusesText};
+ghost use Rattle.file_jobs.specs.Told.{SaysEntry, SaysText, flaw_code};
 
 use crate::audit_lines::line_of_flaw;
 use crate::job_error::JobError;
@@ -44,6 +45,8 @@ pub fn refuse_text(
     // proved refused, status: A text that is no journal is refused by its fault
     ensures refused { RefusesText fault result }
     ensures status { Refuses 1 result }
+    // proved: Its message names the fault
+    ensures says { SaysText word.now fault result }
 {
     let place = Place::of(word);
     match fault {
@@ -60,7 +63,9 @@ pub fn refuse_text(
     }
 }
 
-fn code_of(flaw: &EntryFlaw) -> &'static str {
+fn code_of(flaw: &EntryFlaw) -> &'static str
+    ensures { result.now ≡ flaw_code flaw.now }
+{
     match flaw {
         EntryFlaw::Number { .. } => "F1",
         EntryFlaw::Program { .. } => "F2",
@@ -72,6 +77,8 @@ fn code_of(flaw: &EntryFlaw) -> &'static str {
 pub fn refuse_entry(alloc: Global, word: &str, flaw: EntryFlaw) -> JobError
     // proved: A history that no site can have has status 1, and its first flaw's line
     ensures refused { EndsOrRunsOut 1 (line_of_flaw flaw) result }
+    // proved: Its message has the entry's place, the reason and the fault's number | another_faults_number_is_told
+    ensures says { SaysEntry word.now flaw result }
 {
     let code = code_of(&flaw);
     let Ok(output) = line_of_flaw(alloc, &flaw) else {

@@ -1,10 +1,12 @@
 //! Reads the files that say what a site begins with.
-ghost use Rattle.std.specs.Prelude.{◌≡◌, ◌&&◌, [], false, None, Some, Ok, IfOk, IfErr, IsErrAnd, IsSome, IsTrue, is_some, option_map};
+ghost use Rattle.std.specs.Prelude.{◌≡◌, ◌&&◌, ◌++◌, ◌∷◌, [], false, None, Some, Ok, IfOk, IfErr, IsErrAnd, IsSome, IsTrue};
+ghost use Rattle.std.specs.Prelude.{is_some, option_map};
 ghost use Rattle.site_core.specs.Limits.{ConfigValue};
 ghost use Rattle.site_config.specs.Flaws.{fault_of};
 ghost use Rattle.site_config.specs.Ranges.{config_of, settings_view};
 ghost use Rattle.file_jobs.specs.StandardInput.{is_input, may_be_input, reads_twice};
-ghost use Rattle.file_jobs.specs.JobErrors.{Ends, Refuses};
+ghost use Rattle.file_jobs.specs.JobErrors.{Ends, EndsOrRunsOut, Refuses};
+ghost use Rattle.file_jobs.specs.Told.{SaysConfig, SaysFlaw};
 ghost use Rattle.file_jobs.specs.FileRefusals.{RefusesConfig};
 ghost use Rattle.file_jobs.specs.Days.{BeginsDay};
 
@@ -107,18 +109,30 @@ pub fn settings_in(rt: &HostRuntime, word: &str, text: &[u8]) -> Result<Settings
 fn refuse_config(alloc: Global, word: &str, flaw: &ConfigFlaw) -> JobError
     ensures refused { RefusesConfig (fault_of flaw.now) result }
     ensures status { Refuses 1 result }
+    // proved: Its message names the position, the flaw and the fault's number
+    ensures says { SaysConfig word.now flaw.now result }
 {
-    let code = match flaw.fault() {
-        ConfigFault::K1 => "K1",
-        ConfigFault::K2 => "K2",
-        ConfigFault::K3 => "K3",
-        ConfigFault::OutOfMemory => return JobError::OutOfMemory,
-    };
-    let place = match flaw.position() {
-        Some((line, column)) => Place::of(word).line(line as u64).column(column as u64),
-        None => Place::of(word),
-    };
-    JobError::refused(alloc, place, flaw, code)
+    match flaw.fault() {
+        ConfigFault::K1 => refuse_for(alloc, word, flaw, "K1"),
+        ConfigFault::K2 => refuse_for(alloc, word, flaw, "K2"),
+        ConfigFault::K3 => refuse_for(alloc, word, flaw, "K3"),
+        ConfigFault::OutOfMemory => JobError::OutOfMemory,
+    }
+}
+
+/// `code` is the fault's number.
+fn refuse_for(alloc: Global, word: &str, flaw: &ConfigFlaw, code: &str) -> JobError
+    ensures ends { EndsOrRunsOut 1 (code.now ++ 10 ∷ []) result }
+    ensures says { SaysFlaw word.now flaw.now code.now result }
+{
+    let place = Place::of(word);
+    match flaw.position() {
+        Some((line, column)) => {
+            let place = place.line(line as u64).column(column as u64);
+            JobError::refused(alloc, place, flaw, code)
+        }
+        None => JobError::refused(alloc, place, flaw, code),
+    }
 }
 
 /// Reads a site like `day_of`, and then opens the file that `other` names.
