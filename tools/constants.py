@@ -34,6 +34,7 @@ PINS = {
     "site_core ENTRIES": ("site_core/specs/Limits.antt", "most_entries = 1048576"),
     "site_core GREATEST_PRICE": ("site_core/specs/Decide.antt", "is_within 1 q.asked 9999999"),
     "site_core PRODUCTS": ("site_core/specs/Decide.antt", "is_within 1 q.product 8"),
+    "page_port MAX_BATCHES": ("page_port/specs/Shown.antt", "count ≡ 32"),
     "file_jobs MOST_OPENING": ("file_jobs/src/opening.rt", "MOST_OPENING ≡ 262144"),
     "till_request LINE_BYTES": ("till_request/specs/Line.antt", "HasNoLf bytes × (length bytes ≤ 8400)"),
 }

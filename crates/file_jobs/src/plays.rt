@@ -57,10 +57,8 @@ fn stopped(alloc: Global, word: &str, line: u64, fault: LineFault) -> JobError
             JobError::fault(alloc, place, &"the last line has no LF", "L4", REFUSED)
         }
         // These are no faults at which a script stops.
-        LineFault::BadLine
-        | LineFault::BadNumber
-        | LineFault::OtherDoor
-        | LineFault::OutOfMemory => JobError::silent(alloc, REFUSED),
+        LineFault::BadLine | LineFault::BadNumber | LineFault::OtherDoor | LineFault::OutOfMemory =>
+            JobError::silent(alloc, REFUSED),
     }
 }
 

@@ -114,7 +114,11 @@ impl fmt::Display for Undeclared {
     ghost output = { λ counter. Some (undeclared_text counter.0 counter.1) };
 
     fn fmt<W: fmt::Write>(&self, f: &mut fmt::Formatter<W>) -> fmt::Result {
-        write!(f, "counter {} isn't declared: the mask lacks {}", self.0, self.1)
+        write!(
+            f,
+            "counter {} isn't declared: the mask lacks {}",
+            self.0, self.1
+        )
     }
 }
 
@@ -132,7 +136,10 @@ impl fmt::Display for Hinted {
         match self.1 {
             Hint::Wanted(kind) => write!(f, "{}", WrongArgument(refusal, kind)),
             Hint::SecondLayout => {
-                write!(f, "{refusal}; load2 (--context 2) gives a context of 80 bytes")
+                write!(
+                    f,
+                    "{refusal}; load2 (--context 2) gives a context of 80 bytes"
+                )
             }
             Hint::Counter(counter, bit) => write!(f, "{}", Undeclared(counter, bit)),
         }
@@ -330,7 +337,7 @@ pub fn explain_refusal(
     ensures refusal { IfOk result (λ reported. reported.refusal ≡ refusal) }
     ensures line { IfOk result
         (λ reported. option_map string_bytes reported.line ≡ line_named bytes.now (unit_in (refusal_numbers refusal))) }
-    // proved: It says what an argument has to be, which counter isn't declared, and what another layout has
+    // proved: It says which argument, counter or layout is wanted
     ensures hint { IfOk result (λ reported. reported.hint ≡ hint_in (units bytes.now) refusal) }
     ensures unitless { unit_in (refusal_numbers refusal) ≡ None → IsOk result }
 {

@@ -77,7 +77,7 @@ fn code_of(flaw: &EntryFlaw) -> &'static str
 pub fn refuse_entry(alloc: Global, word: &str, flaw: EntryFlaw) -> JobError
     // proved: A history that no site can have has status 1, and its first flaw's line
     ensures refused { EndsOrRunsOut 1 (line_of_flaw flaw) result }
-    // proved: Its message has the entry's place, the reason and the fault's number | another_faults_number_is_told
+    // proved: Its message has place, reason and number | another_faults_number_is_told
     ensures says { SaysEntry word.now flaw result }
 {
     let code = code_of(&flaw);

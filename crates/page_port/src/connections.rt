@@ -41,12 +41,16 @@ impl RoleCounters {
     /// A connection that ends during this call can still count as open.
     fn role_counts(&self, role: Role) -> RoleCounts
         ensures role { result.role ≡ role }
-        ensures open { result.open ≤ result.total }
+        ensures opened { result.open ≤ result.total }
     {
         let left = self.left.load(Ordering::SeqCst);
         let closed = self.closed.load(Ordering::SeqCst);
         let total = self.opened.load(Ordering::SeqCst);
-        counts_of(role, (self.began.load(Ordering::SeqCst), left), (total, closed))
+        counts_of(
+            role,
+            (self.began.load(Ordering::SeqCst), left),
+            (total, closed),
+        )
     }
 }
 
@@ -54,7 +58,7 @@ impl RoleCounters {
 fn counts_of(role: Role, workers: (u32, u32), connections: (u64, u64)) -> RoleCounts
     ensures role { result.role ≡ role }
     ensures workers { result.workers ≡ workers.0 - workers.1 }
-    ensures open { result.open ≡ connections.0 - connections.1 }
+    ensures opened { result.open ≡ connections.0 - connections.1 }
     ensures total { result.total ≡ connections.0 }
 {
     RoleCounts {
