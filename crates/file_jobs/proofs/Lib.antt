@@ -9,4 +9,3 @@ pub mod Journals
 pub mod LongLines
 pub mod FolderDays
 pub mod NoChain
-pub mod Said

@@ -109,7 +109,6 @@ pub fn settings_in(rt: &HostRuntime, word: &str, text: &[u8]) -> Result<Settings
 fn refuse_config(alloc: Global, word: &str, flaw: &ConfigFlaw) -> JobError
     ensures refused { RefusesConfig (fault_of flaw.now) result }
     ensures status { Refuses 1 result }
-    // proved: Its message names the position, the flaw and the fault's number
     ensures says { SaysConfig word.now flaw.now result }
 {
     match flaw.fault() {
