@@ -155,7 +155,7 @@ pub fn audited_by<T>(
         (λ found. MatchResult found (λ value. result ≡ Ok value) (λ flaw. IsErrAnd result (EndsOrRunsOut 1 (line_of_flaw flaw))))
         (λ fault. IsErrAnd result (RefusesText fault)) }
     ensures status { IfErr result (Refuses 1) }
-    // proved: A journal that may be a later day's is refused with a word of its opening
+    // proved: Of a later day's journal it says that an opening is wanted
     ensures unopened { is_opened ≡ false → MatchResult audit
         (λ found. MatchResult found (λ _. ⊤) (λ flaw. IsErrAnd result (SaysUnopened word.now flaw))) (λ _. ⊤) }
 {
