@@ -12,4 +12,4 @@ not_own (a ∷ b ∷ []) many = absurd (omega arith)
 not_own (a ∷ b ∷ c ∷ ws) many = refl
 
 pub too_many : (ws : List (List ℕ)) → 5 < length ws → words_line ws ≡ Err BadLine
-too_many ws many = rw (not_own ws many, looking.too_many All ws many) refl
+too_many ws many = rw (not_own ws many, looking.asks_nothing All ws many) refl
