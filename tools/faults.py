@@ -175,7 +175,7 @@ def ended_ill(told, plain):
     """What is wrong with a call's status or with what it says on standard error."""
     if told.status not in (plain.status, 3):
         return f"status {told.status}, unhindered {plain.status}"
-    said = [line for line in told.said.splitlines() if not line.startswith("fc: serving")]
+    said = [line for line in told.said.splitlines() if not line.startswith(("fc: serving", "fc: nothing is kept"))]
     if told.status == 3 and not said:
         return "status 3 without a word"
     usage = plain.said.splitlines()
