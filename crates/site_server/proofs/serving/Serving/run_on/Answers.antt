@@ -41,3 +41,8 @@ returns-clause-endless g c = λ endless.
     let all = subst (λ (o : Opened). RunsAllTasks o plan.may_fail s.day s.connections (map (λ p. p.waiting) c.in-Ok.prepared.tasks.items) back.passes.items back.clean) opened off
     s.crew.workers.items c.in-Ok.ensures.tasks in
     absurd (never_return plan (length s.crew.workers.items) back.passes.items back.clean endless s.crew.few.0 all.0 all.1)
+
+pub join-returned-requires-after_bounds : goal.join-returned-requires-after_bounds
+join-returned-requires-after_bounds g c κs within =
+    let crew = c.args.self.crew in
+    (tt, ((crew.workers.items, crew.few, c.in-Ok.ensures.tasks), (c.in-Ok.ensures.room, (search rules, search rules))))
