@@ -1,4 +1,7 @@
-use Rattle.std.proofs.Common.{rules, ◌≡◌, length, map, subst}
+use Rattle.std.proofs.Common.{rules, ◌≡◌, length, map, subst, Bool, true, false}
+use mir.Syntax.{of_param}
+use denote.Exit.{if_kept, unseen}
+use denote.Param.Send.{Quiet}
 use Rattle.site_lock.specs.Passes.{Opened}
 use Rattle.site_server.specs.Plans.{plan_of}
 use Rattle.site_server.specs.Ending.{RunsAllTasks}
@@ -42,7 +45,32 @@ returns-clause-endless g c = λ endless.
     s.crew.workers.items c.in-Ok.ensures.tasks in
     absurd (never_return plan (length s.crew.workers.items) back.passes.items back.clean endless s.crew.few.0 all.0 all.1)
 
+-- nothing is left behind, whichever is kept
+quiet : {D : Type 0} (b : Bool) → Quiet {D = D} (if_kept b unseen unseen)
+quiet true x w = tt
+quiet false x w = tt
+
 pub join-returned-requires-after_bounds : goal.join-returned-requires-after_bounds
 join-returned-requires-after_bounds g c κs within =
     let crew = c.args.self.crew in
-    (tt, ((crew.workers.items, crew.few, c.in-Ok.ensures.tasks), (c.in-Ok.ensures.room, (search rules, search rules))))
+    let b = c.type_bounds in (
+      tt,
+      (
+        (crew.workers.items, crew.few, c.in-Ok.ensures.tasks),
+        (
+          c.in-Ok.ensures.room,
+          (
+            search rules,
+            (
+              record { owned = b.send-J.owned; leaving = λ k. quiet (k (of_param 0)) },
+              record { owned = b.send-L.owned; leaving = λ k. quiet (k (of_param 1)) },
+              record { shared = b.sync-L.shared },
+              record { shared = b.sync-N.shared },
+              record { shared = b.sync-A.shared },
+              record { shared = b.sync-W.shared },
+              record { shared = b.sync-R.shared },
+            ),
+          ),
+        ),
+      ),
+    )
