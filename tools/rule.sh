@@ -170,7 +170,7 @@ read_object() {
 
 # Sets `mask` to the counters that the code uses: the last constant in r1 before each call of the helpers 1 to 3.
 find_mask() {
-    awk '/^b[47]01/ { counter = substr($0, 9, 2) } /^850000000[123]/ { print counter }' "$work/hex" |
+    awk '/^(b[47]|18)01/ { counter = substr($0, 9, 2) } /^850000000[123]/ && counter { print counter }' "$work/hex" |
         sort -u >"$work/counters"
     mask=0
     while read -r counter; do

@@ -159,13 +159,19 @@ static void open_point(int till, int point)
     }
 }
 
+static int is_number(const char *word)
+{
+    return *word >= '1' && *word <= '9' && strlen(word) < 10 && strspn(word, "0123456789") == strlen(word);
+}
+
 int main(int count, char **words)
 {
     int till, point, cents, number, last = 0;
     unsigned product, price, volume, amount;
     const char *said;
 
-    if (count != 5 || strlen(words[1]) > 100)
+    if (count != 5 || strlen(words[1]) > 100
+        || !is_number(words[2]) || !is_number(words[3]) || !is_number(words[4]))
         return fprintf(stderr, "usage: till PORT|PATH TILL POINT CENTS\n"), 2;
     where = words[1], till = atoi(words[2]), point = atoi(words[3]), cents = atoi(words[4]);
     setvbuf(stdout, NULL, _IOLBF, 0);
