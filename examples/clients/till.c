@@ -4,7 +4,8 @@
  *     ./till PORT|PATH TILL POINT CENTS     a port of 127.0.0.1, or the path of a local socket; CENTS is the amount that
  *                                           is asked for
  *
- * The status is 1 where it comes to no sale, or the site can't be reached for ten seconds, and 2 for wrong arguments. */
+ * The status is 1 where a line is refused, or the site can't be reached for ten seconds, and 2 for wrong arguments; it
+ * is 0 also where the customer hangs up without fuel. */
 #include <arpa/inet.h>
 #include <stdarg.h>
 #include <stdio.h>

@@ -5,7 +5,8 @@ for a release, follows the delivery, and settles its transaction with a receipt.
     till.py PORT|PATH TILL POINT CENTS     a port of 127.0.0.1, or the path of a local socket; CENTS is the amount that
                                            is asked for
 
-The status is 1 where it comes to no sale, or the site can't be reached for ten seconds.
+The status is 1 where a line is refused, or the site can't be reached for ten seconds; it is 0 also where the customer
+hangs up without fuel.
 """
 
 import sys
