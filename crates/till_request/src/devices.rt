@@ -188,6 +188,13 @@ impl<I: LineIn + Drop> Ahead<I> {
         }
     }
 
+    /// What was read ahead, and not taken out yet.
+    pub fn ahead(&self) -> &[u8]
+        ensures { result.now ≡ self.now.block }
+    {
+        self.block.ahead()
+    }
+
     /// Whether a line can be read without a read of `input`.
     pub fn holds_line(&self) -> bool
         // proved: A line that it reports is there
