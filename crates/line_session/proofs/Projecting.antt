@@ -101,12 +101,10 @@ module _ {S T : Type 0} (f : S → T) (answers_with : S → List ℕ → List �
   door_seen fault s s' i j o p h = (breaks_seen s s' i j o p h.0, h.1, h.2, cause_seen fault h.0.answered s' h.0.rest h.3)
 
   module _ {I O : Type 0} (remaining : I → Option (List ℕ)) (reads read_failures : I → ℕ) (written : O → Option (List ℕ)) (write_failures : O → ℕ) where
-    sits_seen : (result : Result Ended SessionFault) (i : I) (o : O) (s s' : S)
-        → RunsSession answers_with drops needs_memory remaining reads read_failures written write_failures result i o s s'
-        → RunsSession seen lost needs_memory remaining reads read_failures written write_failures result i o (f s) (f s')
-    sits_seen (Ok ended) i o s s' t = record {
-      input = t.input;
-      output = t.output;
+    sits_seen : (result : Result Ended SessionFault) (i : I) (o : O) (j : I) (p : O) (s s' : S)
+        → RunsSession answers_with drops needs_memory remaining reads read_failures written write_failures result i o j p s s'
+        → RunsSession seen lost needs_memory remaining reads read_failures written write_failures result i o j p (f s) (f s')
+    sits_seen (Ok ended) i o j p s s' t = record {
       all_answered = ends_seen s s' _ _ _ _ ended.lines ended.cut t.all_answered;
       broken = t.broken;
       read_fault = t.read_fault;
@@ -117,9 +115,7 @@ module _ {S T : Type 0} (f : S → T) (answers_with : S → List ℕ → List �
       spent = t.spent;
       stopped = t.stopped;
     }
-    sits_seen (Err fault) i o s s' t = record {
-      input = t.input;
-      output = t.output;
+    sits_seen (Err fault) i o j p s s' t = record {
       all_answered = t.all_answered;
       broken = breaks_seen s s' _ _ _ _ t.broken;
       read_fault = t.read_fault;
@@ -131,12 +127,12 @@ module _ {S T : Type 0} (f : S → T) (answers_with : S → List ℕ → List �
       stopped = λ other. door_seen fault s s' _ _ _ _ (t.stopped other);
     }
 
-    module _ {D : Type 0} (opens : D → I → O → D → Type 0) (stays : D → D → Type 0) (reported : D → Result Ended SessionFault → Type 0) where
+    module _ {D : Type 0} (opens : D → I → O → D → Type 0) (stays : D → D → Type 0) (reported : D → I → O → Result Ended SessionFault → D → Type 0) (closed : D → Type 0) where
       visits_seen : (outcome : Outcome) (d : D) (s : S) (d' : D) (s' : S)
           → ServesConnection opens stays reported (RunsSession answers_with drops needs_memory remaining reads read_failures written write_failures) outcome d s d' s'
           → ServesConnection opens stays reported (RunsSession seen lost needs_memory remaining reads read_failures written write_failures) outcome d (f s) d' (f s')
       visits_seen None d s d' s' v = (v.0, ap f v.1)
-      visits_seen (Some result) d s d' s' v = (v.0, v.1, v.2, sits_seen result v.0 v.1 s s' v.3, v.4)
+      visits_seen (Some result) d s d' s' v = (v.0, v.1, v.2, v.3, v.4, v.5, sits_seen result v.0 v.1 v.4 v.5 s s' v.6, v.7)
 
       all_visits_seen : (outcomes : List Outcome) (d : D) (s : S) (d' : D) (s' : S)
           → ServesConnections (ServesConnection opens stays reported (RunsSession answers_with drops needs_memory remaining reads read_failures written write_failures)) outcomes d s d' s'
@@ -145,11 +141,12 @@ module _ {S T : Type 0} (f : S → T) (answers_with : S → List ℕ → List �
       all_visits_seen (outcome ∷ outcomes) d s d' s' h = (h.0, f h.1, visits_seen outcome d s h.0 h.1 h.2, all_visits_seen outcomes h.0 h.1 d' s' h.3)
 
       pub serves_seen : (asked clean : ℕ) (d : D) (s : S) (d' : D) (s' : S)
-          → Serves (ServesConnection opens stays reported (RunsSession answers_with drops needs_memory remaining reads read_failures written write_failures)) asked clean d s d' s'
-          → Serves (ServesConnection opens stays reported (RunsSession seen lost needs_memory remaining reads read_failures written write_failures)) asked clean d (f s) d' (f s')
+          → Serves (ServesConnection opens stays reported (RunsSession answers_with drops needs_memory remaining reads read_failures written write_failures)) closed asked clean d s d' s'
+          → Serves (ServesConnection opens stays reported (RunsSession seen lost needs_memory remaining reads read_failures written write_failures)) closed asked clean d (f s) d' (f s')
       serves_seen asked clean d s d' s' h = record {
         outcomes = h.outcomes;
         each = all_visits_seen h.outcomes d s d' s' h.each;
+        most = h.most;
         all_asked = h.all_asked;
         counted = h.counted;
       }

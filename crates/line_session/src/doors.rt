@@ -1,4 +1,5 @@
 use crate::answering::{Ended, SessionFault};
+use crate::connection::Connection;
 use till_request::{DeviceFault, LineIn, LineOut};
 
 /// A source of connections, one after another.
@@ -7,7 +8,7 @@ pub trait Doors {
 
     type Out: LineOut + Drop;
 
-    ghost use Rattle.std.specs.Prelude.{Result, IfOk, OnErr};
+    ghost use Rattle.std.specs.Prelude.{Result, IfOk, IsTrue, OnErr};
     ghost use Rattle.line_session.specs.declared.answering.Ended.{Ended};
     ghost use Rattle.line_session.specs.declared.answering.SessionFault.{SessionFault};
 
@@ -17,7 +18,11 @@ pub trait Doors {
     /// For proofs: from the first state to the second, `next` can fail.
     ghost fails: { Self → Self → Type 0 };
 
-    ghost reported: { Self → Result Ended SessionFault → Type 0 };
+    /// For proofs: in this state `next` is asked for no further connection.
+    ghost closed: { Self → Type 0 };
+
+    /// For proofs: from the first state to the second, `ended` can take back this input and this output.
+    ghost reported: { Self → Self.In → Self.Out → Result Ended SessionFault → Self → Type 0 };
 
     ghost stray_reported: { Self → Type 0 };
 
@@ -25,6 +30,13 @@ pub trait Doors {
     fn next(&mut self) -> Result<(Self::In, Self::Out), DeviceFault>
         ensures ok { IfOk result (λ door. opens self.old door.0 door.1 self.new) }
         ensures err { OnErr result (fails self.old self.new) };
+
+    /// Whether no further connection is to be opened, and the worker is to return early.
+    fn are_closed(&self) -> bool
+        ensures { IsTrue result → closed self.now }
+    {
+        false
+    }
 
     /// Whether the input has the whole next line in its buffer, so that answers can be written together.
     fn has_buffered_line(&self, _input: &Self::In) -> bool {
@@ -35,7 +47,11 @@ pub trait Doors {
     fn met_stray(&self)
         ensures { stray_reported self.now };
 
-    /// Reports how a session over one of these connections ended.
-    fn ended(&self, outcome: &Result<Ended, SessionFault>)
-        ensures { reported self.now outcome.now };
+    /// Takes back a connection, with how the session over it ended.
+    fn ended(
+        &mut self,
+        connection: Connection<Self::In, Self::Out>,
+        outcome: &Result<Ended, SessionFault>,
+    )
+        ensures { reported self.old connection.input connection.output outcome.now self.new };
 }

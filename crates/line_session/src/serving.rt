@@ -20,8 +20,8 @@ fn one_if_good(outcome: Result<Ended, SessionFault>) -> u64
     }
 }
 
-/// Serves `connections` connections of a role, and returns how many of their sessions ended without a `SessionFault`.
-/// One that can't be opened counts as a connection, but not in what is returned.
+/// Serves `connections` connections of a role, or fewer if the doors are closed before, and returns how many of their
+/// sessions ended without a `SessionFault`. One that can't be opened counts as a connection, but not in what is returned.
 pub fn worker<S: Doors, C: Clock, D: Desk>(
     alloc: Global,
     role: Role,
@@ -35,16 +35,19 @@ pub fn worker<S: Doors, C: Clock, D: Desk>(
         (ServesConnection S.opens S.fails S.reported
         (RunsDeskSession D.step D.looks C.tick role S.In.remaining S.In.reads S.In.failures S.Out.written
         S.Out.failures))
-        connections result doors.old (clock.old, desk.old) doors.new (clock.new, desk.new) }
+        S.closed connections result doors.old (clock.old, desk.old) doors.new (clock.new, desk.new) }
 {
     let mut clean = 0;
     for _ in 0..connections {
+        if doors.are_closed() {
+            return clean;
+        }
         let Ok((input, output)) = doors.next() else {
             continue;
         };
         let mut connection = Connection { input, output };
         let outcome = pipelined_session(alloc, role, doors, &mut connection, clock, desk);
-        doors.ended(&outcome);
+        doors.ended(connection, &outcome);
         clean += one_if_good(outcome);
     }
     clean

@@ -10,10 +10,11 @@ loop-preserved g c =
       serves = serves_more _ _ _ _ _ _ _ _ _ _ (Some ran.result) c.loop.invariant.serves (
         _,
         _,
+        _,
         c.in-Ok.ensures.ok,
+        _,
+        _,
         record {
-          input = ran.new.connection.input;
-          output = ran.new.connection.output;
           all_answered = ran.ensures.all_answered;
           broken = ran.ensures.broken;
           read_fault = ran.ensures.read_fault;
