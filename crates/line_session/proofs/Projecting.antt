@@ -127,7 +127,7 @@ module _ {S T : Type 0} (f : S → T) (answers_with : S → List ℕ → List �
       stopped = λ other. door_seen fault s s' _ _ _ _ (t.stopped other);
     }
 
-    module _ {D : Type 0} (opens : D → I → O → D → Type 0) (stays : D → D → Type 0) (reported : D → I → O → Result Ended SessionFault → D → Type 0) (closed : D → Type 0) where
+    module _ {D : Type 0} (opens : D → I → O → D → Type 0) (stays : D → D → Type 0) (reported : D → I → O → Result Ended SessionFault → D → Type 0) (may_close : D → Type 0) where
       visits_seen : (outcome : Outcome) (d : D) (s : S) (d' : D) (s' : S)
           → ServesConnection opens stays reported (RunsSession answers_with drops needs_memory remaining reads read_failures written write_failures) outcome d s d' s'
           → ServesConnection opens stays reported (RunsSession seen lost needs_memory remaining reads read_failures written write_failures) outcome d (f s) d' (f s')
@@ -141,8 +141,8 @@ module _ {S T : Type 0} (f : S → T) (answers_with : S → List ℕ → List �
       all_visits_seen (outcome ∷ outcomes) d s d' s' h = (h.0, f h.1, visits_seen outcome d s h.0 h.1 h.2, all_visits_seen outcomes h.0 h.1 d' s' h.3)
 
       pub serves_seen : (asked clean : ℕ) (d : D) (s : S) (d' : D) (s' : S)
-          → Serves (ServesConnection opens stays reported (RunsSession answers_with drops needs_memory remaining reads read_failures written write_failures)) closed asked clean d s d' s'
-          → Serves (ServesConnection opens stays reported (RunsSession seen lost needs_memory remaining reads read_failures written write_failures)) closed asked clean d (f s) d' (f s')
+          → Serves (ServesConnection opens stays reported (RunsSession answers_with drops needs_memory remaining reads read_failures written write_failures)) may_close asked clean d s d' s'
+          → Serves (ServesConnection opens stays reported (RunsSession seen lost needs_memory remaining reads read_failures written write_failures)) may_close asked clean d (f s) d' (f s')
       serves_seen asked clean d s d' s' h = record {
         outcomes = h.outcomes;
         each = all_visits_seen h.outcomes d s d' s' h.each;

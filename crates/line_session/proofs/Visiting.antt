@@ -6,9 +6,9 @@ good_more : (outcomes : List Outcome) (outcome : Outcome) → good (outcomes ++ 
 good_more [] outcome = omega arith
 good_more (o ∷ outcomes) outcome = omega (arith, good_more outcomes outcome)
 
--- the doors were open all the while
-abbrev pub ServesOpen : {D S : Type 0} → (Outcome → D → S → D → S → Type 0) → ℕ → ℕ → D → S → D → S → Type 0
-ServesOpen serves_connection = Serves serves_connection (λ d. ⊥)
+-- all connections that were asked for were served
+abbrev pub ServesAll : {D S : Type 0} → (Outcome → D → S → D → S → Type 0) → ℕ → ℕ → D → S → D → S → Type 0
+ServesAll serves_connection = Serves serves_connection (λ d. ⊥)
 
 module _ {D S : Type 0} (serves_connection : Outcome → D → S → D → S → Type 0) where
   visits_more : (outcomes : List Outcome) (outcome : Outcome) (d : D) (s : S) (m : D) (t : S) (d' : D) (s' : S)
@@ -16,11 +16,11 @@ module _ {D S : Type 0} (serves_connection : Outcome → D → S → D → S →
   visits_more [] outcome d s m t d' s' h k = (d', s', rw (← h.0, ← h.1) k, (refl, refl))
   visits_more (o ∷ outcomes) outcome d s m t d' s' h k = (h.0, h.1, h.2, visits_more outcomes outcome h.0 h.1 m t d' s' h.3 k)
 
-  all_of : (asked clean : ℕ) (d : D) (s : S) (d' : D) (s' : S) (h : ServesOpen serves_connection asked clean d s d' s') → length h.outcomes ≡ asked
+  all_of : (asked clean : ℕ) (d : D) (s : S) (d' : D) (s' : S) (h : ServesAll serves_connection asked clean d s d' s') → length h.outcomes ≡ asked
   all_of asked clean d s d' s' h = elim h.all_asked [ inl all ↦ all | inr none ↦ absurd none ]
 
   pub serves_more : (asked clean one : ℕ) (d : D) (s : S) (m : D) (t : S) (d' : D) (s' : S) (outcome : Outcome)
-      → ServesOpen serves_connection asked clean d s m t → serves_connection outcome m t d' s' → one ≡ one_good outcome → ServesOpen serves_connection (asked + 1) (clean + one) d s d' s'
+      → ServesAll serves_connection asked clean d s m t → serves_connection outcome m t d' s' → one ≡ one_good outcome → ServesAll serves_connection (asked + 1) (clean + one) d s d' s'
   serves_more asked clean one d s m t d' s' outcome h k is =
       let all = all_of asked clean d s m t h in
       record {
@@ -33,6 +33,6 @@ module _ {D S : Type 0} (serves_connection : Outcome → D → S → D → S →
 
   -- a connection that couldn't be opened counts as served, but not as ended without a SessionFault
   pub serves_unopened : (asked clean : ℕ) (d : D) (s : S) (m : D) (t : S) (d' : D) (s' : S)
-      → ServesOpen serves_connection asked clean d s m t → serves_connection None m t d' s' → ServesOpen serves_connection (asked + 1) clean d s d' s'
+      → ServesAll serves_connection asked clean d s m t → serves_connection None m t d' s' → ServesAll serves_connection (asked + 1) clean d s d' s'
   serves_unopened asked clean d s m t d' s' h k =
-      subst (λ n. ServesOpen serves_connection (asked + 1) n d s d' s') (omega arith) (serves_more asked clean 0 d s m t d' s' None h k refl)
+      subst (λ n. ServesAll serves_connection (asked + 1) n d s d' s') (omega arith) (serves_more asked clean 0 d s m t d' s' None h k refl)

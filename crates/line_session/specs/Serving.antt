@@ -65,11 +65,11 @@ abbrev pub ServesConnections : {D S : Type 0} → (Outcome → D → S → D →
 ServesConnections serves_connection [] d s d' s' = (d' ≡ d) × (s' ≡ s)
 ServesConnections {D} {S} serves_connection (outcome ∷ outcomes) d s d' s' = (m : D) × (t : S) × serves_connection outcome d s m t × ServesConnections serves_connection outcomes m t d' s'
 
--- A worker served `asked` connections, or fewer where its doors were closed, and `clean` of them ended without a
+-- A worker served `asked` connections, or fewer if its doors could be closed, and `clean` of them ended without a
 -- SessionFault.
-pub record Serves {D S : Type 0} (serves_connection : Outcome → D → S → D → S → Type 0) (closed : D → Type 0) (asked clean : ℕ) (d : D) (s : S) (d' : D) (s' : S) : Type 0 where
+pub record Serves {D S : Type 0} (serves_connection : Outcome → D → S → D → S → Type 0) (may_close : D → Type 0) (asked clean : ℕ) (d : D) (s : S) (d' : D) (s' : S) : Type 0 where
   pub outcomes : List Outcome
   pub each : ServesConnections serves_connection outcomes d s d' s'
   pub most : length outcomes ≤ asked
-  pub all_asked : (length outcomes ≡ asked) ⊎ closed d'
+  pub all_asked : (length outcomes ≡ asked) ⊎ may_close d
   pub counted : clean ≡ good outcomes

@@ -1,5 +1,4 @@
 use crate::answering::{Ended, SessionFault};
-use crate::connection::Connection;
 use till_request::{DeviceFault, LineIn, LineOut};
 
 /// A source of connections, one after another.
@@ -18,8 +17,8 @@ pub trait Doors {
     /// For proofs: from the first state to the second, `next` can fail.
     ghost fails: { Self → Self → Type 0 };
 
-    /// For proofs: in this state `next` is asked for no further connection.
-    ghost closed: { Self → Type 0 };
+    /// For proofs: `are_closed` can say so.
+    ghost may_close: { Self → Type 0 };
 
     /// For proofs: from the first state to the second, `ended` can take back this input and this output.
     ghost reported: { Self → Self.In → Self.Out → Result Ended SessionFault → Self → Type 0 };
@@ -29,11 +28,12 @@ pub trait Doors {
     /// Waits for the next connection.
     fn next(&mut self) -> Result<(Self::In, Self::Out), DeviceFault>
         ensures ok { IfOk result (λ door. opens self.old door.0 door.1 self.new) }
-        ensures err { OnErr result (fails self.old self.new) };
+        ensures err { OnErr result (fails self.old self.new) }
+        ensures closes { may_close self.new → may_close self.old };
 
     /// Whether no further connection is to be opened, and the worker is to return early.
     fn are_closed(&self) -> bool
-        ensures { IsTrue result → closed self.now }
+        ensures { IsTrue result → may_close self.now }
     {
         false
     }
@@ -50,8 +50,10 @@ pub trait Doors {
     /// Takes back a connection, with how the session over it ended.
     fn ended(
         &mut self,
-        connection: Connection<Self::In, Self::Out>,
+        input: Self::In,
+        output: Self::Out,
         outcome: &Result<Ended, SessionFault>,
     )
-        ensures { reported self.old connection.input connection.output outcome.now self.new };
+        ensures told { reported self.old input output outcome.now self.new }
+        ensures closes { may_close self.new → may_close self.old };
 }

@@ -35,7 +35,7 @@ pub fn worker<S: Doors, C: Clock, D: Desk>(
         (ServesConnection S.opens S.fails S.reported
         (RunsDeskSession D.step D.looks C.tick role S.In.remaining S.In.reads S.In.failures S.Out.written
         S.Out.failures))
-        S.closed connections result doors.old (clock.old, desk.old) doors.new (clock.new, desk.new) }
+        S.may_close connections result doors.old (clock.old, desk.old) doors.new (clock.new, desk.new) }
 {
     let mut clean = 0;
     for _ in 0..connections {
@@ -47,7 +47,7 @@ pub fn worker<S: Doors, C: Clock, D: Desk>(
         };
         let mut connection = Connection { input, output };
         let outcome = pipelined_session(alloc, role, doors, &mut connection, clock, desk);
-        doors.ended(connection, &outcome);
+        doors.ended(connection.input, connection.output, &outcome);
         clean += one_if_good(outcome);
     }
     clean

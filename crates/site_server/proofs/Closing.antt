@@ -1,7 +1,7 @@
 -- A close of a forecourt is tried with the passes that all workers returned. If it succeeds, then the site was served
 -- by the plan, and closed (`IsServed`). If it is refused, then the workers returned all passes, and the close with them
 -- was refused with the fault that is returned (`ServingFails`).
-use Rattle.std.proofs.Common.{◌≡◌, ℕ, ◌<◌, ◌+◌, List, length, slice_index_or, Option, None, Result, Ok, Err, IfOk, IfErr, ap, subst, sym, arith}
+use Rattle.std.proofs.Common.{◌≡◌, ℕ, ◌<◌, ◌+◌, List, length, slice_index_or, Option, None, true, false, Result, Ok, Err, IfOk, IfErr, ap, subst, sym, arith}
 use Rattle.std.proofs.lemmas.List.{length-map}
 use Rattle.site_core.specs.Site.{SiteValue}
 use Rattle.site_lock.specs.Closing.{ClosesSince}
@@ -9,7 +9,7 @@ use Rattle.site_lock.specs.Passes.{PassView, Opened, new_pass}
 use Rattle.site_lock.specs.Merge.{AreAll}
 use Rattle.site_server.specs.Plans.{Plan}
 use Rattle.site_server.specs.Ending.{HaveWorked, IsReturned, IsServed, RefusesWithFault, ServingFails, StaysUnclosed}
-use Rattle.site_server.specs.Tasks.{WorkedAll}
+use Rattle.site_server.specs.Tasks.{IsShift}
 use Rattle.site_server.specs.declared.serving.ServeFault.{ServeFault}
 use Rattle.site_server.specs.declared.serving.ServeFault.TheVariants.{OutOfMemory, TooFewThreads, Journal, NotClosed}
 
@@ -49,14 +49,16 @@ module _ (plan : Plan) (from : Opened) (same : from ≡ plan.from) (passes : Lis
   spoils_so Journal all h = refused_so Journal all h
   spoils_so (NotClosed why) all h = refused_so (NotClosed why) all h
 
-never_returned : (plan : Plan) (k : ℕ) (done : PassView × ℕ) → plan.connections ≡ None → IsReturned plan k done → ⊥
-never_returned plan k done endless h =
-    subst (λ (connections : Option ℕ). WorkedAll plan.from plan.may_fail plan.day h.1 connections done.1 (new_pass (k + 1)) done.0) endless h.3
+-- workers that serve without end, and can't be asked to stop, never return their passes
+never_returned : (plan : Plan) (k : ℕ) (done : PassView × ℕ) → plan.shift.connections ≡ None → plan.shift.may_stop ≡ false → IsReturned plan k done → ⊥
+never_returned plan k done endless stays h =
+    let P : Option ℕ → Type 0 = λ connections. IsShift (record { connections = connections; may_stop = plan.shift.may_stop }) (length h.3.outcomes) in
+    let stops : plan.shift.may_stop ≡ true = subst P endless h.3.all_asked in
+    absurd (cc)
 
--- workers that serve connections without end never return their passes
-pub never_return : (plan : Plan) (workers : ℕ) (passes : List PassView) (clean : ℕ) → plan.connections ≡ None → 0 < workers → HaveWorked plan passes clean
-    → AreAll workers passes → ⊥
-never_return plan workers passes clean endless some worked all =
+pub never_return : (plan : Plan) (workers : ℕ) (passes : List PassView) (clean : ℕ) → plan.shift.connections ≡ None → plan.shift.may_stop ≡ false → 0 < workers
+    → HaveWorked plan passes clean → AreAll workers passes → ⊥
+never_return plan workers passes clean endless stays some worked all =
     let many = length-map worked.done (λ (d : PassView × ℕ). d.0) in
-    never_returned plan 0 (slice_index_or worked.done 0 (new_pass 1, 0)) endless
+    never_returned plan 0 (slice_index_or worked.done 0 (new_pass 1, 0)) endless stays
     (worked.each 0 (new_pass 1, 0) (omega (arith, some, all.0, ap length worked.passes_are, many)))

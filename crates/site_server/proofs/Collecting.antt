@@ -1,22 +1,20 @@
 -- What is collected from the finished tasks is what the workers returned: their passes, and how many connections ended
 -- without a SessionFault.
 use Rattle.std.proofs.Common.{◌≡◌, ℕ, ◌+◌, ◌<◌, List, [], ◌∷◌, ◌++◌, length, map, slice_index_or, Option, Some, None, slice_get, refl, sym, ◌∙◌, ap, subst}
-use Rattle.std.proofs.Common.{◌*◌, ◌≤◌, Ok, Err, arith, zero, suc}
+use Rattle.std.proofs.Common.{◌-◌, ◌^◌, min, arith, zero, suc}
 use Rattle.std.proofs.lemmas.List.{length-map}
 use Rattle.std.proofs.lemmas.Slice.Zip.{length-zip}
 use Rattle.std.specs.List.{zip}
-use Rattle.std.specs.Prelude.{IfSome}
 use Rattle.std.specs.Option.{option_map}
-use Rattle.till_request.specs.declared.act.Role.{Role}
-use Rattle.line_session.specs.Serving.{Outcome, good}
 use Rattle.site_lock.specs.Merge.{AreAll}
 use Rattle.site_lock.specs.Passes.{PassView, Opened, new_pass, AreNew}
 use Rattle.site_server.specs.declared.crew.Worker.{Worker}
+use Rattle.site_server.specs.declared.shift.Shift.{Shift}
 use Rattle.site_server.specs.Crews.{roles_of}
 use Rattle.site_server.specs.Plans.{Plan}
 use Rattle.site_server.specs.Ending.{IsReturned, AreReturned, HaveWorked, all_clean}
 use Rattle.site_server.specs.Collecting.{AreWaiting, RunEach, RunsWorker, collected, clean_in}
-use Rattle.site_server.specs.Tasks.{WorkedAll}
+use Rattle.site_server.specs.Tasks.{Worked}
 use Rattle.site_server.proofs.Numbering.{all_worked}
 
 -- the results of the finished tasks, in the order of the tasks; an unfinished task is None and has no result
@@ -35,19 +33,6 @@ clean_first [] = refl
 clean_first (None ∷ tasks) = omega (arith, clean_first tasks)
 clean_first (Some r ∷ tasks) = ap (λ (n : ℕ). r.1 + n) (clean_first tasks)
 
--- the connections that ended without a SessionFault aren't more than all connections
-good_few : (outcomes : List Outcome) → good outcomes ≤ length outcomes
-good_few [] = omega arith
-good_few (None ∷ outcomes) = omega (arith, good_few outcomes)
-good_few (Some (Ok ended) ∷ outcomes) = omega (arith, good_few outcomes)
-good_few (Some (Err fault) ∷ outcomes) = omega (arith, good_few outcomes)
-
--- a worker that served fewer than 2^32 connections counts fewer that ended without a SessionFault
-all_few : (f : Opened) (may_fail : Type 0) (day : ℕ) (role : Role) (connections : Option ℕ) (clean : ℕ) (before now : PassView)
-    → IfSome connections (λ (n : ℕ). n < 4294967296) → WorkedAll f may_fail day role connections clean before now → clean < 4294967296
-all_few f may_fail day role (Some connections) clean before now few h = omega (arith, h.counted, h.all_asked, good_few h.outcomes, few)
-all_few f may_fail day role None clean before now few h = absurd h
-
 abbrev IsNone : {A : Type 0} → Option A → Type 0
 IsNone None = Unit {0}
 IsNone (Some p) = ⊥
@@ -60,10 +45,10 @@ role_at [] k worker is = absurd (none_is k worker is)
 role_at (first ∷ workers) zero worker is = ap (λ (o : Option Worker). option_map (λ (w : Worker). w.role) o) is
 role_at (first ∷ workers) (suc k) worker is = role_at workers k worker is
 
-module _ (may_fail : Type 0) (day : ℕ) (workers : List Worker) (connections : Option ℕ) (from own : Opened) (same : from ≡ own) where
+module _ (may_fail : Type 0) (day : ℕ) (workers : List Worker) (shift : Shift) (from own : Opened) (same : from ≡ own) where
   -- the plan by which the site is served
   abbrev pub plan : Plan
-  plan = record { from = from; may_fail = may_fail; day = day; roles = roles_of workers; connections = connections }
+  plan = record { from = from; may_fail = may_fail; day = day; roles = roles_of workers; shift = shift }
 
   -- `AllBack b tasks`: all tasks are finished. The first has the result of the worker with pass b + 1, the second that
   -- of the worker with pass b + 2, and so on.
@@ -73,14 +58,14 @@ module _ (may_fail : Type 0) (day : ℕ) (workers : List Worker) (connections : 
   AllBack b (Some r ∷ tasks) = IsReturned plan b r × AllBack (b + 1) tasks
 
   one_back : (b : ℕ) (worker : Worker) (y : Option (PassView × ℕ)) (rest : List (Option (PassView × ℕ))) → slice_get workers b ≡ Some worker
-      → RunsWorker own may_fail day connections (Some (new_pass (b + 1), worker)) y → AllBack (b + 1) rest → AllBack b (y ∷ rest)
+      → RunsWorker own may_fail day shift (Some (new_pass (b + 1), worker)) y → AllBack (b + 1) rest → AllBack b (y ∷ rest)
   one_back b worker None rest at h more = absurd h
   one_back b worker (Some r) rest at h more = (
     (
       h.0,
       worker.role,
       role_at workers b worker at,
-      subst (λ (o : Opened). WorkedAll o may_fail day worker.role connections r.1 (new_pass (b + 1)) r.0) (sym same) h.1,
+      subst (λ (o : Opened). Worked o may_fail day worker.role shift r.1 (new_pass (b + 1)) r.0) (sym same) h.1,
     ),
     more,
   )
@@ -91,7 +76,7 @@ module _ (may_fail : Type 0) (day : ℕ) (workers : List Worker) (connections : 
   WaitsAt tasks k n e = (worker : Worker) × (slice_get workers n ≡ Some worker) × (slice_index_or tasks k e ≡ Some (new_pass (n + 1), worker))
 
   all_back : (b : ℕ) (waiting : List (Option (PassView × Worker))) (done : List (Option (PassView × ℕ)))
-      → RunEach own may_fail day connections waiting done
+      → RunEach own may_fail day shift waiting done
       → ((k n : ℕ) (e : Option (PassView × Worker)) → n ≡ b + k → k < length waiting → WaitsAt waiting k n e)
       → AllBack b done
   all_back b [] [] ran at = tt
@@ -99,10 +84,10 @@ module _ (may_fail : Type 0) (day : ℕ) (workers : List Worker) (connections : 
   all_back b (x ∷ xs) [] ran at = absurd ran
   all_back b (x ∷ xs) (y ∷ ys) ran at =
       let first : WaitsAt (x ∷ xs) 0 b None = at 0 b None (omega arith) (omega arith) in
-      one_back b first.0 y ys first.1 (subst (λ (z : Option (PassView × Worker)). RunsWorker own may_fail day connections z y) first.2 ran.0)
+      one_back b first.0 y ys first.1 (subst (λ (z : Option (PassView × Worker)). RunsWorker own may_fail day shift z y) first.2 ran.0)
       (all_back (b + 1) xs ys ran.1 (λ k n e num lt. at (suc k) n e (omega (arith, num)) (omega (arith, lt))))
 
-  as_many_ran : (waiting : List (Option (PassView × Worker))) (done : List (Option (PassView × ℕ))) → RunEach own may_fail day connections waiting done
+  as_many_ran : (waiting : List (Option (PassView × Worker))) (done : List (Option (PassView × ℕ))) → RunEach own may_fail day shift waiting done
       → length done ≡ length waiting
   as_many_ran [] [] ran = refl
   as_many_ran [] (y ∷ ys) ran = absurd ran
@@ -111,22 +96,12 @@ module _ (may_fail : Type 0) (day : ℕ) (workers : List Worker) (connections : 
 
   -- When the tasks of all workers have run, each has the result of its worker, and there are as many tasks as workers.
   pub all_done : (waiting : List (Option (PassView × Worker))) (done : List (Option (PassView × ℕ))) → AreWaiting workers waiting
-      → RunEach own may_fail day connections waiting done → AllBack 0 done × (length done ≡ length workers)
+      → RunEach own may_fail day shift waiting done → AllBack 0 done × (length done ≡ length workers)
   all_done waiting done are ran = (
     all_back 0 waiting done ran
         (λ k m e num lt. subst (λ (j : ℕ). WaitsAt waiting k j e) (omega (arith, num)) (are.1 k e (omega (arith, lt, are.0)))),
     as_many_ran waiting done ran ∙ are.0,
   )
-
-  one_few : (b : ℕ) (r : PassView × ℕ) → IfSome connections (λ (n : ℕ). n < 4294967296) → IsReturned plan b r → r.1 < 4294967296
-  one_few b r few h = all_few own may_fail day h.1 connections r.1 (new_pass (b + 1)) r.0 few (subst (λ (o : Opened). WorkedAll o may_fail day h.1 connections r.1 (new_pass (b + 1)) r.0) same h.3)
-
-  -- If each worker serves fewer than 2^32 connections, then in n tasks at most 2^32 * n connections ended without a
-  -- SessionFault.
-  pub well_few : (b : ℕ) (tasks : List (Option (PassView × ℕ))) → AllBack b tasks → IfSome connections (λ (n : ℕ). n < 4294967296) → clean_in tasks ≤ 4294967296 * length tasks
-  well_few b [] h few = omega arith
-  well_few b (None ∷ tasks) h few = absurd h
-  well_few b (Some r ∷ tasks) h few = omega (arith, well_few (b + 1) tasks h.1 few, one_few b r few h.0)
 
   back_at : (b : ℕ) (tasks : List (Option (PassView × ℕ))) → AllBack b tasks → (k n : ℕ) (d : PassView × ℕ) → n ≡ b + k → k < length (results tasks)
       → IsReturned plan n (slice_index_or (results tasks) k d)
@@ -147,12 +122,12 @@ module _ (may_fail : Type 0) (day : ℕ) (workers : List Worker) (connections : 
   -- returned (`HaveWorked`): the passes, moved into an empty list, and the number of connections that ended without a
   -- SessionFault.
   pub have_worked : (tasks : List (Option (PassView × ℕ))) (room passes : List PassView) (clean : ℕ) → AllBack 0 tasks → room ≡ []
-      → passes ≡ room ++ collected tasks → clean ≡ clean_in tasks → HaveWorked plan passes clean
+      → passes ≡ room ++ collected tasks → clean ≡ min (clean_in tasks) (2 ^ 64 - 1) → HaveWorked plan passes clean
   have_worked tasks room passes clean back none are counted = record {
     done = results tasks;
     passes_are = are ∙ ap (λ (ps : List PassView). ps ++ collected tasks) none ∙ handed_first tasks;
     each = hands_back tasks back;
-    counted = counted ∙ clean_first tasks;
+    counted = counted ∙ ap (λ (n : ℕ). min n (2 ^ 64 - 1)) (clean_first tasks);
   }
 
   pub are_all : (n : ℕ) (tasks : List (Option (PassView × ℕ))) (room passes : List PassView) (clean : ℕ) → AllBack 0 tasks → length tasks ≡ n → room ≡ []

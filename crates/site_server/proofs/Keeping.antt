@@ -14,6 +14,7 @@ use Rattle.line_session.specs.Answering.{AnswersAll}
 use Rattle.line_session.specs.Serving.{Outcome}
 use Rattle.site_lock.specs.Passes.{PassView, Opened}
 use Rattle.site_lock.specs.Desks.{DeskAnswers, DeskLooks}
+use Rattle.site_server.specs.declared.shift.Shift.{Shift}
 use Rattle.site_server.specs.Tasks.{pass_answers, pass_looks, gives_any_moment, pass_answers_line, DropsOne, AnswersConnection, AnswersConnections, Worked}
 
 abbrev id_in : ℕ × PassView → ℕ
@@ -65,5 +66,5 @@ module _ (f : Opened) (may_fail : Type 0) (day : ℕ) where
     visits_keep [] s t h = ap id_in h
     visits_keep (outcome ∷ outcomes) s t h = visits_keep outcomes h.0 t h.2 ∙ visit_keeps outcome s h.0 h.1
 
-    pub worked_keeps : (connections clean : ℕ) (p q : PassView) → Worked f may_fail day role connections clean p q → q.id ≡ p.id
-    worked_keeps connections clean p q h = visits_keep h.outcomes (0, p) (h.moment, q) h.each
+    pub worked_keeps : (shift : Shift) (clean : ℕ) (p q : PassView) → Worked f may_fail day role shift clean p q → q.id ≡ p.id
+    worked_keeps shift clean p q h = visits_keep h.outcomes (0, p) (h.moment, q) h.each

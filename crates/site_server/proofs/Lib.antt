@@ -8,4 +8,5 @@ pub mod LastRan
 pub mod Numbering
 pub mod Paths
 pub mod Posts
+pub mod Rounds
 pub mod Working

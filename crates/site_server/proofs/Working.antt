@@ -1,6 +1,6 @@
--- If a worker with a clock and a desk served `asked` connections, of which `clean` ended without a SessionFault, then the
--- desk's pass served as many connections, and as many of them ended so (`Worked`). What is said of the clock and the desk
--- is then said of the moment that the clock gave last, and of the pass. The day that the desk tells stays the same.
+-- If a worker with a clock and a desk served connections with these outcomes, then the desk's pass did so too. What is
+-- said of the clock and the desk is then said of the moment that the clock gave last, and of the pass. The day that the
+-- desk tells stays the same.
 use Rattle.std.proofs.Common.{◌≡◌, ◌≢◌, ℕ, List, [], ◌∷◌, Option, Some, None, Result, Ok, Err, refl, subst, inl, inr, ap, ◌∙◌}
 use Rattle.till_request.specs.declared.act.Act.{Act}
 use Rattle.till_request.specs.declared.act.Answer.{Answer}
@@ -17,11 +17,11 @@ use Rattle.line_session.specs.declared.answering.SessionFault.TheVariants as ses
 use Rattle.line_session.specs.declared.line_handler.HandlerError.{HandlerError}
 use Rattle.line_session.specs.declared.line_handler.HandlerError.TheVariants as error
 use Rattle.line_session.specs.Session.{AnswersAsked, LineAnswer, desk_answers, desk_drops, desk_needs_memory}
-use Rattle.line_session.specs.Serving.{Outcome, RunsDeskSession, ServesConnection, ServesConnections, Serves}
+use Rattle.line_session.specs.Serving.{Outcome, RunsDeskSession, ServesConnection, ServesConnections}
 use Rattle.line_session.specs.Answering.{AnswersAll, DropsFor, DropsNext, StopsAtDoor}
 use Rattle.site_lock.specs.Desks.{DeskAnswers, DeskLooks}
 use Rattle.site_lock.specs.Passes.{PassView, Opened}
-use Rattle.site_server.specs.Tasks.{pass_answers, pass_looks, gives_any_moment, pass_answers_line, pass_drops_line, DropsOne, AnswersConnection, AnswersConnections, Worked}
+use Rattle.site_server.specs.Tasks.{pass_answers, pass_looks, gives_any_moment, pass_answers_line, pass_drops_line, DropsOne, AnswersConnection, AnswersConnections}
 
 -- `last` is the moment that the clock gave last, `pass` the desk's pass, and `told` the number of the day that it tells.
 module _ {C P : Type 0} (last : C → ℕ) (pass : P → PassView) (told : P → ℕ) (f : Opened) (may_fail : Type 0) (day : ℕ)
@@ -89,42 +89,27 @@ module _ {C P : Type 0} (last : C → ℕ) (pass : P → PassView) (told : P →
   may_fail_at session.OutOfMemory s t i j o p h e = absurd (cc)
 
   module _ {I O D : Type 0} (remaining : I → Option (List ℕ)) (reads read_failures : I → ℕ) (written : O → Option (List ℕ)) (write_failures : O → ℕ)
-      (opens : D → I → O → D → Type 0) (fails : D → D → Type 0) (reported : D → Result Ended SessionFault → Type 0) where
+      (opens : D → I → O → D → Type 0) (fails : D → D → Type 0) (reported : D → I → O → Result Ended SessionFault → D → Type 0) where
     talked : (outcome : Outcome) (d : D) (s : C × P) (e : D) (t : C × P) → told_by s ≡ day
         → ServesConnection opens fails reported (RunsDeskSession step looks tick role remaining reads read_failures written write_failures) outcome d s e t
         → AnswersConnection f may_fail day role outcome (see s) (see t) × (told_by t ≡ day)
     talked None d s e t on v = (ap see v.1, ap told_by v.1 ∙ on)
     talked (Some (Ok ended)) d s e t on v =
-        let answering = v.3.all_answered.answering in
+        let answering = v.6.all_answered.answering in
         let all = all_seen answering.lines s answering.texts t on answering.all_answered in
         ((answering.lines, answering.texts, see t, answering.each, all.0, inl refl, λ e. absurd (cc)), all.1)
     talked (Some (Err fault)) d s e t on v =
-        let breaks = v.3.broken in
+        let breaks = v.6.broken in
         let all = all_seen breaks.lines s breaks.texts breaks.answered on breaks.all_answered in
         let end = dropped breaks.answered t breaks.rest all.1 breaks.dropped in (
-          (breaks.lines, breaks.texts, see breaks.answered, breaks.each, all.0, end.0, may_fail_at fault s t _ _ _ _ v.3.stopped),
+          (breaks.lines, breaks.texts, see breaks.answered, breaks.each, all.0, end.0, may_fail_at fault s t _ _ _ _ v.6.stopped),
           end.1,
         )
 
-    all_talked : (outcomes : List Outcome) (d : D) (s : C × P) (e : D) (t : C × P) → told_by s ≡ day
+    pub all_talked : (outcomes : List Outcome) (d : D) (s : C × P) (e : D) (t : C × P) → told_by s ≡ day
         → ServesConnections (ServesConnection opens fails reported (RunsDeskSession step looks tick role remaining reads read_failures written write_failures)) outcomes d s e t
-        → AnswersConnections f may_fail day role outcomes (see s) (see t)
-    all_talked [] d s e t on h = ap see h.1
+        → AnswersConnections f may_fail day role outcomes (see s) (see t) × (told_by t ≡ day)
+    all_talked [] d s e t on h = (ap see h.1, ap told_by h.1 ∙ on)
     all_talked (outcome ∷ outcomes) d s e t on h =
-        let one = talked outcome d s h.0 h.1 on h.2 in (see h.1, one.0, all_talked outcomes h.0 h.1 e t one.1 h.3)
-
-    talked_from : (outcomes : List Outcome) (d : D) (c : C) (p : P) (e : D) (c' : C) (p' : P) (m : ℕ) (q r : PassView) → last c ≡ m → pass p ≡ q → r ≡ pass p' → told p ≡ day
-        → ServesConnections (ServesConnection opens fails reported (RunsDeskSession step looks tick role remaining reads read_failures written write_failures)) outcomes d (c, p) e (c', p')
-        → AnswersConnections f may_fail day role outcomes (m, q) (last c', r)
-    talked_from outcomes d c p e c' p' m q r is_last is_first is_now on h = rw (← is_last, ← is_first, is_now) (all_talked outcomes d (c, p) e (c', p') on h)
-
-    pub worked : (asked clean : ℕ) (d : D) (c : C) (p : P) (e : D) (c' : C) (p' : P) (q r : PassView) → last c ≡ 0 → pass p ≡ q → r ≡ pass p' → told p ≡ day
-        → Serves (ServesConnection opens fails reported (RunsDeskSession step looks tick role remaining reads read_failures written write_failures)) asked clean d (c, p) e (c', p')
-        → Worked f may_fail day role asked clean q r
-    worked asked clean d c p e c' p' q r is_last is_first is_now on h = record {
-      moment = last c';
-      outcomes = h.outcomes;
-      each = talked_from h.outcomes d c p e c' p' 0 q r is_last is_first is_now on h.each;
-      all_asked = h.all_asked;
-      counted = h.counted;
-    }
+        let one = talked outcome d s h.0 h.1 on h.2 in
+        let more = all_talked outcomes h.0 h.1 e t one.1 h.3 in ((see h.1, one.0, more.0), more.1)

@@ -1,5 +1,5 @@
 -- Promises: what holds when the serving of a site ends, with a closed site or with a fault.
-use Rattle.std.specs.Prelude.{◌≡◌, ℕ, ◌+◌, ◌<◌, Bool, true, false, List, [], ◌∷◌, length, map, slice_get, slice_index_or, Option, Some, if◌then◌else◌}
+use Rattle.std.specs.Prelude.{◌≡◌, ℕ, ◌+◌, ◌-◌, ◌^◌, ◌<◌, min, Bool, true, false, List, [], ◌∷◌, length, map, slice_get, slice_index_or, Option, Some, if◌then◌else◌}
 use Rattle.till_request.specs.declared.act.Role.{Role}
 use Rattle.site_core.specs.Site.{SiteValue}
 use Rattle.site_lock.specs.declared.close.CloseRefusal.{CloseRefusal}
@@ -7,10 +7,11 @@ use Rattle.site_lock.specs.Passes.{PassView, Opened, new_pass}
 use Rattle.site_lock.specs.Closing.{ClosesSince, HaltedValue, IsHalted, RefusesSince}
 use Rattle.site_lock.specs.Merge.{AreAll}
 use Rattle.site_server.specs.declared.crew.Worker.{Worker}
+use Rattle.site_server.specs.declared.shift.Shift.{Shift}
 use Rattle.site_server.specs.Collecting.{AreWaiting}
 use Rattle.site_server.specs.Crews.{roles_of}
 use Rattle.site_server.specs.Plans.{Plan}
-use Rattle.site_server.specs.Tasks.{WorkedAll}
+use Rattle.site_server.specs.Tasks.{Worked}
 use Rattle.site_server.specs.declared.serving.ServeFault.{ServeFault}
 use Rattle.site_server.specs.declared.serving.ServeFault.TheVariants.{OutOfMemory, TooFewThreads, Journal, NotClosed}
 
@@ -19,7 +20,7 @@ use Rattle.site_server.specs.declared.serving.ServeFault.TheVariants.{OutOfMemor
 abbrev pub IsReturned : Plan → ℕ → PassView × ℕ → Type 0
 IsReturned plan k done =
     (done.0.id ≡ k + 1) × (role : Role) × (slice_get plan.roles k ≡ Some role)
-    × WorkedAll plan.from plan.may_fail plan.day role plan.connections done.1 (new_pass (k + 1)) done.0
+    × Worked plan.from plan.may_fail plan.day role plan.shift done.1 (new_pass (k + 1)) done.0
 
 -- the list has what the workers with the passes 1, 2, 3 and so on returned, in this order
 abbrev pub AreReturned : Plan → List (PassView × ℕ) → Type 0
@@ -31,20 +32,20 @@ all_clean [] = 0
 all_clean (d ∷ done) = d.1 + all_clean done
 
 -- Workers of the plan served their connections, and returned `passes`. In all, `clean` of these connections ended
--- without a SessionFault.
+-- without a SessionFault, or more if it is 2^64 - 1.
 pub record HaveWorked (plan : Plan) (passes : List PassView) (clean : ℕ) : Type 0 where
   pub done : List (PassView × ℕ)
   pub passes_are : passes ≡ map (λ (d : PassView × ℕ). d.0) done
   pub each : AreReturned plan done
-  pub counted : clean ≡ all_clean done
+  pub counted : clean ≡ min (all_clean done) (2 ^ 64 - 1)
 
 -- What running all tasks gives. If the tasks held new passes and their workers, then the workers have served their
 -- connections, at a forecourt that started with `from`. The result is all these passes, and how many of the connections
 -- ended without a SessionFault.
-abbrev pub RunsAllTasks : Opened → Type 0 → ℕ → Option ℕ → List (Option (PassView × Worker)) → List PassView → ℕ → Type 0
-RunsAllTasks from may_fail day connections tasks passes clean =
+abbrev pub RunsAllTasks : Opened → Type 0 → ℕ → Shift → List (Option (PassView × Worker)) → List PassView → ℕ → Type 0
+RunsAllTasks from may_fail day shift tasks passes clean =
     (workers : List Worker) → AreWaiting workers tasks
-    → HaveWorked (record { from = from; may_fail = may_fail; day = day; roles = roles_of workers; connections = connections }) passes clean
+    → HaveWorked (record { from = from; may_fail = may_fail; day = day; roles = roles_of workers; shift = shift }) passes clean
     × AreAll (length workers) passes
 
 -- Workers of this plan served a site, and the site was closed. In all, `clean` of their connections ended without a

@@ -1,20 +1,21 @@
 -- Definitions: the plan by which a site is served (source: this project). It says what the site starts with, and who
 -- serves it.
-use Rattle.std.specs.Prelude.{ℕ, List, Option, length}
+use Rattle.std.specs.Prelude.{ℕ, List, Option, is_some, length}
 use Rattle.till_request.specs.declared.act.Role.{Role}
 use Rattle.site_lock.specs.Passes.{Opened}
 use Rattle.site_server.specs.Crews.{roles_of}
 use Rattle.site_server.specs.declared.serving.Serving.{Serving}
+use Rattle.site_server.specs.declared.shift.Shift.{Shift}
 
 -- How a site is served: what its forecourt starts with (`from`), whether its journal can fail (`may_fail`), and the
 -- number of the day (`day`), which looks tell. `roles` are the workers' roles, in the order of their passes. Each worker
--- serves `connections` connections, or, if that is None, one after another without end.
+-- serves the connections of a `shift`.
 pub record Plan : Type 1 where
   pub from : Opened
   pub may_fail : Type 0
   pub day : ℕ
   pub roles : List Role
-  pub connections : Option ℕ
+  pub shift : Shift
 
 -- The plan by which a site is served. The forecourt starts with the site's history, with the bytes that the journal has
 -- taken, and with one pass for each worker of the crew.
@@ -24,5 +25,5 @@ plan_of written may_fail s = record {
   may_fail = may_fail;
   day = s.day;
   roles = roles_of s.crew.workers.items;
-  connections = s.connections;
+  shift = record { connections = s.connections; may_stop = is_some s.crew.stop };
 }

@@ -1,6 +1,6 @@
 -- Definitions: what a worker does, described by its pass and the moment that its clock gave last (source: this
 -- project).
-use Rattle.std.specs.Prelude.{◌≡◌, ◌⊎◌, ℕ, List, [], ◌∷◌, length, Option, Some, None, Err}
+use Rattle.std.specs.Prelude.{◌≡◌, ◌≤◌, ◌⊎◌, ◌-◌, ◌^◌, ℕ, List, [], ◌∷◌, length, min, Option, Some, None, Err, true, false}
 use Rattle.std.specs.List.{AllByRecursion}
 use Rattle.till_request.specs.Line.{IsLine}
 use Rattle.till_request.specs.declared.act.Act.{Act}
@@ -15,6 +15,7 @@ use Rattle.line_session.specs.Serving.{Outcome, good}
 use Rattle.line_session.specs.Answering.{AnswersAll}
 use Rattle.site_core.specs.Limits.{ConfigValue}
 use Rattle.site_lock.specs.Passes.{PassView, Opened}
+use Rattle.site_server.specs.declared.shift.Shift.{Shift}
 use Rattle.site_lock.specs.Desks.{DeskAnswers, DeskLooks}
 
 -- what a forecourt starts with if its ledger names this configuration, number of passes, history, and bytes that the
@@ -71,17 +72,20 @@ AnswersConnections f may_fail day role [] s s' = s' ≡ s
 AnswersConnections f may_fail day role (outcome ∷ outcomes) s s' =
     (m : ℕ × PassView) × AnswersConnection f may_fail day role outcome s m × AnswersConnections f may_fail day role outcomes m s'
 
--- At a forecourt that started with `f`, on the day with the number `day`, the pass served `connections` connections in
--- this role, and `clean` of them ended without a SessionFault.
-pub record Worked (f : Opened) (may_fail : Type 0) (day : ℕ) (role : Role) (connections clean : ℕ) (before now : PassView) : Type 0 where
+-- So many connections fill a shift: all of them, or fewer if the site can be asked to stop before. A shift without end
+-- ends only so.
+abbrev pub IsShift : Shift → ℕ → Type 0
+IsShift shift count =
+    elim shift.connections [
+      | None ↦ shift.may_stop ≡ true
+      | Some connections ↦ (count ≤ connections) × (shift.may_stop ≡ false → count ≡ connections)
+    ]
+
+-- At a forecourt that started with `f`, on the day with the number `day`, the pass served the connections of a shift in
+-- this role. So many of them as `clean` says ended without a SessionFault, or more if it is 2^64 - 1.
+pub record Worked (f : Opened) (may_fail : Type 0) (day : ℕ) (role : Role) (shift : Shift) (clean : ℕ) (before now : PassView) : Type 0 where
   pub moment : ℕ
   pub outcomes : List Outcome
   pub each : AnswersConnections f may_fail day role outcomes (0, before) (moment, now)
-  pub all_asked : length outcomes ≡ connections
-  pub counted : clean ≡ good outcomes
-
--- The pass served all connections that it was to serve: as many as `Some` says, or without end (None). A worker that
--- serves without end never gets there.
-abbrev pub WorkedAll : Opened → Type 0 → ℕ → Role → Option ℕ → ℕ → PassView → PassView → Type 0
-WorkedAll f may_fail day role (Some connections) clean before now = Worked f may_fail day role connections clean before now
-WorkedAll f may_fail day role None clean before now = ⊥
+  pub all_asked : IsShift shift (length outcomes)
+  pub counted : clean ≡ min (good outcomes) (2 ^ 64 - 1)

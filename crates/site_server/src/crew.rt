@@ -4,6 +4,7 @@ ghost use Rattle.site_server.specs.Crews.{IsCrew, all_posts, posts_at, posts_of}
 
 use crate::listener::Listener;
 use crate::shared_door::SharedDoor;
+use crate::stop::Stop;
 use std::alloc::{AllocError, Global};
 use std::sync::Arc;
 use till_request::Role;
@@ -29,6 +30,8 @@ pub(crate) struct Worker {
 #[derive(Drop)]
 pub struct Crew {
     pub(crate) workers: Vec<Worker>,
+    /// Asks them to stop; `None` if nobody can.
+    pub(crate) stop: Option<Arc<Stop>>,
     ghost few: { IsCrew (length workers.items) },
 }
 
@@ -70,19 +73,44 @@ fn workers_of(alloc: Global, doors: Vec<OpenDoor>) -> Result<Vec<Worker>, AllocE
 
 impl Crew {
     /// Makes a crew: for each door as many workers as it asks for, in the order of the doors. `None` if that is none,
-    /// or over 96.
-    pub fn new(alloc: Global, doors: Vec<OpenDoor>) -> Result<Option<Crew>, AllocError>
+    /// or over 96. `stop` asks its workers to stop.
+    pub fn new(
+        alloc: Global,
+        doors: Vec<OpenDoor>,
+        stop: Option<Arc<Stop>>,
+    ) -> Result<Option<Crew>, AllocError>
         // proved there, workers, memory: It has its doors' workers, 1 to 96 | door_lacks_a_worker
         ensures there { IfOk result (λ made. IsSome made ↔ IsCrew (length (all_posts doors.items))) }
         ensures memory { OnErr result (IsCrew (length (all_posts doors.items))) }
         // proved: Each worker has its door's bound | door_has_no_bound
         ensures workers { IfOk result (λ made. IfSome made (λ crew. posts_of crew.workers.items ≡ all_posts doors.items)) }
+        ensures stop { IfOk result (λ made. IfSome made (λ crew. crew.stop ≡ stop)) }
     {
         if !(1..=96).contains(&count_workers(&doors)) {
             return Ok(None);
         }
         let workers = workers_of(alloc, doors)?;
-        Ok(Some(Crew { workers }))
+        Ok(Some(Crew { workers, stop }))
+    }
+
+    /// A crew with the same doors, workers and stop. A door is open until the last crew that has it is gone.
+    pub fn try_clone(&self, alloc: Global) -> Result<Crew, AllocError>
+        // proved workers_kept, stop_kept: The next day has the same crew
+        ensures workers_kept { IfOk result (λ crew. posts_of crew.workers.items ≡ posts_of self.now.workers.items) }
+        ensures stop_kept { IfOk result (λ crew. crew.stop ≡ self.now.stop) }
+    {
+        let mut workers = Vec::with_capacity(alloc, self.workers.len())?;
+        for worker in &self.workers {
+            workers.push(Worker {
+                role: worker.role,
+                door: Arc::try_clone(&worker.door)?,
+            })?;
+        }
+        let stop = match &self.stop {
+            Some(stop) => Some(Arc::try_clone(stop)?),
+            None => None,
+        };
+        Ok(Crew { workers, stop })
     }
 
     /// How many passes the crew needs: one for each worker.

@@ -1,5 +1,5 @@
 //! The connections of a listener, which a worker opens one after another.
-ghost use Rattle.std.specs.Prelude.{◌≡◌, IfOk, IfSome};
+ghost use Rattle.std.specs.Prelude.{◌≡◌, IfOk, IfSome, IsSome};
 ghost use Rattle.till_request.specs.Count.{RoseBy};
 ghost use Rattle.site_server.specs.Pauses.{longer_pause, reported_failure};
 
@@ -9,6 +9,7 @@ use crate::notices::{Notices, SessionFailure};
 use crate::paced::PacedIn;
 use crate::shared_door::SharedDoor;
 use crate::silence::IdleLimitedReader;
+use crate::stop::Stop;
 use crate::stream::Stream;
 use line_session::{Doors, Ended, SessionFault};
 use std::sync::Wait;
@@ -43,6 +44,7 @@ pub struct SocketDoors<'a, R: Wait + Clock, N: Notices> {
     role: Role,
     pass: u32,
     idle_seconds: u32,
+    stop: Option<&'a Stop>,
     asked: u64,
     /// How many milliseconds the worker waited after the last failure; 0 if a connection was opened since then.
     pause: u64,
@@ -80,12 +82,14 @@ impl<'a, R: Wait + Clock, N: Notices> SocketDoors<'a, R, N> {
         role: Role,
         pass: u32,
         idle_seconds: u32,
+        stop: Option<&'a Stop>,
     ) -> SocketDoors<'a, R, N>
         // proved door, role, pass, idle: It keeps the door, role, pass and limit
         ensures door { result.door.now ≡ door.now }
         ensures role { result.role ≡ role }
         ensures pass { result.pass ≡ pass }
         ensures idle { result.idle_seconds ≡ idle_seconds }
+        ensures stop { result.stop ≡ stop }
         // proved asked, pause: No door is asked for yet
         ensures asked { result.asked ≡ 0 }
         ensures pause { result.pause ≡ 0 }
@@ -97,6 +101,7 @@ impl<'a, R: Wait + Clock, N: Notices> SocketDoors<'a, R, N> {
             role,
             pass,
             idle_seconds,
+            stop,
             asked: 0,
             pause: 0,
             current: None,
@@ -155,6 +160,7 @@ impl<'a, R: Wait + Clock, N: Notices> SocketDoors<'a, R, N> {
         ensures role { self.new.role ≡ self.old.role }
         ensures pass { self.new.pass ≡ self.old.pass }
         ensures idle { self.new.idle_seconds ≡ self.old.idle_seconds }
+        ensures stop { self.new.stop ≡ self.old.stop }
         ensures door { self.new.door.now ≡ self.old.door.now }
     {
         if self.pause == 0 {
@@ -196,9 +202,11 @@ impl<'a, R: Wait + Clock, N: Notices> Doors for SocketDoors<'a, R, N> {
         × (after.role ≡ before.role) × (after.pass ≡ before.pass) × (after.idle_seconds ≡ before.idle_seconds)
         × (after.door.now ≡ before.door.now) };
 
-    ghost reported = { λ doors outcome. IfSome (reported_failure outcome) (λ failure. N.failure_reported doors.role
-        doors.pass failure)
-        × N.end_reported doors.role doors.pass };
+    ghost may_close = { λ doors. IsSome doors.stop };
+
+    ghost reported = { λ before _ _ outcome after. IfSome (reported_failure outcome) (λ failure. N.failure_reported
+        before.role before.pass failure)
+        × N.end_reported before.role before.pass × (after ≡ before) };
 
     ghost stray_reported = { λ doors. N.stray_reported doors.role doors.pass };
 
@@ -219,6 +227,13 @@ impl<'a, R: Wait + Clock, N: Notices> Doors for SocketDoors<'a, R, N> {
         }
     }
 
+    fn are_closed(&self) -> bool {
+        match self.stop {
+            Some(stop) => stop.is_asked(),
+            None => false,
+        }
+    }
+
     // The block that is read ahead can have the next line too. False where the door has a bound, since the line may
     // have to wait, and no answer is to wait with it.
     fn has_buffered_line(&self, input: &Self::In) -> bool {
@@ -229,7 +244,12 @@ impl<'a, R: Wait + Clock, N: Notices> Doors for SocketDoors<'a, R, N> {
         self.notices.met_stray(self.role, self.pass);
     }
 
-    fn ended(&self, outcome: &Result<Ended, SessionFault>) {
+    fn ended(
+        &mut self,
+        _input: Self::In,
+        _output: Self::Out,
+        outcome: &Result<Ended, SessionFault>,
+    ) {
         self.report(outcome);
         self.drain_if_needed(outcome);
         self.notices.disconnected(self.role, self.pass);

@@ -6,6 +6,7 @@ ghost use Rattle.site_server.specs.Tasks.{opened_by};
 use crate::crew::Worker;
 use crate::group_sync::Release;
 use crate::notices::Notices;
+use crate::shift::Shift;
 use crate::starting::ThreadCounts;
 use crate::tasks::WorkerTask;
 use crate::workers::Workers;
@@ -21,7 +22,7 @@ use std::time::Clock;
 struct WorkerPromise<L: SiteLedger, J: Journal> {
     task: Snapshot<(Pass<L>, Worker)>,
     day: u32,
-    connections: Option<u32>,
+    shift: Shift,
     journal: PhantomData<J>,
 }
 
@@ -31,7 +32,7 @@ impl<L: SiteLedger, J: Journal> Promise<Option<(Pass<L>, u64)>> for WorkerPromis
     ghost use Rattle.site_server.specs.Tasks.{opened_by};
 
     ghost kept_by = { λ promise done. MayRunWorker (opened_by L.config L.parts L.base L.taken) J.may_fail promise.day
-        promise.connections (Some promise.task.value) done };
+        promise.shift (Some promise.task.value) done };
 }
 
 /// Runs these tasks, the last one first; `threads` counts the threads of those behind them. When all have been asked for,
@@ -52,7 +53,7 @@ fn run_each<
     threads: ThreadCounts,
 ) -> bool
     ensures { IsTrue result → RunEach (opened_by L.config L.parts L.base L.taken) J.may_fail workers.now.day
-        workers.now.connections (map (λ p. p.waiting) tasks.old) (map (λ p. p.done) tasks.new) }
+        workers.now.shift (map (λ p. p.waiting) tasks.old) (map (λ p. p.done) tasks.new) }
 {
     let Some((task, rest)) = tasks.split_last_mut() else {
         workers.start(threads);
@@ -65,12 +66,12 @@ fn run_each<
     let promise = WorkerPromise::<L, J> {
         task: Snapshot::of(&own),
         day: workers.day,
-        connections: workers.connections,
+        shift: workers.shift,
         journal: PhantomData,
     };
     let run = move || -> Option<(Pass<L>, u64)>
         ensures { MayRunWorker (opened_by L.config L.parts L.base L.taken) J.may_fail workers.entry.now.day
-            workers.entry.now.connections (Some own) result }
+            workers.entry.now.shift (Some own) result }
     { workers.work(own) };
     match scope.spawn_with(promise, run) {
         Ok(thread) => {
@@ -99,14 +100,14 @@ pub fn run_in_threads<
 >(workers: &Workers<'_, L, J, N, A, R>, tasks: Vec<WorkerTask<L>>) -> Option<Vec<WorkerTask<L>>>
     // proved: It gives the tasks back only where each ran | half_of_the_tasks_run
     ensures { IfSome result (λ done. RunEach (opened_by L.config L.parts L.base L.taken) J.may_fail workers.now.day
-        workers.now.connections (map (λ p. p.waiting) tasks.items) (map (λ p. p.done) done.items)) }
+        workers.now.shift (map (λ p. p.waiting) tasks.items) (map (λ p. p.done) done.items)) }
 {
     thread::scope(
         thread::scope_env(),
         workers.rt,
         move |scope| -> Option<Vec<WorkerTask<L>>>
             ensures { IfSome result (λ done. RunEach (opened_by L.config L.parts L.base L.taken) J.may_fail
-                workers.entry.now.day workers.entry.now.connections (map (λ p. p.waiting) tasks.items)
+                workers.entry.now.day workers.entry.now.shift (map (λ p. p.waiting) tasks.items)
                 (map (λ p. p.done) done.items)) }
         {
             let mut tasks = tasks;

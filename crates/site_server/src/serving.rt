@@ -1,5 +1,5 @@
 //! Serves a site: runs the workers of its crew on threads, and closes the site when all of them have ended.
-ghost use Rattle.std.specs.Prelude.{◌≡◌, ◌<◌, ◌≤◌, ◌^◌, [], IfErr, IfOk, IfSome, IsErrAnd, None, Some, length, map, vec_capacity};
+ghost use Rattle.std.specs.Prelude.{◌≡◌, ◌≤◌, [], IfErr, IfOk, IfSome, IsErrAnd, None, Some, length, map, vec_capacity};
 ghost use Rattle.site_lock.specs.Closing.{ClosesSince};
 ghost use Rattle.site_server.specs.Plans.{plan_of};
 ghost use Rattle.site_server.specs.Ending.{IsServed, NeverServes, RefusesWithFault, ServingFails, RunsAllTasks, fault_of_close};
@@ -10,7 +10,9 @@ use crate::crew::Crew;
 use crate::group_sync::Release;
 use crate::notices::Notices;
 use crate::running::run_in_threads;
+use crate::shift::Shift;
 use crate::starting::StartGate;
+use crate::stop::Stop;
 use crate::tasks::{WorkerTask, collect_passes, tasks_of};
 use crate::watcher::Watcher;
 use crate::workers::Workers;
@@ -19,8 +21,8 @@ use site_core::{Config, Site, Watched};
 use site_lock::{CloseRefusal, Forecourt, ForecourtBuilder, Journal, NoJournal, Pass, SiteLedger};
 use std::alloc::{AllocError, Global};
 use std::marker::Brand;
-use std::sync::Wait;
 use std::sync::ledger::Blank;
+use std::sync::{Arc, Wait};
 use std::thread;
 use std::thread::Threads;
 use std::time::Clock;
@@ -34,7 +36,7 @@ pub struct Serving<J: Journal = NoJournal> {
     /// The number of the day, from 1, which a look tells.
     pub day: u32,
     /// How many connections each worker serves; one that can't be opened counts too. `None` is without end: then the
-    /// site is never closed.
+    /// site is closed only if it is asked to stop.
     pub connections: Option<u32>,
     /// For how many seconds a peer may send nothing, or take no bytes of an answer. 0 is no limit.
     pub idle_seconds: u32,
@@ -56,7 +58,7 @@ pub struct Served<J: Journal = NoJournal> {
     /// The site, closed.
     pub site: Site,
     pub journal: J,
-    /// How many sessions ended without a `SessionFault`.
+    /// How many sessions ended without a `SessionFault`, at most 2^64 - 1.
     pub clean: u64,
 }
 
@@ -96,6 +98,7 @@ struct Prepared<L: SiteLedger> {
     tasks: Vec<WorkerTask<L>>,
     /// Memory for the passes that the workers give back.
     room: Vec<Pass<L>>,
+    stop: Option<Arc<Stop>>,
 }
 
 fn prepare<L: SiteLedger>(
@@ -114,14 +117,17 @@ fn prepare<L: SiteLedger>(
     ensures taken { IfOk result (λ p. p.builder.taken ≡ L.taken) }
     ensures tasks { IfOk result (λ p. AreWaiting crew.workers.items (map (λ q. q.waiting) p.tasks.items)) }
     ensures room { IfOk result (λ p. (p.room.items ≡ []) × (length p.tasks.items ≤ vec_capacity p.room)) }
+    ensures stop { IfOk result (λ p. p.stop ≡ crew.stop) }
 {
     let room = Vec::with_capacity(alloc, crew.passes() as usize)?;
     let (builder, passes) = ForecourtBuilder::new(alloc, config, crew.passes(), blank)?;
-    let tasks = tasks_of(alloc, passes, crew.workers)?;
+    let Crew { workers, stop } = crew;
+    let tasks = tasks_of(alloc, passes, workers)?;
     Ok(Prepared {
         builder,
         tasks,
         room,
+        stop,
     })
 }
 
@@ -158,13 +164,6 @@ fn close<L: SiteLedger, J: Journal, R: Wait>(
     }
 }
 
-/// A law, by the range of `u32`.
-fn prove_few(connections: Option<u32>)
-    ensures { IfSome connections (λ number. number < 2 ^ 32) }
-{
-    if let Some(_number) = connections {}
-}
-
 /// What all workers gave back.
 #[derive(Drop)]
 struct Returned<L: SiteLedger> {
@@ -189,10 +188,9 @@ fn work_all<
     requires waiting { HasCrew (map (λ p. p.waiting) tasks.items) }
     requires room { (passes.items ≡ []) × (length tasks.items ≤ vec_capacity passes) }
     requires opened { workers.now.forecourt ≡ opened_by L.config L.parts L.base L.taken }
-    ensures { IfSome result (λ r. RunsAllTasks workers.now.forecourt J.may_fail workers.now.day workers.now.connections
+    ensures { IfSome result (λ r. RunsAllTasks workers.now.forecourt J.may_fail workers.now.day workers.now.shift
         (map (λ p. p.waiting) tasks.items) r.passes.items r.clean) }
 {
-    prove_few(workers.connections);
     let done = run_in_threads(workers, tasks);
     watcher.leave();
     let mut done = done?;
@@ -202,8 +200,9 @@ fn work_all<
 
 impl<J: Journal + Send> Serving<J> {
     /// Serves the site, and then closes it. Each entry's line is passed to the journal before the entry is answered,
-    /// and the answer is sent once `release` allows it. A listener is closed when the last of its workers ends. If
-    /// `connections` is `None`, this returns only if nothing was served.
+    /// and the answer is sent once `release` allows it. A listener is closed when the last of its workers ends, unless
+    /// another crew has it. If `connections` is `None`, and the crew can't be asked to stop, this returns only if
+    /// nothing was served.
     pub fn run<
         N: Notices + Sync,
         A: Release + Sync,
@@ -228,7 +227,7 @@ impl<J: Journal + Send> Serving<J> {
         ensures memory { IfErr result
             (λ unclosed. unclosed.why ≡ ServeFault.OutOfMemory → unclosed.back ≡ Some (self.watched, self.journal)) }
         // proved: Without end it doesn't return
-        ensures endless { self.connections ≡ None
+        ensures endless { self.connections ≡ None → self.crew.stop ≡ None
             → IsErrAnd result (λ unclosed. NeverServes unclosed.why) }
     {
         let blank = Blank::new(u64::from(self.crew.passes()));
@@ -261,7 +260,7 @@ impl<J: Journal + Send> Serving<J> {
         ensures err { IfErr result (λ unclosed. ServingFails (plan_of J.written J.may_fail self) unclosed.why) }
         ensures memory { IfErr result
             (λ unclosed. unclosed.why ≡ ServeFault.OutOfMemory → unclosed.back ≡ Some (self.watched, self.journal)) }
-        ensures endless { self.connections ≡ None
+        ensures endless { self.connections ≡ None → self.crew.stop ≡ None
             → IsErrAnd result (λ unclosed. NeverServes unclosed.why) }
     {
         let Serving {
@@ -285,6 +284,10 @@ impl<J: Journal + Send> Serving<J> {
             watcher,
         } = outside;
         let (tasks, room) = (prepared.tasks, prepared.room);
+        let shift = Shift {
+            connections,
+            may_stop: prepared.stop.is_some(),
+        };
         let workers = Workers {
             rt,
             alloc,
@@ -294,8 +297,9 @@ impl<J: Journal + Send> Serving<J> {
             gate: StartGate::new(),
             ready_entries,
             day,
-            connections,
+            shift,
             idle_seconds,
+            stop: prepared.stop,
         };
         let (_, returned) = thread::join(
             rt,
@@ -305,7 +309,7 @@ impl<J: Journal + Send> Serving<J> {
                 requires room { (room.items ≡ []) × (length tasks.items ≤ vec_capacity room) }
                 requires opened { workers.forecourt ≡ opened_by L.config L.parts L.base L.taken }
                 ensures { IfSome result (λ r. RunsAllTasks workers.entry.forecourt J.may_fail workers.entry.day
-                    workers.entry.connections (map (λ p. p.waiting) tasks.items) r.passes.items r.clean) }
+                    workers.entry.shift (map (λ p. p.waiting) tasks.items) r.passes.items r.clean) }
             { work_all(&workers, tasks, room, watcher) },
         );
         let Some(returned) = returned else {

@@ -1,5 +1,5 @@
 //! The tasks of the workers' threads: what each worker starts with, and what it returns.
-ghost use Rattle.std.specs.Prelude.{◌≡◌, ◌++◌, ◌∷◌, ◌+◌, ◌^◌, ◌<◌, ◌≤◌, [], IfOk, Some, length, map};
+ghost use Rattle.std.specs.Prelude.{◌≡◌, ◌++◌, ◌∷◌, ◌+◌, ◌-◌, ◌^◌, ◌≤◌, [], IfOk, Some, length, map, min};
 ghost use Rattle.std.specs.Prelude.{vec_capacity, vec_len};
 ghost use Rattle.std.specs.List.{zip};
 ghost use Rattle.site_server.specs.Collecting.{collected, clean_at, clean_in};
@@ -52,16 +52,15 @@ fn collect_pass<L: SiteLedger>(task: &mut WorkerTask<L>, passes: &mut Vec<Pass<L
 }
 
 /// Moves the passes of all finished tasks into `passes`. Returns how many of their sessions ended without a
-/// `SessionFault`.
+/// `SessionFault`, at most 2^64 - 1.
 pub fn collect_passes<L: SiteLedger>(tasks: &mut [WorkerTask<L>], passes: &mut Vec<Pass<L>>) -> u64
-    requires room { vec_len passes.old + length tasks.old ≤ vec_capacity passes.old }
-    requires few { clean_in (map (λ p. p.done) tasks.old) < 2 ^ 64 }
+    requires { vec_len passes.old + length tasks.old ≤ vec_capacity passes.old }
     ensures items { passes.new.items ≡ passes.old.items ++ collected (map (λ p. p.done) tasks.old) }
-    ensures clean { result ≡ clean_in (map (λ p. p.done) tasks.old) }
+    ensures clean { result ≡ min (clean_in (map (λ p. p.done) tasks.old)) (2 ^ 64 - 1) }
 {
     let Some((task, rest)) = tasks.split_first_mut() else {
         return 0;
     };
     let clean = collect_pass(task, passes);
-    clean + collect_passes(rest, passes)
+    clean.saturating_add(collect_passes(rest, passes))
 }

@@ -1,5 +1,5 @@
 //! What the workers of a served site share, and how a worker does its task.
-ghost use Rattle.std.specs.Prelude.{◌≡◌, Some};
+ghost use Rattle.std.specs.Prelude.{◌≡◌, Some, is_some, true};
 ghost use Rattle.site_server.specs.Collecting.{MayRunWorker};
 ghost use Rattle.site_server.specs.Tasks.{Worked, opened_by};
 
@@ -7,12 +7,14 @@ use crate::crew::Worker;
 use crate::doors::SocketDoors;
 use crate::group_sync::{HeldDoors, Release};
 use crate::notices::Notices;
+use crate::shift::Shift;
 use crate::starting::{StartGate, ThreadCounts};
+use crate::stop::Stop;
 use line_session::serving::worker;
 use line_session::{Doors, MachineClock};
 use site_lock::{Forecourt, Journal, Pass, PassDesk, SiteLedger, Straight};
 use std::alloc::Global;
-use std::sync::Wait;
+use std::sync::{Arc, Wait};
 use std::time::Clock;
 use till_request::Role;
 
@@ -27,8 +29,11 @@ pub struct Workers<'a, L: SiteLedger, J: Journal, N: Notices, A: Release, R: Wai
     pub ready_entries: usize,
     /// The number of the day, from 1.
     pub day: u32,
-    pub connections: Option<u32>,
+    pub shift: Shift,
     pub idle_seconds: u32,
+    /// Asks the workers to stop.
+    pub stop: Option<Arc<Stop>>,
+    ghost stops: { shift.may_stop ≡ is_some stop },
 }
 
 impl<L: SiteLedger, J: Journal, N: Notices, A: Release, R: Wait + Clock> Workers<
@@ -51,10 +56,10 @@ impl<L: SiteLedger, J: Journal, N: Notices, A: Release, R: Wait + Clock> Workers
     }
 
     /// Waits at the gate, and then serves the worker's connections. Returns the pass, and how many sessions ended
-    /// without a `SessionFault`; `None` if the site isn't served.
+    /// without a `SessionFault`, at most 2^64 - 1; `None` if the site isn't served.
     pub fn work(&self, task: (Pass<L>, Worker)) -> Option<(Pass<L>, u64)>
         ensures { MayRunWorker (opened_by L.config L.parts L.base L.taken) J.may_fail self.now.day
-            self.now.connections (Some task) result }
+            self.now.shift (Some task) result }
     {
         let (pass, worker) = task;
         if !self.gate.wait(self.rt) {
@@ -68,11 +73,9 @@ impl<L: SiteLedger, J: Journal, N: Notices, A: Release, R: Wait + Clock> Workers
             role,
             number,
             self.idle_seconds,
+            self.stop(),
         );
-        let Some(connections) = self.connections else {
-            self.serve_without_end(pass, role, doors)
-        };
-        let done = self.serve(pass, role, doors, connections);
+        let done = self.serve(pass, role, doors);
         self.notices.left(role, number);
         Some(done)
     }
@@ -85,14 +88,19 @@ impl<L: SiteLedger, J: Journal, N: Notices, A: Release, R: Wait + Clock> Workers
         PassDesk::new(self.rt, self.alloc, &self.forecourt, pass, gate, self.day)
     }
 
-    fn serve<S: Doors + Drop>(
-        &self,
-        pass: Pass<L>,
-        role: Role,
-        doors: S,
-        connections: u32,
-    ) -> (Pass<L>, u64)
-        ensures worked { Worked (opened_by L.config L.parts L.base L.taken) J.may_fail self.now.day role connections
+    fn stop(&self) -> Option<&Stop>
+        ensures { is_some result ≡ self.now.shift.may_stop }
+    {
+        match &self.stop {
+            Some(stop) => Some(stop),
+            None => None,
+        }
+    }
+
+    /// Serves a shift at these doors.
+    fn serve<S: Doors + Drop>(&self, pass: Pass<L>, role: Role, doors: S) -> (Pass<L>, u64)
+        requires closes { S.may_close doors → self.now.shift.may_stop ≡ true }
+        ensures worked { Worked (opened_by L.config L.parts L.base L.taken) J.may_fail self.now.day role self.now.shift
             result.1 pass result.0 }
         ensures id { result.0.id ≡ pass.id }
     {
@@ -102,33 +110,14 @@ impl<L: SiteLedger, J: Journal, N: Notices, A: Release, R: Wait + Clock> Workers
         };
         let mut clock = MachineClock::new(self.rt);
         let mut desk = self.desk(pass);
-        let clean = worker(
-            self.alloc,
-            role,
-            &mut doors,
-            &mut clock,
-            &mut desk,
-            connections,
-        );
-        (desk.into_pass(), clean)
-    }
-
-    fn serve_without_end<S: Doors + Drop>(&self, pass: Pass<L>, role: Role, doors: S) -> ! {
-        let mut doors = HeldDoors {
-            doors,
-            release: self.release,
-        };
-        let mut clock = MachineClock::new(self.rt);
-        let mut desk = self.desk(pass);
+        let most = self.shift.connections.unwrap_or(u32::MAX);
+        let mut clean = 0u64;
         for _round in self.rt.forever() {
-            let _clean = worker(
-                self.alloc,
-                role,
-                &mut doors,
-                &mut clock,
-                &mut desk,
-                u32::MAX,
-            );
+            let more = worker(self.alloc, role, &mut doors, &mut clock, &mut desk, most);
+            clean = clean.saturating_add(more);
+            if self.shift.connections.is_some() || doors.are_closed() {
+                return (desk.into_pass(), clean);
+            }
         }
         unreachable!()
     }

@@ -45,13 +45,20 @@ impl<'a, A: Release, S: Doors> Doors for HeldDoors<'a, A, S> {
 
     ghost fails = { λ before after. S.fails before.doors after.doors };
 
-    ghost reported = { λ doors outcome. ReportsHeld A.journal_synced A.failed (S.reported doors.doors) outcome };
+    ghost may_close = { λ doors. S.may_close doors.doors };
+
+    ghost reported = { λ before i o outcome after. ReportsHeld A.journal_synced A.failed
+        (λ last. S.reported before.doors i o.output last after.doors) outcome };
 
     ghost stray_reported = { λ doors. S.stray_reported doors.doors };
 
     fn next(&mut self) -> Result<(Self::In, Self::Out), DeviceFault> {
         let (input, output) = self.doors.next()?;
         Ok((input, HeldOut::new(output, self.release)))
+    }
+
+    fn are_closed(&self) -> bool {
+        self.doors.are_closed()
     }
 
     fn has_buffered_line(&self, input: &Self::In) -> bool {
@@ -62,8 +69,8 @@ impl<'a, A: Release, S: Doors> Doors for HeldDoors<'a, A, S> {
         self.doors.met_stray();
     }
 
-    fn ended(&self, outcome: &Result<Ended, SessionFault>) {
+    fn ended(&mut self, input: Self::In, output: Self::Out, outcome: &Result<Ended, SessionFault>) {
         let reported = outcome_to_report(self.release, *outcome);
-        self.doors.ended(&reported);
+        self.doors.ended(input, output.output, &reported);
     }
 }

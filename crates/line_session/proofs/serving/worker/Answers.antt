@@ -25,13 +25,15 @@ loop-preserved g c =
           spent = ran.ensures.reads.3;
           stopped = ran.ensures.stopped;
         },
-        c.ended.ensures,
+        c.ended.ensures.told,
       ) c.one_if_good-clean.ensures.counted;
       few = search rules;
+      closes = λ may. c.loop.invariant.closes (c.in-Ok.ensures.closes (c.ended.ensures.closes may));
     }
 
 pub loop-preserved-in_default : goal.loop-preserved-in_default
 loop-preserved-in_default g c = record {
   serves = serves_unopened _ _ _ _ _ _ _ _ _ c.loop.invariant.serves (c.in_default.ensures.err, refl);
   few = search rules;
+  closes = λ may. c.loop.invariant.closes (c.in_default.ensures.closes may);
 }

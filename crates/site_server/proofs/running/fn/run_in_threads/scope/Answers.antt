@@ -10,5 +10,5 @@ returns-then-run_each g c =
     grind (arith, common_steps, c.as_mut_slice.ensures.value, c.as_mut_slice.ensures.len, c.run_each.auto.tasks, c.captures.tasks.ok) in
     let first : c.as_mut_slice.result.now ≡ c.captures.tasks.items = search rules in
     rw same (subst (λ l. RunEach (opened_by g.L.SiteLedger.config g.L.Ledger.parts g.L.SiteLedger.base g.L.SiteLedger.taken) g.J.Journal.may_fail
-    c.captures.workers.now.day c.captures.workers.now.connections (map (λ t. t.waiting) l)
+    c.captures.workers.now.day c.captures.workers.now.shift (map (λ t. t.waiting) l)
     (map (λ t. t.done) c.run_each.new.tasks)) first (c.run_each.ensures (search rules)))
