@@ -1,4 +1,5 @@
 pub mod Apart
+pub mod Calendar
 pub mod Counts
 pub mod Faults
 pub mod Fitting
@@ -7,6 +8,7 @@ pub mod Numerals
 pub mod OneSpelling
 pub mod Out
 pub mod Parted
+pub mod Periods
 pub mod Pieces
 pub mod Short
 pub mod Spelled

@@ -1,6 +1,7 @@
 pub mod Answer
 pub mod Blocks
 pub mod Count
+pub mod Dates
 pub mod Devices
 pub mod Gives
 pub mod Grammar

@@ -2,7 +2,7 @@
 -- line is the word `look`, what it looks at and, for some of these, a point. Everybody may look; but the dispensers of
 -- some points see only those points. A line that has a form, but that isn't one of its door's own, is a bad line, or is
 -- told that it is of another door. The answer to a look names the number of the entries that the site has.
-use Rattle.std.specs.Prelude.{◌≡◌, ◌↔◌, ◌&&◌, not, nat_lt, ℕ, List, [], ◌∷◌, ◌++◌, length, drop, codes, Bool, true, false, Result, Ok, Err, find, is_some, if◌then◌else◌}
+use Rattle.std.specs.Prelude.{◌≡◌, ◌↔◌, ◌&&◌, not, nat_lt, ℕ, List, [], ◌∷◌, ◌++◌, length, drop, codes, Bool, true, false, Option, Some, None, Result, Ok, Err, find, is_some, if◌then◌else◌}
 use Rattle.std.specs.Fmt.{decimal}
 use Rattle.std.specs.List.{flat_map}
 use Rattle.std.specs.Str.{bytes_eq}
@@ -19,7 +19,9 @@ use Rattle.till_request.specs.declared.look.Asked.TheVariants as asks
 use Rattle.till_request.specs.declared.look.Seen.{Seen}
 use Rattle.till_request.specs.declared.look.Seen.TheVariants as sees
 use Rattle.till_request.specs.declared.look.Sight.{Sight}
+use Rattle.till_request.specs.declared.dates.Date.{Date}
 use Rattle.till_request.specs.Answer.{reply_text}
+use Rattle.till_request.specs.Dates.{date_of, date_text}
 use Rattle.till_request.specs.Grammar.{◌>>=◌, act_of_words, all_forms, is_one_of, is_some_word, line_read, number, suits, words}
 
 -- the first word is `look`
@@ -117,9 +119,18 @@ abbrev pub rows_text : List (List ℕ) → List ℕ
 rows_text [] = codes "none"
 rows_text (row ∷ rows) = spread (codes "; ") numbers_text (row ∷ rows)
 
+-- a date behind a space
+abbrev pub date_behind : Option Date → List ℕ
+date_behind None = []
+date_behind (Some date) = codes " " ++ date_text date
+
+-- a day by its number, and by the date of the moment of its first entry, where there is one
+abbrev pub day_text : ℕ → ℕ → List ℕ
+day_text number since = codes "day " ++ (decimal number ++ date_behind (date_of since))
+
 -- what was seen, in words
 abbrev pub seen_text : Seen → List ℕ
-seen_text (sees.Day day) = codes "day " ++ decimal day
+seen_text (sees.Day number since) = day_text number since
 seen_text (sees.Reply reply) = reply_text reply
 seen_text (sees.Prices prices) = codes "prices " ++ numbers_text prices
 seen_text (sees.Unpaid rows) = codes "unpaid " ++ rows_text rows.items

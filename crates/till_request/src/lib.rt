@@ -5,6 +5,7 @@
 mod act;
 mod answer;
 mod block;
+pub mod dates;
 mod device;
 pub mod devices;
 pub mod form;
@@ -19,6 +20,7 @@ pub mod write;
 
 pub use act::{Act, Answer, Bytes, LineFault, Reply, Request, Role, Stray};
 pub use block::Block;
+pub use dates::Date;
 pub use device::{DeviceFault, LineIn, LineOut};
 pub use form::{AmountVerb, Form, PointVerb, ReportVerb, RequestByForm, TransactionVerb};
 pub use grammar::LINE_WORDS;

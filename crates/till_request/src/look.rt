@@ -2,14 +2,16 @@
 ghost use Rattle.std.specs.Prelude.{◌≡◌, ◌≢◌, ◌++◌, Err, OnOk, codes, decimal, drop, map};
 ghost use Rattle.std.specs.List.{flat_map};
 ghost use Rattle.till_request.specs.Answer.{reply_text};
+ghost use Rattle.till_request.specs.Dates.{date_of};
 ghost use Rattle.till_request.specs.Gives.{Gives};
 ghost use Rattle.till_request.specs.Grammar.{IsLoad, words as words_of};
 ghost use Rattle.till_request.specs.Looks.{AsksForActs, fault_told, has_some_form, is_look, is_some_look, line_asked};
 ghost use Rattle.till_request.specs.Looks.{look_asked, look_of_point, look_of_word, look_of_words, look_within};
 ghost use Rattle.till_request.specs.Looks.{tells_stray, words_answered, words_asked};
-ghost use Rattle.till_request.specs.Looks.{numbers_text, rows_text, seen_text, sight_line, spread};
+ghost use Rattle.till_request.specs.Looks.{date_behind, day_text, numbers_text, rows_text, seen_text, sight_line, spread};
 
 use crate::act::{Act, LineFault, Reply, Role, Stray};
+use crate::dates::{date_of, date_text};
 use crate::form::form_of;
 use crate::grammar::{LINE_WORDS, is_one_of, parse_words};
 use crate::line::LINE_BYTES;
@@ -43,8 +45,12 @@ pub enum Asked {
 /// What a look answers with.
 #[derive(Drop)]
 pub enum Seen {
-    /// The number of the day, from 1.
-    Day(u32),
+    Day {
+        /// From 1.
+        number: u32,
+        /// The moment of its first entry, in seconds since the start of 1970 in UTC; 0 if there is none.
+        since: u64,
+    },
     /// A point, as a till's `show` is answered, or the refusal of that.
     Reply(Reply),
     /// Of products 1 to 8, in thousandths of the currency per litre, 0 for none.
@@ -319,11 +325,23 @@ fn put_reply_text(text: &mut Vec<u8>, reply: &Reply) -> Result<(), AllocError>
     }
 }
 
-fn put_day(text: &mut Vec<u8>, day: u32) -> Result<(), AllocError>
-    ensures { OnOk result (text.new.items ≡ text.old.items ++ (codes "day " ++ decimal day)) }
+/// Appends the date of a moment behind a space, if there is one.
+fn put_date_behind(text: &mut Vec<u8>, moment: u64) -> Result<(), AllocError>
+    ensures { OnOk result (text.new.items ≡ text.old.items ++ date_behind (date_of moment)) }
+{
+    let Some(date) = date_of(moment) else {
+        return Ok(());
+    };
+    text.push(b' ')?;
+    text.extend_from_slice(&date_text(date))
+}
+
+fn put_day(text: &mut Vec<u8>, number: u32, since: u64) -> Result<(), AllocError>
+    ensures { OnOk result (text.new.items ≡ text.old.items ++ day_text number since) }
 {
     text.extend_from_slice(b"day ")?;
-    put_number(text, u64::from(day))
+    put_number(text, u64::from(number))?;
+    put_date_behind(text, since)
 }
 
 fn put_named_rows<const N: usize>(
@@ -341,7 +359,7 @@ fn put_seen(text: &mut Vec<u8>, seen: &Seen) -> Result<(), AllocError>
     ensures { OnOk result (text.new.items ≡ text.old.items ++ seen_text seen.now) }
 {
     match seen {
-        Seen::Day(day) => put_day(text, *day),
+        Seen::Day { number, since } => put_day(text, *number, *since),
         Seen::Reply(reply) => put_reply_text(text, reply),
         Seen::Prices(prices) => put_prices(text, prices),
         Seen::Unpaid(rows) => put_named_rows(text, b"unpaid ", rows),
