@@ -17,7 +17,7 @@ use Rattle.till_request.specs.declared.look.LookAt.{LookAt}
 use Rattle.till_request.specs.declared.look.Seen.{Seen}
 use Rattle.till_request.specs.declared.look.Seen.TheVariants as seen
 use Rattle.till_request.specs.Answer.{answer_line, reply_text}
-use Rattle.till_request.specs.Looks.{numbers_text, rows_text, seen_text}
+use Rattle.till_request.specs.Looks.{day_text, numbers_text, rows_text, seen_text}
 use Rattle.site_core.specs.Sights.{SeenValue, day_is, reply_is, prices_are, unpaid_rows, rule_rows, counter_rows, seen_value}
 use Rattle.site_core.specs.Site.{SiteValue}
 use Rattle.line_session.specs.ReadSizes.{IsOutOfMemoryText, IsDetermined}
@@ -117,7 +117,7 @@ act_alike old moment (acts.Load slot mask layout bytes) a b new other h k p q = 
 
 -- What a look shows as text.
 abbrev shown_text : SeenValue → List ℕ
-shown_text (day_is day) = codes "day " ++ decimal day
+shown_text (day_is number since) = day_text number since
 shown_text (reply_is reply) = reply_text reply
 shown_text (prices_are prices) = codes "prices " ++ numbers_text prices
 shown_text (unpaid_rows rows) = codes "unpaid " ++ rows_text rows
@@ -125,7 +125,7 @@ shown_text (rule_rows rows) = codes "rules " ++ rows_text rows
 shown_text (counter_rows rows) = codes "counters " ++ rows_text rows
 
 by_value : (shown : Seen) → seen_text shown ≡ shown_text (seen_value shown)
-by_value (seen.Day day) = refl
+by_value (seen.Day number since) = refl
 by_value (seen.Reply reply) = refl
 by_value (seen.Prices prices) = refl
 by_value (seen.Unpaid rows) = refl

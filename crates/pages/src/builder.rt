@@ -1,9 +1,11 @@
 //! Builds a text piece by piece, such as a page in HTML or a text of metrics.
 use crate::escaped::Escaped;
 use crate::names::refusal_name;
-use crate::texts::{Date, Text, date_of};
+use crate::texts::Text;
 use std::alloc::{AllocError, Global};
 use std::fmt::Display;
+use till_request::Date;
+use till_request::dates::date_of;
 
 /// Builds a text, such as a page in HTML. That memory ran out is told by `finish` alone.
 #[derive(Drop)]
@@ -148,13 +150,12 @@ impl TextBuilder {
     }
 
     fn moment(&mut self, moment: u64) {
-        if moment == 0 {
+        let Some(Date { year, month, day }) = date_of(moment) else {
             return self.add("not told");
-        }
-        let Date { year, month, day } = date_of(moment);
-        self.number(year);
-        self.two("-", month);
-        self.two("-", day);
+        };
+        self.number(u64::from(year));
+        self.two("-", u64::from(month));
+        self.two("-", u64::from(day));
         self.add(" ");
         self.clock(moment);
         self.two(":", moment % 60);

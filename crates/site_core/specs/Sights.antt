@@ -1,6 +1,6 @@
 -- Definitions: what a look shows of a site (source: this project). In these definitions a history has its newest entry
 -- first. Points are numbered from 1, slots and counters from 0.
-use Rattle.std.specs.Prelude.{ℕ, List, [], ◌∷◌, length, map, Option, Some, None, option_map, nat_lt, if◌then◌else◌}
+use Rattle.std.specs.Prelude.{ℕ, ◌==◌, List, [], ◌∷◌, find, length, map, reverse, Option, Some, None, option_map, nat_lt, not, if◌then◌else◌}
 use Rattle.std.specs.List.{filter_map, flat_map, range_with_len}
 use Rattle.bpf_model.specs.Machine.{Counters, counter}
 use Rattle.fuelling_point.specs.declared.kinds.Transaction.{Transaction}
@@ -19,7 +19,7 @@ use Rattle.site_core.specs.Step.{show_reply}
 
 -- What a look shows.
 pub data SeenValue : Type 0 where
-  day_is : ℕ → SeenValue
+  day_is : ℕ → ℕ → SeenValue
   reply_is : Reply → SeenValue
   prices_are : List ℕ → SeenValue
   unpaid_rows : List (List ℕ) → SeenValue
@@ -28,7 +28,7 @@ pub data SeenValue : Type 0 where
 
 -- What an answer to a look shows.
 abbrev pub seen_value : Seen → SeenValue
-seen_value (seen.Day day) = day_is day
+seen_value (seen.Day number since) = day_is number since
 seen_value (seen.Reply reply) = reply_is reply
 seen_value (seen.Prices prices) = prices_are prices
 seen_value (seen.Unpaid rows) = unpaid_rows rows.items
@@ -62,9 +62,13 @@ counter_row counters c =
     let cell = counter counters c in
     if nat_lt 0 cell.1 then Some (c ∷ cell.0 ∷ cell.1 ∷ []) else None
 
+-- The moment of the first entry that bears one; 0 if none does. These entries have the oldest first.
+abbrev pub first_moment : List Entry → ℕ
+first_moment history = elim (find (λ e. not (e.moment == 0)) history) [ None ↦ 0 | Some e ↦ e.moment ]
+
 -- What a look shows of a site with this configuration, history and state, on the day of this number.
 abbrev pub seen_at : ConfigValue → List Entry → SiteState → ℕ → LookAt → SeenValue
-seen_at config past s day look.Day = day_is day
+seen_at config past s day look.Day = day_is day (first_moment (reverse past))
 seen_at config past s day (look.Point n) = reply_is (show_reply s n)
 seen_at config past s day look.Prices = prices_are s.prices
 seen_at config past s day (look.Unpaid n) = unpaid_seen s n

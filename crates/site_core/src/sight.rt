@@ -1,18 +1,18 @@
 //! What a look shows of a site. It takes no memory, since it is made under a lock: rows go into room made beforehand.
 
-ghost use Rattle.std.specs.Prelude.{◌≡◌, ◌+◌, ◌++◌, ◌<◌, ◌≤◌, List, [], IfOk, map, option_map, option_to_list};
+ghost use Rattle.std.specs.Prelude.{◌≡◌, ◌==◌, ◌+◌, ◌++◌, ◌<◌, ◌≤◌, List, [], IfOk, map, not, option_map, option_to_list, reverse};
 ghost use Rattle.std.specs.Prelude.{vec_capacity, vec_len};
-ghost use Rattle.std.specs.List.{filter_map, range_with_len};
+ghost use Rattle.std.specs.List.{filter_map, find, range_with_len};
 ghost use Rattle.bpf_model.specs.declared.limits.TheConstants.{COUNTERS};
-ghost use Rattle.decision_journal.specs.declared.entries.Entry.{Entry};
 ghost use Rattle.site_core.specs.Limits.{ConfigValue};
 ghost use Rattle.site_core.specs.SightRooms.{most_rows, most_unpaid, slot_row};
-ghost use Rattle.site_core.specs.Sights.{all_unpaid, counter_row, seen_at, seen_value, unpaid_row, unpaid_seen};
+ghost use Rattle.site_core.specs.Sights.{all_unpaid, counter_row, first_moment, seen_at, seen_value, unpaid_row, unpaid_seen};
 ghost use Rattle.site_core.specs.SiteInvariant.{Agrees};
 
 use crate::replies::NO_SUCH_POINT;
 use crate::slots::{SLOTS, Slots};
 use crate::station::Station;
+use decision_journal::Entry;
 use fuelling_point::{Point, Transaction};
 use std::alloc::{AllocError, Global};
 use std::marker::Model;
@@ -73,15 +73,37 @@ fn most_rows(look: LookAt) -> usize
     }
 }
 
-/// Returns what the look shows that the room was made for.
+fn first_with_moment(history: &[Entry]) -> Option<&Entry>
+    ensures { option_map (λ entry. entry.now) result ≡ find (λ e. not (e.moment == 0)) history.now }
+{
+    history.iter().find(|entry| entry.moment != 0)
+}
+
+/// The moment of the first entry that bears one; 0 if none does.
+pub(crate) fn first_moment(history: &[Entry]) -> u64
+    ensures { result ≡ first_moment history.now }
+{
+    match first_with_moment(history) {
+        Some(entry) => entry.moment,
+        None => 0,
+    }
+}
+
+/// Returns what the look shows that the room was made for, on the day of this number, whose first moment is `since`.
 #[tactic(auto, unfolding(crate::specs::State::view_of))]
-pub(crate) fn show(station: &Station, slots: &Slots, room: SightRoom, day: u32) -> Seen
+pub(crate) fn show(
+    station: &Station,
+    slots: &Slots,
+    room: SightRoom,
+    number: u32,
+    since: u64,
+) -> Seen
     ensures { (config : ConfigValue) (past : List Entry) → Agrees config slots.now past
-        → seen_value result ≡ seen_at config past station.now day room }
+        → first_moment (reverse past) ≡ since → seen_value result ≡ seen_at config past station.now number room }
 {
     let SightRoom { look, unpaid, rows } = room;
     match look {
-        LookAt::Day => Seen::Day(day),
+        LookAt::Day => Seen::Day { number, since },
         LookAt::Point(n) => Seen::Reply(station.show(n)),
         LookAt::Prices => Seen::Prices(station.view().prices),
         LookAt::Unpaid(n) => unpaid_at(station, n, unpaid),

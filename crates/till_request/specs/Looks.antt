@@ -12,6 +12,7 @@ use Rattle.till_request.specs.declared.act.Role.TheVariants as roles
 use Rattle.till_request.specs.declared.act.Stray.TheVariants as strays
 use Rattle.till_request.specs.declared.act.LineFault.{LineFault}
 use Rattle.till_request.specs.declared.act.LineFault.TheVariants.{TooLong, BadLine, OtherDoor}
+use Rattle.till_request.specs.declared.dates.Date.{Date}
 use Rattle.till_request.specs.declared.look.LookAt.{LookAt}
 use Rattle.till_request.specs.declared.look.LookAt.TheVariants as looks
 use Rattle.till_request.specs.declared.look.Asked.{Asked}
@@ -19,7 +20,6 @@ use Rattle.till_request.specs.declared.look.Asked.TheVariants as asks
 use Rattle.till_request.specs.declared.look.Seen.{Seen}
 use Rattle.till_request.specs.declared.look.Seen.TheVariants as sees
 use Rattle.till_request.specs.declared.look.Sight.{Sight}
-use Rattle.till_request.specs.declared.dates.Date.{Date}
 use Rattle.till_request.specs.Answer.{reply_text}
 use Rattle.till_request.specs.Dates.{date_of, date_text}
 use Rattle.till_request.specs.Grammar.{◌>>=◌, act_of_words, all_forms, is_one_of, is_some_word, line_read, number, suits, words}
@@ -124,7 +124,7 @@ abbrev pub date_behind : Option Date → List ℕ
 date_behind None = []
 date_behind (Some date) = codes " " ++ date_text date
 
--- a day by its number, and by the date of the moment of its first entry, where there is one
+-- a day by its number, and by the date of its first moment, where it has one
 abbrev pub day_text : ℕ → ℕ → List ℕ
 day_text number since = codes "day " ++ (decimal number ++ date_behind (date_of since))
 

@@ -48,7 +48,7 @@ pub enum Seen {
     Day {
         /// From 1.
         number: u32,
-        /// The moment of its first entry, in seconds since the start of 1970 in UTC; 0 if there is none.
+        /// The moment of its first entry that bears one, in seconds since the start of 1970; 0 if none does.
         since: u64,
     },
     /// A point, as a till's `show` is answered, or the refusal of that.
