@@ -48,12 +48,7 @@ pub trait Doors {
         ensures { stray_reported self.now };
 
     /// Takes back a connection, with how the session over it ended.
-    fn ended(
-        &mut self,
-        input: Self::In,
-        output: Self::Out,
-        outcome: &Result<Ended, SessionFault>,
-    )
+    fn ended(&mut self, input: Self::In, output: Self::Out, outcome: &Result<Ended, SessionFault>)
         ensures told { reported self.old input output outcome.now self.new }
         ensures closes { may_close self.new → may_close self.old };
 }

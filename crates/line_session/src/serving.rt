@@ -31,11 +31,12 @@ pub fn worker<S: Doors, C: Clock, D: Desk>(
     connections: u32,
 ) -> u64
     // proved: It serves connections one after another | worker_serves_one_connection_too_few
-    ensures { Serves
+    ensures serves { Serves
         (ServesConnection S.opens S.fails S.reported
         (RunsDeskSession D.step D.looks C.tick role S.In.remaining S.In.reads S.In.failures S.Out.written
         S.Out.failures))
         S.may_close connections result doors.old (clock.old, desk.old) doors.new (clock.new, desk.new) }
+    ensures closes { S.may_close doors.new → S.may_close doors.old }
 {
     let mut clean = 0;
     for _ in 0..connections {

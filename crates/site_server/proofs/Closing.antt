@@ -9,7 +9,7 @@ use Rattle.site_lock.specs.Passes.{PassView, Opened, new_pass}
 use Rattle.site_lock.specs.Merge.{AreAll}
 use Rattle.site_server.specs.Plans.{Plan}
 use Rattle.site_server.specs.Ending.{HaveWorked, IsReturned, IsServed, RefusesWithFault, ServingFails, StaysUnclosed}
-use Rattle.site_server.specs.Tasks.{IsShift}
+use Rattle.site_server.specs.Tasks.{Fills}
 use Rattle.site_server.specs.declared.serving.ServeFault.{ServeFault}
 use Rattle.site_server.specs.declared.serving.ServeFault.TheVariants.{OutOfMemory, TooFewThreads, Journal, NotClosed}
 
@@ -52,8 +52,7 @@ module _ (plan : Plan) (from : Opened) (same : from ≡ plan.from) (passes : Lis
 -- workers that serve without end, and can't be asked to stop, never return their passes
 never_returned : (plan : Plan) (k : ℕ) (done : PassView × ℕ) → plan.shift.connections ≡ None → plan.shift.may_stop ≡ false → IsReturned plan k done → ⊥
 never_returned plan k done endless stays h =
-    let P : Option ℕ → Type 0 = λ connections. IsShift (record { connections = connections; may_stop = plan.shift.may_stop }) (length h.3.outcomes) in
-    let stops : plan.shift.may_stop ≡ true = subst P endless h.3.all_asked in
+    let stops : plan.shift.may_stop ≡ true = subst (λ (c : Option ℕ). Fills c plan.shift.may_stop (length h.3.outcomes)) endless h.3.all_asked in
     absurd (cc)
 
 pub never_return : (plan : Plan) (workers : ℕ) (passes : List PassView) (clean : ℕ) → plan.shift.connections ≡ None → plan.shift.may_stop ≡ false → 0 < workers

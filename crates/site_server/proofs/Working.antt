@@ -17,10 +17,11 @@ use Rattle.line_session.specs.declared.answering.SessionFault.TheVariants as ses
 use Rattle.line_session.specs.declared.line_handler.HandlerError.{HandlerError}
 use Rattle.line_session.specs.declared.line_handler.HandlerError.TheVariants as error
 use Rattle.line_session.specs.Session.{AnswersAsked, LineAnswer, desk_answers, desk_drops, desk_needs_memory}
-use Rattle.line_session.specs.Serving.{Outcome, RunsDeskSession, ServesConnection, ServesConnections}
+use Rattle.line_session.specs.Serving.{Outcome, RunsDeskSession, ServesConnection, ServesConnections, Serves}
 use Rattle.line_session.specs.Answering.{AnswersAll, DropsFor, DropsNext, StopsAtDoor}
 use Rattle.site_lock.specs.Desks.{DeskAnswers, DeskLooks}
 use Rattle.site_lock.specs.Passes.{PassView, Opened}
+use Rattle.site_server.proofs.Rounds.{Round}
 use Rattle.site_server.specs.Tasks.{pass_answers, pass_looks, gives_any_moment, pass_answers_line, pass_drops_line, DropsOne, AnswersConnection, AnswersConnections}
 
 -- `last` is the moment that the clock gave last, `pass` the desk's pass, and `told` the number of the day that it tells.
@@ -106,10 +107,18 @@ module _ {C P : Type 0} (last : C → ℕ) (pass : P → PassView) (told : P →
           end.1,
         )
 
-    pub all_talked : (outcomes : List Outcome) (d : D) (s : C × P) (e : D) (t : C × P) → told_by s ≡ day
+    all_talked : (outcomes : List Outcome) (d : D) (s : C × P) (e : D) (t : C × P) → told_by s ≡ day
         → ServesConnections (ServesConnection opens fails reported (RunsDeskSession step looks tick role remaining reads read_failures written write_failures)) outcomes d s e t
         → AnswersConnections f may_fail day role outcomes (see s) (see t) × (told_by t ≡ day)
     all_talked [] d s e t on h = (ap see h.1, ap told_by h.1 ∙ on)
     all_talked (outcome ∷ outcomes) d s e t on h =
         let one = talked outcome d s h.0 h.1 on h.2 in
         let more = all_talked outcomes h.0 h.1 e t one.1 h.3 in ((see h.1, one.0, more.0), more.1)
+
+    -- what a round of connections did to the clock and the pass
+    pub worked : (may_close : D → Type 0) (asked clean : ℕ) (d : D) (c : C) (p : P) (e : D) (c' : C) (p' : P) → told p ≡ day
+        → Serves (ServesConnection opens fails reported (RunsDeskSession step looks tick role remaining reads read_failures written write_failures)) may_close asked clean d (c, p) e (c', p')
+        → Round f may_fail day role asked clean (may_close d) (last c, pass p) (last c', pass p') × (told p' ≡ day)
+    worked may_close asked clean d c p e c' p' on h =
+        let all = all_talked h.outcomes d (c, p) e (c', p') on h.each in
+        (record { outcomes = h.outcomes; each = all.0; counted = h.counted; most = h.most; all_asked = h.all_asked }, all.1)

@@ -1,6 +1,6 @@
 -- Definitions: the plan by which a site is served (source: this project). It says what the site starts with, and who
 -- serves it.
-use Rattle.std.specs.Prelude.{ℕ, List, Option, is_some, length}
+use Rattle.std.specs.Prelude.{ℕ, List, Option, length}
 use Rattle.till_request.specs.declared.act.Role.{Role}
 use Rattle.site_lock.specs.Passes.{Opened}
 use Rattle.site_server.specs.Crews.{roles_of}
@@ -25,5 +25,5 @@ plan_of written may_fail s = record {
   may_fail = may_fail;
   day = s.day;
   roles = roles_of s.crew.workers.items;
-  shift = record { connections = s.connections; may_stop = is_some s.crew.stop };
+  shift = record { connections = s.connections; may_stop = s.crew.may_stop };
 }

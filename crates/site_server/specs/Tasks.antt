@@ -1,6 +1,6 @@
 -- Definitions: what a worker does, described by its pass and the moment that its clock gave last (source: this
 -- project).
-use Rattle.std.specs.Prelude.{◌≡◌, ◌≤◌, ◌⊎◌, ◌-◌, ◌^◌, ℕ, List, [], ◌∷◌, length, min, Option, Some, None, Err, true, false}
+use Rattle.std.specs.Prelude.{◌≡◌, ◌≤◌, ◌⊎◌, ◌-◌, ◌^◌, ℕ, List, [], ◌∷◌, length, min, Option, Some, None, Err, Bool, true, false}
 use Rattle.std.specs.List.{AllByRecursion}
 use Rattle.till_request.specs.Line.{IsLine}
 use Rattle.till_request.specs.declared.act.Act.{Act}
@@ -74,12 +74,9 @@ AnswersConnections f may_fail day role (outcome ∷ outcomes) s s' =
 
 -- So many connections fill a shift: all of them, or fewer if the site can be asked to stop before. A shift without end
 -- ends only so.
-abbrev pub IsShift : Shift → ℕ → Type 0
-IsShift shift count =
-    elim shift.connections [
-      | None ↦ shift.may_stop ≡ true
-      | Some connections ↦ (count ≤ connections) × (shift.may_stop ≡ false → count ≡ connections)
-    ]
+abbrev pub Fills : Option ℕ → Bool → ℕ → Type 0
+Fills None may_stop count = may_stop ≡ true
+Fills (Some connections) may_stop count = (count ≤ connections) × (may_stop ≡ false → count ≡ connections)
 
 -- At a forecourt that started with `f`, on the day with the number `day`, the pass served the connections of a shift in
 -- this role. So many of them as `clean` says ended without a SessionFault, or more if it is 2^64 - 1.
@@ -87,5 +84,5 @@ pub record Worked (f : Opened) (may_fail : Type 0) (day : ℕ) (role : Role) (sh
   pub moment : ℕ
   pub outcomes : List Outcome
   pub each : AnswersConnections f may_fail day role outcomes (0, before) (moment, now)
-  pub all_asked : IsShift shift (length outcomes)
+  pub all_asked : Fills shift.connections shift.may_stop (length outcomes)
   pub counted : clean ≡ min (good outcomes) (2 ^ 64 - 1)

@@ -1,5 +1,5 @@
 //! The workers of a site: whose lines each one takes, and at which door.
-ghost use Rattle.std.specs.Prelude.{◌≡◌, ◌++◌, ◌-◌, ◌^◌, ◌<◌, ◌≤◌, ◌↔◌, IfOk, IfSome, IsSome, OnErr, length, min};
+ghost use Rattle.std.specs.Prelude.{◌≡◌, ◌++◌, ◌-◌, ◌^◌, ◌<◌, ◌≤◌, ◌↔◌, IfOk, IfSome, IsSome, OnErr, is_some, length, min};
 ghost use Rattle.site_server.specs.Crews.{IsCrew, all_posts, posts_at, posts_of};
 
 use crate::listener::Listener;
@@ -30,8 +30,8 @@ pub(crate) struct Worker {
 #[derive(Drop)]
 pub struct Crew {
     pub(crate) workers: Vec<Worker>,
-    /// Asks them to stop; `None` if nobody can.
-    pub(crate) stop: Option<Arc<Stop>>,
+    /// Whether they can be asked to stop.
+    pub may_stop: bool,
     ghost few: { IsCrew (length workers.items) },
 }
 
@@ -84,20 +84,23 @@ impl Crew {
         ensures memory { OnErr result (IsCrew (length (all_posts doors.items))) }
         // proved: Each worker has its door's bound | door_has_no_bound
         ensures workers { IfOk result (λ made. IfSome made (λ crew. posts_of crew.workers.items ≡ all_posts doors.items)) }
-        ensures stop { IfOk result (λ made. IfSome made (λ crew. crew.stop ≡ stop)) }
+        ensures stop { IfOk result (λ made. IfSome made (λ crew. crew.may_stop ≡ is_some stop)) }
     {
         if !(1..=96).contains(&count_workers(&doors)) {
             return Ok(None);
         }
         let workers = workers_of(alloc, doors)?;
-        Ok(Some(Crew { workers, stop }))
+        Ok(Some(Crew {
+            workers,
+            may_stop: stop.is_some(),
+        }))
     }
 
     /// A crew with the same doors, workers and stop. A door is open until the last crew that has it is gone.
     pub fn try_clone(&self, alloc: Global) -> Result<Crew, AllocError>
         // proved workers_kept, stop_kept: The next day has the same crew
         ensures workers_kept { IfOk result (λ crew. posts_of crew.workers.items ≡ posts_of self.now.workers.items) }
-        ensures stop_kept { IfOk result (λ crew. crew.stop ≡ self.now.stop) }
+        ensures stop_kept { IfOk result (λ crew. crew.may_stop ≡ self.now.may_stop) }
     {
         let mut workers = Vec::with_capacity(alloc, self.workers.len())?;
         for worker in &self.workers {
@@ -106,11 +109,10 @@ impl Crew {
                 door: Arc::try_clone(&worker.door)?,
             })?;
         }
-        let stop = match &self.stop {
-            Some(stop) => Some(Arc::try_clone(stop)?),
-            None => None,
-        };
-        Ok(Crew { workers, stop })
+        Ok(Crew {
+            workers,
+            may_stop: self.may_stop,
+        })
     }
 
     /// How many passes the crew needs: one for each worker.

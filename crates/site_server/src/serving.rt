@@ -1,5 +1,5 @@
 //! Serves a site: runs the workers of its crew on threads, and closes the site when all of them have ended.
-ghost use Rattle.std.specs.Prelude.{◌≡◌, ◌≤◌, [], IfErr, IfOk, IfSome, IsErrAnd, None, Some, length, map, vec_capacity};
+ghost use Rattle.std.specs.Prelude.{◌≡◌, ◌≤◌, [], IfErr, IfOk, IfSome, IsErrAnd, None, Some, false, length, map, vec_capacity};
 ghost use Rattle.site_lock.specs.Closing.{ClosesSince};
 ghost use Rattle.site_server.specs.Plans.{plan_of};
 ghost use Rattle.site_server.specs.Ending.{IsServed, NeverServes, RefusesWithFault, ServingFails, RunsAllTasks, fault_of_close};
@@ -12,7 +12,6 @@ use crate::notices::Notices;
 use crate::running::run_in_threads;
 use crate::shift::Shift;
 use crate::starting::StartGate;
-use crate::stop::Stop;
 use crate::tasks::{WorkerTask, collect_passes, tasks_of};
 use crate::watcher::Watcher;
 use crate::workers::Workers;
@@ -21,8 +20,8 @@ use site_core::{Config, Site, Watched};
 use site_lock::{CloseRefusal, Forecourt, ForecourtBuilder, Journal, NoJournal, Pass, SiteLedger};
 use std::alloc::{AllocError, Global};
 use std::marker::Brand;
+use std::sync::Wait;
 use std::sync::ledger::Blank;
-use std::sync::{Arc, Wait};
 use std::thread;
 use std::thread::Threads;
 use std::time::Clock;
@@ -98,7 +97,6 @@ struct Prepared<L: SiteLedger> {
     tasks: Vec<WorkerTask<L>>,
     /// Memory for the passes that the workers give back.
     room: Vec<Pass<L>>,
-    stop: Option<Arc<Stop>>,
 }
 
 fn prepare<L: SiteLedger>(
@@ -117,17 +115,14 @@ fn prepare<L: SiteLedger>(
     ensures taken { IfOk result (λ p. p.builder.taken ≡ L.taken) }
     ensures tasks { IfOk result (λ p. AreWaiting crew.workers.items (map (λ q. q.waiting) p.tasks.items)) }
     ensures room { IfOk result (λ p. (p.room.items ≡ []) × (length p.tasks.items ≤ vec_capacity p.room)) }
-    ensures stop { IfOk result (λ p. p.stop ≡ crew.stop) }
 {
     let room = Vec::with_capacity(alloc, crew.passes() as usize)?;
     let (builder, passes) = ForecourtBuilder::new(alloc, config, crew.passes(), blank)?;
-    let Crew { workers, stop } = crew;
-    let tasks = tasks_of(alloc, passes, workers)?;
+    let tasks = tasks_of(alloc, passes, crew.workers)?;
     Ok(Prepared {
         builder,
         tasks,
         room,
-        stop,
     })
 }
 
@@ -227,7 +222,7 @@ impl<J: Journal + Send> Serving<J> {
         ensures memory { IfErr result
             (λ unclosed. unclosed.why ≡ ServeFault.OutOfMemory → unclosed.back ≡ Some (self.watched, self.journal)) }
         // proved: Without end it doesn't return
-        ensures endless { self.connections ≡ None → self.crew.stop ≡ None
+        ensures endless { self.connections ≡ None → self.crew.may_stop ≡ false
             → IsErrAnd result (λ unclosed. NeverServes unclosed.why) }
     {
         let blank = Blank::new(u64::from(self.crew.passes()));
@@ -260,7 +255,7 @@ impl<J: Journal + Send> Serving<J> {
         ensures err { IfErr result (λ unclosed. ServingFails (plan_of J.written J.may_fail self) unclosed.why) }
         ensures memory { IfErr result
             (λ unclosed. unclosed.why ≡ ServeFault.OutOfMemory → unclosed.back ≡ Some (self.watched, self.journal)) }
-        ensures endless { self.connections ≡ None → self.crew.stop ≡ None
+        ensures endless { self.connections ≡ None → self.crew.may_stop ≡ false
             → IsErrAnd result (λ unclosed. NeverServes unclosed.why) }
     {
         let Serving {
@@ -272,6 +267,10 @@ impl<J: Journal + Send> Serving<J> {
             idle_seconds,
             ready_entries,
         } = self;
+        let shift = Shift {
+            connections,
+            may_stop: crew.may_stop,
+        };
         let Ok(prepared) = prepare::<L>(alloc, watched.site().config(), blank, crew) else {
             return Err(Unclosed {
                 why: ServeFault::OutOfMemory,
@@ -284,10 +283,6 @@ impl<J: Journal + Send> Serving<J> {
             watcher,
         } = outside;
         let (tasks, room) = (prepared.tasks, prepared.room);
-        let shift = Shift {
-            connections,
-            may_stop: prepared.stop.is_some(),
-        };
         let workers = Workers {
             rt,
             alloc,
@@ -299,7 +294,6 @@ impl<J: Journal + Send> Serving<J> {
             day,
             shift,
             idle_seconds,
-            stop: prepared.stop,
         };
         let (_, returned) = thread::join(
             rt,

@@ -4,6 +4,7 @@ ghost use Rattle.std.specs.Duration.{as_nanos};
 
 use crate::listener::Listener;
 use crate::pace::{Bucket, Turn};
+use crate::stop::Stop;
 use std::sync::{Mutex, Wait};
 use std::thread;
 use std::time::{Clock, Duration};
@@ -32,6 +33,10 @@ impl SharedDoor {
             lines_per_second,
             bucket: Mutex::new(Bucket::full(lines_per_second)),
         }
+    }
+
+    pub(crate) fn stop(&self) -> Option<&Stop> {
+        None
     }
 
     /// Asks to read a line at `now`, in microseconds on the machine's clock.

@@ -1,5 +1,5 @@
 //! What the workers of a served site share, and how a worker does its task.
-ghost use Rattle.std.specs.Prelude.{◌≡◌, Some, is_some, true};
+ghost use Rattle.std.specs.Prelude.{◌≡◌, IsSome, Some, true};
 ghost use Rattle.site_server.specs.Collecting.{MayRunWorker};
 ghost use Rattle.site_server.specs.Tasks.{Worked, opened_by};
 
@@ -7,6 +7,7 @@ use crate::crew::Worker;
 use crate::doors::SocketDoors;
 use crate::group_sync::{HeldDoors, Release};
 use crate::notices::Notices;
+use crate::shared_door::SharedDoor;
 use crate::shift::Shift;
 use crate::starting::{StartGate, ThreadCounts};
 use crate::stop::Stop;
@@ -14,7 +15,7 @@ use line_session::serving::worker;
 use line_session::{Doors, MachineClock};
 use site_lock::{Forecourt, Journal, Pass, PassDesk, SiteLedger, Straight};
 use std::alloc::Global;
-use std::sync::{Arc, Wait};
+use std::sync::Wait;
 use std::time::Clock;
 use till_request::Role;
 
@@ -31,9 +32,6 @@ pub struct Workers<'a, L: SiteLedger, J: Journal, N: Notices, A: Release, R: Wai
     pub day: u32,
     pub shift: Shift,
     pub idle_seconds: u32,
-    /// Asks the workers to stop.
-    pub stop: Option<Arc<Stop>>,
-    ghost stops: { shift.may_stop ≡ is_some stop },
 }
 
 impl<L: SiteLedger, J: Journal, N: Notices, A: Release, R: Wait + Clock> Workers<
@@ -73,7 +71,7 @@ impl<L: SiteLedger, J: Journal, N: Notices, A: Release, R: Wait + Clock> Workers
             role,
             number,
             self.idle_seconds,
-            self.stop(),
+            self.stop_at(&worker.door),
         );
         let done = self.serve(pass, role, doors);
         self.notices.left(role, number);
@@ -88,12 +86,13 @@ impl<L: SiteLedger, J: Journal, N: Notices, A: Release, R: Wait + Clock> Workers
         PassDesk::new(self.rt, self.alloc, &self.forecourt, pass, gate, self.day)
     }
 
-    fn stop(&self) -> Option<&Stop>
-        ensures { is_some result ≡ self.now.shift.may_stop }
+    fn stop_at<'b>(&self, door: &'b SharedDoor) -> Option<&'b Stop>
+        ensures { IsSome result → self.now.shift.may_stop ≡ true }
     {
-        match &self.stop {
-            Some(stop) => Some(stop),
-            None => None,
+        if self.shift.may_stop {
+            door.stop()
+        } else {
+            None
         }
     }
 
