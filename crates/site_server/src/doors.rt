@@ -89,7 +89,7 @@ impl<'a, R: Wait + Clock, N: Notices> SocketDoors<'a, R, N> {
         ensures role { result.role ≡ role }
         ensures pass { result.pass ≡ pass }
         ensures idle { result.idle_seconds ≡ idle_seconds }
-        ensures stop { result.stop ≡ stop }
+        ensures stop { result.stop ≡ stop.entry }
         // proved asked, pause: No door is asked for yet
         ensures asked { result.asked ≡ 0 }
         ensures pause { result.pause ≡ 0 }

@@ -2,32 +2,19 @@ use Rattle.std.proofs.Common.{rules, arith, ◌≡◌, ap, map, length}
 use Rattle.std.proofs.lemmas.List.{length-map}
 use Rattle.site_server.specs.Collecting.{RunEach}
 use Rattle.site_server.specs.Tasks.{opened_by}
-use Rattle.site_server.proofs.Collecting.{all_done, are_all, have_worked, well_few}
+use Rattle.site_server.proofs.Collecting.{all_done, are_all, have_worked}
 use Rattle.site_server.proofs.serving.work_all.Goals as goal
 
-pub collect_passes-clean-requires-clause-few : goal.collect_passes-clean-requires-clause-few
-collect_passes-clean-requires-clause-few g c =
+pub collect_passes-clean-requires : goal.collect_passes-clean-requires
+collect_passes-clean-requires g c =
     let w = c.args.workers.now in
     let own = opened_by g.L.SiteLedger.config g.L.Ledger.parts g.L.SiteLedger.base g.L.SiteLedger.taken in
     let may_fail = g.J.Journal.may_fail in
     let crew = c.requires.waiting in
     let waiting = map (λ p. p.waiting) c.args.tasks.items in
     let done = map (λ p. p.done) c.as_mut_slice.result.now in
-    let ran : RunEach own may_fail w.day w.connections waiting done = search rules in
-    let all = all_done may_fail w.day crew.0 w.connections w.forecourt own c.requires.opened waiting done crew.2 ran in
-    let few = well_few may_fail w.day crew.0 w.connections w.forecourt own c.requires.opened 0 done all.0 c.prove_few.ensures in
-    omega (arith, few, all.1, crew.1)
-
-pub collect_passes-clean-requires-clause-room : goal.collect_passes-clean-requires-clause-room
-collect_passes-clean-requires-clause-room g c =
-    let w = c.args.workers.now in
-    let own = opened_by g.L.SiteLedger.config g.L.Ledger.parts g.L.SiteLedger.base g.L.SiteLedger.taken in
-    let may_fail = g.J.Journal.may_fail in
-    let crew = c.requires.waiting in
-    let waiting = map (λ p. p.waiting) c.args.tasks.items in
-    let done = map (λ p. p.done) c.as_mut_slice.result.now in
-    let ran : RunEach own may_fail w.day w.connections waiting done = search rules in
-    let all = all_done may_fail w.day crew.0 w.connections w.forecourt own c.requires.opened waiting done crew.2 ran in
+    let ran : RunEach own may_fail w.day w.shift waiting done = search rules in
+    let all = all_done may_fail w.day crew.0 w.shift w.forecourt own c.requires.opened waiting done crew.2 ran in
     let none : length c.args.passes.items ≡ 0 = ap length c.requires.room.0 in
     omega (
       arith,
@@ -47,13 +34,13 @@ returns g c = λ workers are.
     let may_fail = g.J.Journal.may_fail in
     let waiting = map (λ p. p.waiting) c.args.tasks.items in
     let done = map (λ p. p.done) c.as_mut_slice.result.now in
-    let ran : RunEach own may_fail w.day w.connections waiting done = search rules in
-    let all = all_done may_fail w.day workers w.connections w.forecourt own c.requires.opened waiting done are ran in
-    let worked = have_worked may_fail w.day workers w.connections w.forecourt own c.requires.opened done c.args.passes.items
+    let ran : RunEach own may_fail w.day w.shift waiting done = search rules in
+    let all = all_done may_fail w.day workers w.shift w.forecourt own c.requires.opened waiting done are ran in
+    let worked = have_worked may_fail w.day workers w.shift w.forecourt own c.requires.opened done c.args.passes.items
     c.collect_passes-clean.new.passes.items c.collect_passes-clean.result all.0 c.requires.room.0
     c.collect_passes-clean.ensures.items c.collect_passes-clean.ensures.clean in (
       worked,
-      are_all may_fail w.day workers w.connections w.forecourt own c.requires.opened (length workers) done c.args.passes.items
+      are_all may_fail w.day workers w.shift w.forecourt own c.requires.opened (length workers) done c.args.passes.items
           c.collect_passes-clean.new.passes.items c.collect_passes-clean.result all.0 all.1 c.requires.room.0
           c.collect_passes-clean.ensures.items worked,
     )

@@ -14,8 +14,8 @@ returns-clause-ok g c =
     let plan = plan_of g.J.Journal.written g.J.Journal.may_fail s in
     let back = c.in-Some.returned in
     let opened : c.open.result ≡ plan.from = search rules in
-    let off : RunsAllTasks c.open.result plan.may_fail s.day s.connections (map (λ p. p.waiting) c.in-Ok.prepared.tasks.items) back.passes.items back.clean = search rules in
-    let all = subst (λ (o : Opened). RunsAllTasks o plan.may_fail s.day s.connections (map (λ p. p.waiting) c.in-Ok.prepared.tasks.items) back.passes.items back.clean) opened off
+    let off : RunsAllTasks c.open.result plan.may_fail s.day plan.shift (map (λ p. p.waiting) c.in-Ok.prepared.tasks.items) back.passes.items back.clean = search rules in
+    let all = subst (λ (o : Opened). RunsAllTasks o plan.may_fail s.day plan.shift (map (λ p. p.waiting) c.in-Ok.prepared.tasks.items) back.passes.items back.clean) opened off
     s.crew.workers.items c.in-Ok.ensures.tasks in
     if_ok_both _ _ _ c.close.result
     (λ served is h. leaves_so plan c.open.result opened back.passes.items back.clean all.0 served.clean served.site (g.J.Journal.written served.journal) is h)
@@ -27,23 +27,23 @@ returns-clause-err g c =
     let plan = plan_of g.J.Journal.written g.J.Journal.may_fail s in
     let back = c.in-Some.returned in
     let opened : c.open.result ≡ plan.from = search rules in
-    let off : RunsAllTasks c.open.result plan.may_fail s.day s.connections (map (λ p. p.waiting) c.in-Ok.prepared.tasks.items) back.passes.items back.clean = search rules in
-    let all = subst (λ (o : Opened). RunsAllTasks o plan.may_fail s.day s.connections (map (λ p. p.waiting) c.in-Ok.prepared.tasks.items) back.passes.items back.clean) opened off
+    let off : RunsAllTasks c.open.result plan.may_fail s.day plan.shift (map (λ p. p.waiting) c.in-Ok.prepared.tasks.items) back.passes.items back.clean = search rules in
+    let all = subst (λ (o : Opened). RunsAllTasks o plan.may_fail s.day plan.shift (map (λ p. p.waiting) c.in-Ok.prepared.tasks.items) back.passes.items back.clean) opened off
     s.crew.workers.items c.in-Ok.ensures.tasks in
     if_err_more _ _ c.close.result
     (λ unclosed h. spoils_so plan c.open.result opened back.passes.items back.clean all.0 unclosed.why all.1 h)
     c.close.ensures.err
 
 pub returns-clause-endless : goal.returns-clause-endless
-returns-clause-endless g c = λ endless.
+returns-clause-endless g c = λ endless stays.
     let s = c.args.self in
     let plan = plan_of g.J.Journal.written g.J.Journal.may_fail s in
     let back = c.in-Some.returned in
     let opened : c.open.result ≡ plan.from = search rules in
-    let off : RunsAllTasks c.open.result plan.may_fail s.day s.connections (map (λ p. p.waiting) c.in-Ok.prepared.tasks.items) back.passes.items back.clean = search rules in
-    let all = subst (λ (o : Opened). RunsAllTasks o plan.may_fail s.day s.connections (map (λ p. p.waiting) c.in-Ok.prepared.tasks.items) back.passes.items back.clean) opened off
+    let off : RunsAllTasks c.open.result plan.may_fail s.day plan.shift (map (λ p. p.waiting) c.in-Ok.prepared.tasks.items) back.passes.items back.clean = search rules in
+    let all = subst (λ (o : Opened). RunsAllTasks o plan.may_fail s.day plan.shift (map (λ p. p.waiting) c.in-Ok.prepared.tasks.items) back.passes.items back.clean) opened off
     s.crew.workers.items c.in-Ok.ensures.tasks in
-    absurd (never_return plan (length s.crew.workers.items) back.passes.items back.clean endless s.crew.few.0 all.0 all.1)
+    absurd (never_return plan (length s.crew.workers.items) back.passes.items back.clean endless stays s.crew.few.0 all.0 all.1)
 
 -- nothing is left behind, whichever is kept
 quiet : {D : Type 0} (b : Bool) → Quiet {D = D} (if_kept b unseen unseen)
