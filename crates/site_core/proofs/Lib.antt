@@ -8,6 +8,7 @@ pub mod SiteInvariant
 pub mod Running
 pub mod Shown
 pub mod Sights
+pub mod Since
 pub mod Complete
 pub mod Grants
 pub mod Filling

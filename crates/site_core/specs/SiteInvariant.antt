@@ -13,6 +13,7 @@ use Rattle.site_core.specs.SlotsValue.{SlotsValue}
 use Rattle.site_core.specs.Slots.{version_in, since_in, no_versions, opened_slots}
 use Rattle.bpf_model.specs.Program.{ProgramText}
 use Rattle.site_core.specs.Limits.{ConfigValue}
+use Rattle.site_core.specs.Sights.{first_moment}
 use Rattle.site_core.specs.State.{SiteState}
 use Rattle.site_core.specs.Bounds.{Bounded}
 use Rattle.site_core.specs.History.{in_force, loaded_at, versions, versions_before}
@@ -46,6 +47,11 @@ pub record IsConsistent (config : ConfigValue) (history : List Entry) (state : S
   pub count : length history ≤ 1048576
   pub points : length state.points ≡ length config.points
   pub bounded : Bounded (length history) state
+
+-- What a site keeps: its parts agree, and `since` is the moment of the first entry that bears one.
+pub record IsKept (config : ConfigValue) (history : List Entry) (state : SiteState) (slots : SlotsValue) (since : ℕ) : Type 0 where
+  pub consistent : IsConsistent config history state slots
+  pub first : since ≡ first_moment history
 
 -- An act was performed as `effect` defines, on the state `old` after the entries `past`. The entry p has the act, the
 -- moment that `entered_moment` gives, and the reply and the run of the effect. `new` is the state after the effect. The
