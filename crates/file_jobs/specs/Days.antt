@@ -1,24 +1,31 @@
 -- Definitions: the names of a day's files, the days that a folder has, and how a day begins (source: this project). A
 -- file's name begins with the day's number: six digits, such as `000002`, or more if the number needs more.
 use Rattle.std.specs.Prelude.{◌≡◌, ◌≢◌, ◌⊎◌, ℕ, ◌+◌, ◌-◌, ◌==◌, ◌||◌, List, [], ◌∷◌, ◌++◌, length, codes, decimal, replicate, map, fold, min, max, nat_lt, Bool, false, true}
-use Rattle.std.specs.Prelude.{Option, Some, None, option_map, Result, Ok, bytes_eq, if◌then◌else◌}
+use Rattle.std.specs.Prelude.{Option, Some, None, option_map, unwrap_or, Result, Ok, bytes_eq, if◌then◌else◌}
 use Rattle.std.specs.List.{before_first, after_first}
 use Rattle.std.specs.Map.{lookup}
 use Rattle.std.specs.Result.{result_map_both, result_ok}
 use Rattle.till_request.specs.Grammar.{number}
 use Rattle.site_core.specs.Limits.{ConfigValue}
+use Rattle.site_core.specs.Opening.{OpeningValue}
+use Rattle.days.specs.declared.beginning.Unfit.TheVariants as unfit
+use Rattle.days.specs.declared.chain_fault.Unbegun.TheVariants as unbegun
 use Rattle.days.specs.declared.file.OpeningFile.{OpeningFile}
+use Rattle.days.specs.declared.fitting.Misfit.{Misfit}
 use Rattle.site_config.specs.Ranges.{config_of}
 use Rattle.site_config.specs.declared.fault.ConfigFault.{ConfigFault}
+use Rattle.days.specs.Breaks.{IsUnbegun}
 use Rattle.days.specs.Chain.{BeginsBy}
 use Rattle.days.specs.File.{IsOpeningFile}
-use Rattle.days.specs.Fitting.{BeginsWith}
+use Rattle.days.specs.Fitting.{BeginsWith, Fits}
+use Rattle.days.specs.Misfits.{Misfits}
 use Rattle.file_jobs.specs.declared.folder.Part.{Part}
 use Rattle.file_jobs.specs.declared.folder.Part.TheVariants as part
 use Rattle.file_jobs.specs.declared.folder.Span.{Span}
 use Rattle.file_jobs.specs.declared.memory_folder.MemoryFile.{MemoryFile}
 use Rattle.file_jobs.specs.declared.newest.DayPlan.{DayPlan}
 use Rattle.file_jobs.specs.declared.newest.DayPlan.TheVariants as plan
+use Rattle.file_jobs.specs.declared.newest.Own.{Own}
 
 abbrev pub is_written : Option (List ℕ) → Bool
 is_written None = false
@@ -110,6 +117,10 @@ IsServed folder (plan.Close n) day = (day ≡ n) ⊎ ((day ≡ n + 1) × (is_wri
 abbrev pub own_config : Option (List ℕ) → Option (Result ConfigValue ConfigFault)
 own_config file = option_map (λ text. result_map_both (λ settings. settings.config) (λ fault. fault) (config_of text)) file
 
+-- The configuration that a folder has for a day, and its text; `file` is the bytes of the day's file.
+abbrev pub IsOwn : Option (List ℕ) → Own → Type 0
+IsOwn file own = (file ≡ Some own.text.items) × (own_config file ≡ Some (Ok own.config))
+
 -- The configuration that a day keeps. A day without an entry keeps none: its journal is missing or empty.
 abbrev pub kept_config : FolderText → ℕ → Option (Result ConfigValue ConfigFault)
 kept_config folder day = if is_written (file_of folder day part.Journal) then own_config (file_of folder day part.Config) else None
@@ -119,12 +130,38 @@ abbrev pub IsConfigOf : ConfigValue → Option (Result ConfigValue ConfigFault) 
 IsConfigOf given None config = config ≡ given
 IsConfigOf given (Some own) config = own ≡ Ok config
 
--- A site goes on with day `day` of a folder, and then has the configuration `begun`: the one that the day keeps, or
--- `given`, with the day's opening in it. Day 1 begins without an opening.
-abbrev pub GoesOn : FolderText → ConfigValue → ℕ → ConfigValue → Type 0
-GoesOn folder given day begun =
-    (config : ConfigValue) × IsConfigOf given (kept_config folder day) config
-    × (day ≡ 1 → begun ≡ config) × (day ≢ 1 → BeginsBy day config (file_of folder day part.Opening) begun)
+-- A site of `config` begins day `day` of a folder, and then has the configuration `begun`. Day 1 begins without an
+-- opening.
+abbrev pub Begins : FolderText → ConfigValue → ℕ → ConfigValue → Type 0
+Begins folder config day begun =
+    (day ≡ 1 → begun ≡ config) × (day ≢ 1 → BeginsBy day config (file_of folder day part.Opening) begun)
+
+-- The opening that a folder has for a day doesn't fit `config`. Day 1 has no opening.
+abbrev pub IsUnfitting : FolderText → ConfigValue → ℕ → Type 0
+IsUnfitting folder config day =
+    (day ≢ 1)
+    × ((misfit : Misfit) × IsUnbegun day config (file_of folder day part.Opening) (unbegun.Unfit (unfit.Misfit misfit)))
+
+-- A day takes the configuration `config`. If `own` is None, it is the one that the day keeps, or `given` if it keeps
+-- none. Else it is the one that the folder has for the day, since the day keeps none and `given` doesn't fit the day's
+-- opening; `own` is its text.
+abbrev pub Takes : FolderText → ConfigValue → ℕ → Option (List ℕ) → ConfigValue → Type 0
+Takes folder given day None config = IsConfigOf given (kept_config folder day) config
+Takes folder given day (Some own) config =
+    (kept_config folder day ≡ None) × IsUnfitting folder given day × (file_of folder day part.Config ≡ Some own)
+    × (own_config (file_of folder day part.Config) ≡ Some (Ok config))
+
+-- A site goes on with day `day` of a folder, and then has the configuration `begun`.
+abbrev pub GoesOn : FolderText → ConfigValue → ℕ → Option (List ℕ) → ConfigValue → Type 0
+GoesOn folder given day own begun =
+    (config : ConfigValue) × Takes folder given day own config × Begins folder config day begun
+
+-- `next` is the text of the configuration that the folder gets for a day that begins with `opening`: `text`, that of
+-- `given`, if `given` fits the opening. Else it is `own`, the folder's text for the day before, or `text` if the folder
+-- has none.
+abbrev pub IsNextText : ConfigValue → OpeningValue → List ℕ → Option (List ℕ) → List ℕ → Type 0
+IsNextText given opening text own next =
+    (Fits given opening × (next ≡ text)) ⊎ ((misfit : Misfit) × Misfits given opening misfit × (next ≡ unwrap_or own text))
 
 -- A site with the configuration `config` begins day `day` with an opening of that day, and then has the configuration
 -- `begun`.

@@ -26,7 +26,7 @@ pub fn carry_files(rt: &HostRuntime, site: SiteFiles<'_>, journal: &str) -> Resu
     let failure = input.input.reader.failure();
     match audited_by(rt.alloc(), journal, site.is_opened(), audit, failure) {
         Ok(closed) => {
-            let (_day, text) = opening_left(rt.alloc(), journal, number, &closed)?;
+            let (_opening, text) = opening_left(rt.alloc(), journal, number, &closed)?;
             print_text(rt, &text)
         }
         Err(job_error) => Err(job_error),

@@ -1,24 +1,26 @@
 //! Closes the newest day of a station, or goes on with it.
-ghost use Rattle.std.specs.Prelude.{◌≡◌, ◌≢◌, ◌⊎◌, ◌+◌, ◌++◌, Ok, None, Some, [], false, IfOk, IfErr, IfSome, codes, is_some, option_map, string_bytes};
+ghost use Rattle.std.specs.Prelude.{◌≡◌, ◌≢◌, ◌⊎◌, ◌+◌, ◌++◌, Ok, None, Some, [], false, IfOk, IfErr, IfSome, MatchOption};
+ghost use Rattle.std.specs.Prelude.{codes, is_some, option_map, string_bytes};
 ghost use Rattle.std.specs.Fmt.{decimal};
 ghost use Rattle.file_jobs.specs.JobErrors.{Ends, EndsOrRunsOut, Refuses, Says, SaysOf, numbered_words, words_at};
 ghost use Rattle.days.specs.Chain.{BeginsBy, next_opening};
 ghost use Rattle.days.specs.Text.{opening_text};
 ghost use Rattle.days.specs.Words.{uncarried_text};
-ghost use Rattle.file_jobs.specs.Days.{day_plan, BeginsDay, FolderText, GoesOn, IsServed};
-ghost use Rattle.file_jobs.specs.Days.{IsConfigOf, file_of, is_written, kept_config, own_config, span_of};
+ghost use Rattle.file_jobs.specs.Days.{day_plan, BeginsDay, FolderText, GoesOn, IsNextText, IsOwn, IsServed, IsUnfitting, Takes};
+ghost use Rattle.file_jobs.specs.Days.{file_of, is_written, kept_config, own_config, span_of};
 
 use crate::files::text_in;
 use crate::folder::{DayFile, DayFiles, Folder, Part, Span, day_after};
 use crate::job_error::{JobError, at_file};
 use crate::messages::{Place, print_message};
 use crate::open_journals::{OpenJournal, open_to_close};
-use crate::opening::{begin_with, refuse_fault, refuse_words};
+use crate::opening::{begin_with, opening_in, refuse_fault, refuse_words};
 use crate::settings::settings_in;
 use crate::statuses::FAILED;
+use days::fitting::fitted;
 use days::writing::opening_text;
-use days::{Closed, Uncarried};
-use site_core::{Config, OpeningFault};
+use days::{Closed, Misfit, OpeningFile, Uncarried};
+use site_core::{Config, Opening, OpeningFault};
 use std::alloc::{AllocError, Global};
 use std::fmt::{self, Display};
 use std::io::Read;
@@ -30,13 +32,16 @@ pub struct DayToServe {
     pub number: u32,
     pub config: Config,
     pub is_kept: bool,
+    /// The text of the folder's configuration, if the day begins with it since the given one doesn't fit.
+    pub own: Option<Vec<u8>>,
 }
 
 /// Returns the day that a station goes on with: the newest of its folder, or day 1. If `is_new_day` and the newest day
 /// has an entry, closes that day and returns the next one.
 ///
 /// `given` is the configuration that `word` names, and `text` its text. It is for a day that has none in the folder, or
-/// no entry. Any other day keeps the folder's; if the two differ, this prints so.
+/// no entry. Any other day keeps the folder's; if the two differ, this prints so. If `given` doesn't fit the opening of
+/// a day without an entry, this prints so, and the day begins with the folder's, which a close makes sure of.
 pub fn newest_day<F: DayFiles>(
     rt: &HostRuntime,
     folder: &F,
@@ -50,50 +55,162 @@ pub fn newest_day<F: DayFiles>(
         → IfOk result (λ newest. IsServed texts (day_plan (span_of texts) is_new_day) newest.number) }
     // proved begun, kept: It goes on with what it keeps, and its opening
     ensures begun { (texts : FolderText) → F.files folder.now ≡ Some texts
-        → IfOk result (λ newest. GoesOn texts given newest.number newest.config) }
+        → IfOk result (λ newest.
+        GoesOn texts given newest.number (option_map (λ v. v.items) newest.own) newest.config) }
     ensures kept { (texts : FolderText) → F.files folder.now ≡ Some texts
         → IfOk result (λ newest. newest.is_kept ≡ is_some (kept_config texts newest.number)) }
     // proved first, later, refused: A day begins as given, unless the folder says how
     ensures first { IfOk result (λ newest. newest.is_kept ≡ false → newest.number ≡ 1 → newest.config ≡ given) }
-    ensures later { IfOk result
-        (λ newest. newest.is_kept ≡ false → newest.number ≢ 1 → BeginsDay given newest.number newest.config) }
+    ensures later { IfOk result (λ newest. newest.is_kept ≡ false → newest.own ≡ None → newest.number ≢ 1
+        → BeginsDay given newest.number newest.config) }
     ensures refused { IfErr result (Refuses 1) }
 {
     let number = number_of(rt, folder, &given, text, is_new_day)?;
-    let (config, is_kept) = config_for(rt, folder, number, word, given)?;
+    let Taken {
+        config,
+        is_kept,
+        own,
+    } = config_for(rt, folder, number, word, given)?;
     match begin_day(rt, folder, number, config) {
         Ok(config) => Ok(DayToServe {
             number,
             config,
             is_kept,
+            own,
         }),
         Err(job_error) => Err(job_error),
     }
 }
 
-/// Returns the configuration that a day with an entry keeps in the folder, or else `given`, and whether it is the
-/// folder's.
+/// The configuration that a day takes, and what `DayToServe` says of it.
+#[derive(Drop)]
+struct Taken {
+    config: Config,
+    is_kept: bool,
+    own: Option<Vec<u8>>,
+}
+
+/// Returns the configuration that a day with an entry keeps in the folder, or else `given`, or, if that doesn't fit the
+/// day's opening, the folder's.
 fn config_for<F: DayFiles>(
     rt: &HostRuntime,
     folder: &F,
     day: u32,
     word: &str,
     given: Config,
-) -> Result<(Config, bool), JobError>
-    ensures config { (texts : FolderText) → F.files folder.now ≡ Some texts
-        → IfOk result (λ c. IsConfigOf given (kept_config texts day) c.0) }
+) -> Result<Taken, JobError>
+    ensures taken { (texts : FolderText) → F.files folder.now ≡ Some texts
+        → IfOk result (λ taken. Takes texts given day (option_map (λ v. v.items) taken.own) taken.config) }
     ensures kept { (texts : FolderText) → F.files folder.now ≡ Some texts
-        → IfOk result (λ c. c.1 ≡ is_some (kept_config texts day)) }
-    ensures given { IfOk result (λ c. c.1 ≡ false → c.0 ≡ given) }
+        → IfOk result (λ taken. taken.is_kept ≡ is_some (kept_config texts day)) }
+    ensures given { IfOk result (λ taken. taken.is_kept ≡ false → taken.own ≡ None → taken.config ≡ given) }
+    ensures first { IfOk result (λ taken. taken.is_kept ≡ false → day ≡ 1 → taken.own ≡ None) }
     ensures refused { IfErr result (Refuses 1) }
 {
     match kept_config(rt, folder, day)? {
         Some(kept) => {
             print_other_config(rt, folder.as_folder(), day, word, kept.is_same(&given))?;
-            Ok((kept, true))
+            Ok(Taken {
+                config: kept,
+                is_kept: true,
+                own: None,
+            })
         }
-        None => Ok((given, false)),
+        None => config_for_unkept(rt, folder, day, word, given),
     }
+}
+
+/// Returns `given`, or the folder's configuration for the day, if that one fits the day's opening and `given` doesn't.
+fn config_for_unkept<F: DayFiles>(
+    rt: &HostRuntime,
+    folder: &F,
+    day: u32,
+    word: &str,
+    given: Config,
+) -> Result<Taken, JobError>
+    ensures taken { (texts : FolderText) → F.files folder.now ≡ Some texts → kept_config texts day ≡ None
+        → IfOk result (λ taken. Takes texts given day (option_map (λ v. v.items) taken.own) taken.config) }
+    ensures kept { IfOk result (λ taken. taken.is_kept ≡ false) }
+    ensures given { IfOk result (λ taken. taken.own ≡ None → taken.config ≡ given) }
+    ensures first { IfOk result (λ taken. day ≡ 1 → taken.own ≡ None) }
+    ensures refused { IfErr result (Refuses 1) }
+{
+    if let Some(misfit) = misfit_of(rt, folder, day, &given)? {
+        if let Some(own) = own_that_fits(rt, folder, day)? {
+            print_misfit(rt, folder.as_folder(), day, word, misfit)?;
+            return Ok(Taken {
+                config: own.config,
+                is_kept: false,
+                own: Some(own.text),
+            });
+        }
+    }
+    Ok(Taken {
+        config: given,
+        is_kept: false,
+        own: None,
+    })
+}
+
+/// Returns why the opening that the folder has for a day doesn't fit `config`. There is no reason for day 1, which has
+/// no opening, nor for an opening that is missing or another day's, with which no day begins.
+fn misfit_of<F: DayFiles>(
+    rt: &HostRuntime,
+    folder: &F,
+    day: u32,
+    config: &Config,
+) -> Result<Option<Misfit>, JobError>
+    ensures misfit { (texts : FolderText) → F.files folder.now ≡ Some texts
+        → IfOk result (λ misfit. IfSome misfit (λ _. IsUnfitting texts config.now day)) }
+    ensures first { day ≡ 1 → result ≡ Ok None }
+    ensures refused { IfErr result (Refuses 1) }
+{
+    if day == 1 {
+        return Ok(None);
+    }
+    let Some(source) = folder.open(rt, day, Part::Opening)? else {
+        return Ok(None);
+    };
+    let path = folder.as_folder().file(rt, day, Part::Opening)?;
+    let file = opening_in(rt, &path, source)?;
+    if file.day != day {
+        return Ok(None);
+    }
+    Ok(fitted(config, file.opening).err())
+}
+
+/// Returns the configuration that the folder has for a day, if it fits the day's opening.
+fn own_that_fits<F: DayFiles>(
+    rt: &HostRuntime,
+    folder: &F,
+    day: u32,
+) -> Result<Option<Own>, JobError>
+    ensures own { (texts : FolderText) → F.files folder.now ≡ Some texts
+        → IfOk result (λ own. IfSome own (IsOwn (file_of texts day Part.Config))) }
+    ensures refused { IfErr result (Refuses 1) }
+{
+    let Some(own) = own_of(rt, folder, day)? else {
+        return Ok(None);
+    };
+    match misfit_of(rt, folder, day, &own.config)? {
+        None => Ok(Some(own)),
+        Some(_) => Ok(None),
+    }
+}
+
+fn print_misfit(
+    rt: &HostRuntime,
+    folder: Folder<'_>,
+    day: u32,
+    word: &str,
+    misfit: Misfit,
+) -> Result<(), AllocError> {
+    let path = folder.file(rt, day, Part::Config)?;
+    print_message(
+        rt,
+        &format_args!("{word} isn't taken: {misfit}; day {day} goes on with {path}"),
+    );
+    Ok(())
 }
 
 fn print_other_config(
@@ -136,11 +253,11 @@ fn day_plan(span: Option<Span>, is_new_day: bool) -> DayPlan
 
 /// Returns the number of the day that a station goes on with. Before, closes the newest day, if `is_new_day` and it has
 /// an entry.
-fn number_of<F: DayFiles>(
+fn number_of<'a, F: DayFiles>(
     rt: &HostRuntime,
     folder: &F,
-    given: &Config,
-    text: &[u8],
+    given: &'a Config,
+    text: &'a [u8],
     is_new_day: bool,
 ) -> Result<u32, JobError>
     ensures served { (texts : FolderText) → F.files folder.now ≡ Some texts
@@ -154,19 +271,27 @@ fn number_of<F: DayFiles>(
     if !is_written(rt, folder, newest)? {
         return Ok(newest);
     }
-    let (config, day) = match own_config(rt, folder, newest)? {
-        Some(own) => (own, None),
-        None => (given.copied(rt.alloc())?, Some(text)),
+    let (config, own) = match own_of(rt, folder, newest)? {
+        Some(own) => (own.config, Some(own.text)),
+        None => (given.copied(rt.alloc())?, None),
     };
-    close_day(rt, folder, newest, config, ConfigTexts { day, next: text })
+    close_day(rt, folder, newest, config, &Configs { given, text, own })
 }
 
-/// The texts of the configurations that are written into the folder as a day is closed: that of the day itself, unless
-/// the folder has it, and that of the next day.
-#[derive(Clone, Copy)]
-struct ConfigTexts<'a> {
-    day: Option<&'a [u8]>,
-    next: &'a [u8],
+/// What decides on the configurations that are written into the folder as a day is closed: the given one, its text, and
+/// the text of the folder's for that day, if it has one.
+#[derive(Drop)]
+struct Configs<'a> {
+    given: &'a Config,
+    text: &'a [u8],
+    own: Option<Vec<u8>>,
+}
+
+/// The configuration that a folder has for a day, and its text.
+#[derive(Drop)]
+struct Own {
+    config: Config,
+    text: Vec<u8>,
 }
 
 /// Returns the configuration that a folder has for a day.
@@ -179,13 +304,27 @@ pub fn own_config<F: DayFiles>(
         option_map (λ config. Ok config) own ≡ own_config (file_of texts day Part.Config)) }
     ensures refused { IfErr result (Refuses 1) }
 {
+    match own_of(rt, folder, day)? {
+        Some(own) => Ok(Some(own.config)),
+        None => Ok(None),
+    }
+}
+
+fn own_of<F: DayFiles>(rt: &HostRuntime, folder: &F, day: u32) -> Result<Option<Own>, JobError>
+    ensures own { (texts : FolderText) → F.files folder.now ≡ Some texts
+        → IfOk result (λ own. MatchOption own (file_of texts day Part.Config ≡ None) (IsOwn (file_of texts day Part.Config))) }
+    ensures refused { IfErr result (Refuses 1) }
+{
     let Some(source) = folder.open(rt, day, Part::Config)? else {
         return Ok(None);
     };
     let path = folder.as_folder().file(rt, day, Part::Config)?;
     let text = text_in(rt, &path, source)?;
     match settings_in(rt, &path, &text) {
-        Ok(settings) => Ok(Some(settings.config)),
+        Ok(settings) => Ok(Some(Own {
+            config: settings.config,
+            text,
+        })),
         Err(job_error) => Err(job_error),
     }
 }
@@ -284,7 +423,7 @@ fn close_day<F: DayFiles>(
     folder: &F,
     number: u32,
     config: Config,
-    texts: ConfigTexts<'_>,
+    configs: &Configs<'_>,
 ) -> Result<u32, JobError>
     ensures newest { IfOk result (λ newest. (newest ≡ number) ⊎ (newest ≡ number + 1)) }
     ensures refused { IfErr result (Refuses 1) }
@@ -293,17 +432,17 @@ fn close_day<F: DayFiles>(
     let config = begin_day(rt, folder, number, config)?;
     // The day's journal stays locked until the opening of the next day is written.
     let journal = open_to_close(rt, &config, &path)?;
-    finish_close(rt, folder.as_folder(), number, &journal, texts)
+    finish_close(rt, folder.as_folder(), number, &journal, configs)
 }
 
 /// Returns the day that is the newest once day `number` is closed, which it isn't without an entry: checks that the
-/// next day hasn't begun, syncs the day's journal, and writes `texts` and the next day's opening.
+/// next day hasn't begun, syncs the day's journal, and writes the days' configurations and the next day's opening.
 fn finish_close(
     rt: &HostRuntime,
     folder: Folder<'_>,
     number: u32,
     journal: &OpenJournal<'_, Closed>,
-    texts: ConfigTexts<'_>,
+    configs: &Configs<'_>,
 ) -> Result<u32, JobError>
     ensures empty { journal.now.audited.site.history ≡ [] → result ≡ Ok number }
     ensures closed { journal.now.audited.site.history ≢ [] → IfOk result (λ newest. newest ≡ number + 1) }
@@ -315,7 +454,7 @@ fn finish_close(
     }
     check_newest(rt, folder, number)?;
     at_file(rt.alloc(), journal.path, journal.file.sync_all())?;
-    begin_next_day(rt, folder, number, &journal.audited, texts)
+    begin_next_day(rt, folder, number, &journal.audited, configs)
 }
 
 /// After an error the next day hasn't begun, unless only a sync of the folder failed.
@@ -324,67 +463,82 @@ fn begin_next_day(
     folder: Folder<'_>,
     number: u32,
     closed: &Closed,
-    texts: ConfigTexts<'_>,
+    configs: &Configs<'_>,
 ) -> Result<u32, JobError>
     ensures next { IfOk result (λ next. next ≡ number + 1) }
     ensures refused { IfErr result (Refuses 1) }
 {
     let path = folder.file(rt, number, Part::Journal)?;
-    let (day, text) = opening_left(rt.alloc(), &path, number, closed)?;
-    let file = DayFile {
+    let (file, text) = opening_left(rt.alloc(), &path, number, closed)?;
+    let day = file.day;
+    let opening = DayFile {
         day,
         part: Part::Opening,
         bytes: text.as_bytes(),
     };
-    put_next_day(rt, folder, number, file, texts)?;
+    let next = DayFile {
+        day,
+        part: Part::Config,
+        bytes: next_text(configs, file.opening),
+    };
+    put_next_day(rt, folder, number, configs, [next, opening])?;
     Ok(day)
 }
 
-/// Returns the next day, and the text of the opening that day `number` leaves for it. `journal` names its journal.
+/// Returns the text of the configuration for the day that begins with `opening`.
+fn next_text<'a>(configs: &'a Configs<'_>, opening: Opening) -> &'a [u8]
+    ensures { IsNextText configs.now.given.now opening configs.now.text.now
+        (option_map (λ own. own.items) configs.now.own) result.now }
+{
+    match (fitted(configs.given, opening), &configs.own) {
+        (Err(_), Some(own)) => own,
+        (Ok(_) | Err(_), _) => configs.text,
+    }
+}
+
+/// Returns the opening that day `number` leaves for the next day, and its text. `journal` names the day's journal.
 pub fn opening_left(
     alloc: Global,
     journal: &str,
     number: u32,
     closed: &Closed,
-) -> Result<(u32, String), JobError>
-    // proved day, text: What a day leaves is written as its opening's one text
-    ensures day { IfOk result (λ next. next.0 ≡ number + 1) }
+) -> Result<(OpeningFile, String), JobError>
+    // proved left, text: What a day leaves is written as its opening's one text
+    ensures left { IfOk result (λ next. next.0 ≡ next_opening number closed.now.site) }
     ensures text { IfOk result
         (λ next. string_bytes next.1 ≡ opening_text (next_opening number closed.now.site)) }
     ensures refused { IfErr result (Refuses 1) }
 {
     match closed.opening(number) {
-        Ok(opening) => Ok((opening.day, opening_text(alloc, &opening)?)),
+        Ok(file) => {
+            let text = opening_text(alloc, &file)?;
+            Ok((file, text))
+        }
         Err(why) => Err(refuse_uncarried(alloc, journal, why)),
     }
 }
 
-/// Writes the opening last: by it the next day begins.
+/// Writes the configuration of day `number`, unless the folder has it, and then the next day's files: its configuration
+/// and, last, its opening, by which it begins.
 fn put_next_day(
     rt: &HostRuntime,
     folder: Folder<'_>,
     number: u32,
-    opening: DayFile<'_>,
-    texts: ConfigTexts<'_>,
+    configs: &Configs<'_>,
+    next: [DayFile<'_>; 2],
 ) -> Result<(), JobError>
     ensures { IfErr result (Ends 3 []) }
 {
-    let next = DayFile {
-        day: opening.day,
-        part: Part::Config,
-        bytes: texts.next,
-    };
-    match texts.day {
-        Some(bytes) => {
-            let closed = DayFile {
-                day: number,
-                part: Part::Config,
-                bytes,
-            };
-            folder.put(rt, &[closed, next, opening])
-        }
-        None => folder.put(rt, &[next, opening]),
+    let [config, opening] = next;
+    if configs.own.is_some() {
+        return folder.put(rt, &[config, opening]);
     }
+    let closed = DayFile {
+        day: number,
+        part: Part::Config,
+        bytes: configs.text,
+    };
+    folder.put(rt, &[closed, config, opening])
 }
 
 /// Checks that the next day has no opening. Where the caller has locked the journal of day `number`, no other process

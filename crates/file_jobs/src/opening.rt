@@ -78,7 +78,7 @@ pub fn opening_bytes<R: Read + Drop>(
     bytes_in(rt, word, source, MOST_OPENING, &"over 262,144 bytes")
 }
 
-fn opening_in<R: Read + Drop>(
+pub(crate) fn opening_in<R: Read + Drop>(
     rt: &HostRuntime,
     word: &str,
     source: R,

@@ -29,6 +29,7 @@ use till_request::{Act, Bytes, Reply, Request};
 use verifier::Program;
 
 /// Carries out an event, and returns its entry. After an error the station and the slots are unchanged.
+#[inline(always)]
 pub fn perform(
     alloc: Global,
     config: &Config,
@@ -122,6 +123,7 @@ fn load(
     }
 }
 
+#[inline(always)]
 fn ask(
     config: &Config,
     station: &mut Station,

@@ -282,6 +282,7 @@ fn first_suited(role: Role, words: &[&[u8]], forms: &[Form]) -> Option<Form>
 }
 
 /// The form of the words, if the role may send it, of some till or point.
+#[inline(always)]
 pub fn form_of(role: Role, words: &[&[u8]]) -> Option<Form>
     ensures found { result ≡ find (suits role (map (λ w. w.now) words.now)) all_forms }
     ensures suited { IfSome result (λ form. suits role (map (λ w. w.now) words.now) form ≡ true) }

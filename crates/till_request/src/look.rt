@@ -154,6 +154,7 @@ fn look_of_words(role: Role, words: &[&[u8]]) -> Result<Asked, LineFault>
 
 /// What the words of a line ask for, if a sender of this role may send it: as `parse_asked`, but that a stray line is a
 /// `BadLine` to every role.
+#[inline(always)]
 pub fn words_asked(alloc: Global, role: Role, words: &[&[u8]]) -> Result<Asked, LineFault>
     ensures given { Gives result (words_asked role (map (λ w. w.now) words.now)) }
     ensures memory { result ≡ Err LineFault.OutOfMemory → IsLoad role (map (λ w. w.now) words.now) }
