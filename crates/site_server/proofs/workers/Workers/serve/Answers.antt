@@ -28,7 +28,7 @@ loop-round-preserved g c =
     c.loop-round.invariant.on c.worker-more.ensures.serves in
     record {
       going = goes_on f g.J.Journal.may_fail w.day c.args.role w.shift _ _ _ _ _ _ _ _ (search rules) c.saturating_add-clean.ensures
-      c.loop-round.invariant.going ran.0;
+          c.loop-round.invariant.going ran.0;
       on = ran.1;
       closes = λ may. c.loop-round.invariant.closes (c.worker-more.ensures.closes may);
       next = search rules;
@@ -43,7 +43,7 @@ returns-then-is_some-clause-worked g c =
     (λ d look moment a e h. (h.0, h.1)) (λ k moment e h. h) c.args.role _ _ _ _ _ _ _ _ _ _ _ _ _ _ _ _ _
     c.loop-round.invariant.on c.worker-more.ensures.serves in
     let why : (is_some w.shift.connections ≡ true) ⊎ (w.shift.may_stop ≡ true) = elim c.then-is_some.branch [
-      then-is_some-via-then-is_some v ↦ inl (sym c.is_some.ensures ∙ v.if-is_some.true)
+      | then-is_some-via-then-is_some v ↦ inl (sym c.is_some.ensures ∙ v.if-is_some.true)
       | then-is_some-via-else-is_some+then-are_closed v ↦ inr (c.loop-round.invariant.closes (c.worker-more.ensures.closes (v.if-are_closed.ensures refl)))
     ] in
     rw c.into_pass.ensures
