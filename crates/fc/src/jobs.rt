@@ -1,5 +1,6 @@
 //! Does the job that a command line asks for.
-use crate::kept::{AnswerAfter, serve_days, serve_kept};
+use crate::days::serve_days;
+use crate::kept::{AnswerAfter, serve_kept};
 use crate::printed::serve_printed;
 use file_jobs::audits::audit_files;
 use file_jobs::carry::carry_files;

@@ -1,6 +1,8 @@
 //! The program `fc`: parses the command line, does the job that it asks for, and returns an exit status.
 #![tactic(auto)]
 
+mod day_end;
+mod days;
 mod doors;
 mod jobs;
 mod journal_file;

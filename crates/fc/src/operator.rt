@@ -1,6 +1,7 @@
 //! The lines that are printed for an operator on standard error while a site is served.
 ghost use Rattle.std.specs.Prelude.{◌≡◌, is_some};
 
+use crate::day_end::second;
 use crate::doors::{DoorAddress, DoorListing};
 use file_jobs::messages::print_message;
 use page_port::ConnectionCounts;
@@ -10,7 +11,7 @@ use std::fmt::{self, Display};
 use std::io;
 use std::sync::atomic::{AtomicU64, Ordering};
 use std::sync::{Mutex, Wait};
-use std::time::{Clock, SystemTime, UNIX_EPOCH};
+use std::time::Clock;
 use till_request::{LineFault, Role};
 
 const MOST_IN_SECOND: u32 = 10;
@@ -32,6 +33,8 @@ pub struct OperatorReports<'a, H: Wait + Clock> {
     stray_minute: AtomicU64,
     serve: &'a Serve,
     connections: Option<&'a ConnectionCounts>,
+    /// Whether the doors are printed as they open.
+    prints_doors: bool,
 }
 
 /// A peer's name, such as `till 3` or `a dispenser`.
@@ -124,6 +127,7 @@ impl<'a, H: Wait + Clock> OperatorReports<'a, H> {
         host: &'a H,
         serve: &'a Serve,
         connections: Option<&'a ConnectionCounts>,
+        prints_doors: bool,
     ) -> OperatorReports<'a, H> {
         OperatorReports {
             rt,
@@ -134,18 +138,13 @@ impl<'a, H: Wait + Clock> OperatorReports<'a, H> {
             stray_minute: AtomicU64::new(u64::MAX),
             serve,
             connections,
+            prints_doors,
         }
     }
 
     /// Returns the seconds since the start of 1970, or 0 if the clock can't tell: then at most ten reports are printed.
     fn second(&self) -> u64 {
-        match SystemTime::now(self.host) {
-            Ok(time) => match time.duration_since(UNIX_EPOCH) {
-                Ok(since) => since.as_secs(),
-                Err(_) => 0,
-            },
-            Err(_) => 0,
-        }
+        second(self.host)
     }
 
     /// Returns whether a report may be printed now. If so, first prints how many were left out.
@@ -263,7 +262,7 @@ impl<H: Wait + Clock> Notices for OperatorReports<'_, H> {
         if all.threads < all.workers {
             print_message(self.rt, &ThreadsFound(threads));
         }
-        if threads.serves_each_role() {
+        if self.prints_doors && threads.serves_each_role() {
             let listing = DoorListing {
                 doors: &self.serve.doors,
                 page_port: self.serve.page_port,

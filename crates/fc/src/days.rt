@@ -1,0 +1,201 @@
+//! Serves the days of a folder, one after another, behind the same doors.
+use crate::day_end::{end_of, second};
+use crate::kept::{AnswerAfter, KeptBy, new_stop, open_synced, print_error, serve_on};
+use crate::serve::{OpenDoors, ServedBy, served};
+use day_report::Sums;
+use file_jobs::files::text_of;
+use file_jobs::messages::print_message;
+use file_jobs::newest::{check_newest, newest_day};
+use file_jobs::settings::settings_in;
+use file_jobs::{DayFile, DayToServe, Folder, FoundFile, JobError, OpenJournal, Part};
+use site_config::Settings;
+use site_core::Watched;
+use std::fs::{File, Files};
+use std::net::{Net, TcpListener, TcpStream};
+use std::sync::{Arc, Wait};
+use std::thread::Threads;
+use std::time::Clock;
+
+/// How many seconds after a day couldn't be ended that is tried again.
+const RETRY_SECONDS: u64 = 60;
+
+/// The days of a station.
+#[derive(Clone, Copy)]
+struct Days<'a> {
+    rt: &'a HostRuntime,
+    folder: Folder<'a>,
+    config_name: &'a str,
+    after: AnswerAfter,
+}
+
+/// A day that is to be served.
+#[derive(Drop)]
+struct BegunDay {
+    number: u32,
+    path: String,
+    audited: Watched<Sums>,
+    file: File,
+    found: FoundFile,
+    /// The moment at which the end of the day before is tried again, if it failed.
+    retry: Option<u64>,
+}
+
+impl Days<'_> {
+    /// Opens the newest day, or, if `is_new_day` and it has an entry, closes it and opens the next one. `text` is the
+    /// text of the given configuration.
+    fn begin(&self, text: &[u8], is_new_day: bool) -> Result<BegunDay, JobError> {
+        let Settings { config, .. } = settings_in(self.rt, self.config_name, text)?;
+        let newest =
+            newest_day(self.rt, &self.folder, self.config_name, text, config, is_new_day)?;
+        let path = self.folder.file(self.rt, newest.number, Part::Journal)?;
+        let OpenJournal {
+            audited,
+            file,
+            found,
+            ..
+        } = open_synced(self.rt, &newest.config, &path, self.after)?;
+        keep_config(self.rt, self.folder, &newest, text)?;
+        Ok(BegunDay {
+            number: newest.number,
+            path,
+            audited,
+            file,
+            found,
+            retry: None,
+        })
+    }
+
+    /// Closes a day, and opens the next one. If that can't be done, prints why, and opens the day again.
+    fn begin_next<H: Clock>(&self, host: &H, text: &[u8]) -> Result<BegunDay, JobError> {
+        let failure = match self.begin(text, true) {
+            Ok(day) => return Ok(day),
+            Err(job_error) => job_error,
+        };
+        print_error(self.rt, &failure);
+        let mut day = self.begin(text, false)?;
+        day.retry = Some(second(host).saturating_add(RETRY_SECONDS));
+        Ok(day)
+    }
+
+    /// Reads the configuration again for a next day. If it can't be read, prints why, and returns the text from before.
+    fn reread(&self, text: Vec<u8>) -> Vec<u8> {
+        let read = match text_of(self.rt, self.config_name) {
+            Ok(new) => match settings_in(self.rt, self.config_name, &new) {
+                Ok(_) => return new,
+                Err(job_error) => job_error,
+            },
+            Err(job_error) => job_error,
+        };
+        print_error(self.rt, &read);
+        text
+    }
+}
+
+/// Serves the days of a folder: the newest, and when it ends the next one, until all connections are used up.
+/// `config_name` names the configuration's file.
+///
+/// - If the folder has no day, serves day 1.
+/// - If `is_new_day` is true and the newest day has an entry, closes that day, and serves the next one.
+/// - Otherwise serves the newest day, from the end of its journal.
+///
+/// A day ends at the time that the configuration names, or when it is full. The doors and their connections stay open.
+///
+/// `host` must be the same runtime as `rt`, with a type that can start threads and open sockets. Only `main` can borrow
+/// the runtime with this type.
+pub fn serve_days<
+    H: Files + Net<Listener = TcpListener, Stream = TcpStream> + Threads + Wait + Clock + Sync,
+>(
+    rt: &HostRuntime,
+    host: &H,
+    folder: Folder<'_>,
+    config_name: &str,
+    is_new_day: bool,
+    after: AnswerAfter,
+) -> Result<(), JobError> {
+    let days = Days {
+        rt,
+        folder,
+        config_name,
+        after,
+    };
+    let mut text = text_of(rt, config_name)?;
+    let Settings { serve, .. } = settings_in(rt, config_name, &text)?;
+    // This is checked first, so that no day is closed if the configuration can't be served.
+    let serve = served(rt.alloc(), config_name, serve)?;
+    let mut day = days.begin(&text, is_new_day)?;
+    let stop = new_stop(rt, host)?;
+    let doors = OpenDoors::open(rt, host, config_name, &serve, Some(Arc::try_clone(&stop)?))?;
+    let mut is_first = true;
+    for _ in host.forever() {
+        let BegunDay {
+            number,
+            path,
+            audited,
+            file,
+            found,
+            retry,
+        } = day;
+        let now = second(host);
+        let ends = match retry {
+            Some(retry) => Some(retry),
+            None => end_of(audited.site(), serve.day_ends, now),
+        };
+        let kept_by = KeptBy {
+            by: ServedBy {
+                config_name,
+                serve: &serve,
+                day: number,
+            },
+            doors: &doors,
+            stop: &stop,
+            after,
+            is_first,
+            is_day: true,
+            ends,
+        };
+        let kept = OpenJournal {
+            audited,
+            path: &path,
+            file,
+            found,
+        };
+        serve_on(rt, host, kept_by, kept)?;
+        if !stop.is_asked() {
+            break;
+        }
+        stop.withdraw();
+        is_first = false;
+        text = days.reread(text);
+        day = days.begin_next(host, &text)?;
+        print_message(rt, &format_args!("day {}", day.number));
+    }
+    doors.end(rt);
+    Ok(())
+}
+
+/// Checks that the day after `newest` hasn't begun, and then writes the text of the day's configuration, which is `text`
+/// or the folder's own, into `folder`, unless the folder has it already. The error is that the next day has begun, that
+/// this can't be found out, or that the text can't be written.
+///
+/// This must be called only after the audit has accepted the day's journal with this configuration: the day keeps the
+/// configuration to its end.
+fn keep_config(
+    rt: &HostRuntime,
+    folder: Folder<'_>,
+    newest: &DayToServe,
+    text: &[u8],
+) -> Result<(), JobError> {
+    check_newest(rt, folder, newest.number)?;
+    if newest.is_kept {
+        return Ok(());
+    }
+    let file = DayFile {
+        day: newest.number,
+        part: Part::Config,
+        bytes: match &newest.own {
+            Some(own) => own,
+            None => text,
+        },
+    };
+    folder.put_if_other(rt, file)
+}
