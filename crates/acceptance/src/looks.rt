@@ -104,7 +104,11 @@ fn a_look_shows_what_another_entered(rt: HostRuntime) -> Result<(), Fail> {
     let two = run_with_brand(&rt, rt.alloc(), station(rt.alloc())?).ok_or("two sessions")?;
     assert!(rt; two.acted.as_slice() == b"1 done\n".as_slice());
     // The date behind is the machine's.
-    assert!(rt; two.seen.starts_with(b"1 point 3 0 0 0 0 0 0\n1 day 7 "));
+    assert!(rt;
+        two.seen
+            .as_slice()
+            .starts_with(b"1 point 3 0 0 0 0 0 0\n1 day 7 ")
+    );
     assert!(rt; two.receipts == (1, 0) && two.entries == 1);
     Ok(())
 }
