@@ -40,7 +40,11 @@ pub fn end_of(site: &Site, minute: Option<u32>, now: u64) -> Option<u64> {
     if is_full(site.history().len() as u64, loads_in(site)) {
         return Some(now);
     }
-    let first = site.history().iter().map(|entry| entry.moment).find(|moment| *moment > 0);
+    let first = site
+        .history()
+        .iter()
+        .map(|entry| entry.moment)
+        .find(|moment| *moment > 0);
     match minute {
         Some(minute) => Some(next_at(first.unwrap_or(now), minute)),
         None => None,
@@ -48,7 +52,10 @@ pub fn end_of(site: &Site, minute: Option<u32>, now: u64) -> Option<u64> {
 }
 
 fn loads_in(site: &Site) -> u64 {
-    site.history().iter().filter(|entry| matches!(entry.act, Act::Load { .. })).count() as u64
+    site.history()
+        .iter()
+        .filter(|entry| matches!(entry.act, Act::Load { .. }))
+        .count() as u64
 }
 
 fn is_full(entries: u64, loads: u64) -> bool {
@@ -79,7 +86,10 @@ impl DayCounts {
     }
 
     fn are_full(&self) -> bool {
-        is_full(self.entries.load(Ordering::SeqCst), self.loads.load(Ordering::SeqCst))
+        is_full(
+            self.entries.load(Ordering::SeqCst),
+            self.loads.load(Ordering::SeqCst),
+        )
     }
 
     /// Counts what was written of the journal. Returns whether the day became full by it.

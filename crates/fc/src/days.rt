@@ -8,8 +8,9 @@ use file_jobs::messages::print_message;
 use file_jobs::newest::{check_newest, newest_day};
 use file_jobs::settings::settings_in;
 use file_jobs::{DayFile, DayToServe, Folder, FoundFile, JobError, OpenJournal, Part};
-use site_config::Settings;
+use site_config::{Serve, Settings};
 use site_core::Watched;
+use site_server::{Crew, Stop};
 use std::fs::{File, Files};
 use std::net::{Net, TcpListener, TcpStream};
 use std::sync::{Arc, Wait};
@@ -45,8 +46,14 @@ impl Days<'_> {
     /// text of the given configuration.
     fn begin(&self, text: &[u8], is_new_day: bool) -> Result<BegunDay, JobError> {
         let Settings { config, .. } = settings_in(self.rt, self.config_name, text)?;
-        let newest =
-            newest_day(self.rt, &self.folder, self.config_name, text, config, is_new_day)?;
+        let newest = newest_day(
+            self.rt,
+            &self.folder,
+            self.config_name,
+            text,
+            config,
+            is_new_day,
+        )?;
         let path = self.folder.file(self.rt, newest.number, Part::Journal)?;
         let OpenJournal {
             audited,
@@ -77,17 +84,62 @@ impl Days<'_> {
         Ok(day)
     }
 
-    /// Reads the configuration again for a next day. If it can't be read, prints why, and returns the text from before.
-    fn reread(&self, text: Vec<u8>) -> Vec<u8> {
+    /// Reads the text of the configuration again. If it isn't one, prints why.
+    fn reread(&self) -> Option<Vec<u8>> {
         let read = match text_of(self.rt, self.config_name) {
-            Ok(new) => match settings_in(self.rt, self.config_name, &new) {
-                Ok(_) => return new,
+            Ok(text) => match settings_in(self.rt, self.config_name, &text) {
+                Ok(_) => return Some(text),
                 Err(job_error) => job_error,
             },
             Err(job_error) => job_error,
         };
         print_error(self.rt, &read);
-        text
+        None
+    }
+
+    /// Serves a day until it ends, or until the connections of its crew are used up.
+    fn serve<
+        H: Files + Net<Listener = TcpListener, Stream = TcpStream> + Threads + Wait + Clock + Sync,
+    >(
+        &self,
+        host: &H,
+        serve: &Serve,
+        stop: &Stop,
+        crew: Crew,
+        day: BegunDay,
+        is_first: bool,
+    ) -> Result<(), JobError> {
+        let BegunDay {
+            number,
+            path,
+            audited,
+            file,
+            found,
+            retry,
+        } = day;
+        let ends = match retry {
+            Some(retry) => Some(retry),
+            None => end_of(audited.site(), None, second(host)),
+        };
+        let kept_by = KeptBy {
+            by: ServedBy {
+                config_name: self.config_name,
+                serve,
+                day: number,
+            },
+            stop,
+            after: self.after,
+            is_first,
+            is_day: true,
+            ends,
+        };
+        let kept = OpenJournal {
+            audited,
+            path: &path,
+            file,
+            found,
+        };
+        serve_on(self.rt, host, kept_by, crew, kept)
     }
 }
 
@@ -103,12 +155,13 @@ impl Days<'_> {
 /// `host` must be the same runtime as `rt`, with a type that can start threads and open sockets. Only `main` can borrow
 /// the runtime with this type.
 pub fn serve_days<
+    'a,
     H: Files + Net<Listener = TcpListener, Stream = TcpStream> + Threads + Wait + Clock + Sync,
 >(
-    rt: &HostRuntime,
+    rt: &'a HostRuntime,
     host: &H,
-    folder: Folder<'_>,
-    config_name: &str,
+    folder: Folder<'a>,
+    config_name: &'a str,
     is_new_day: bool,
     after: AnswerAfter,
 ) -> Result<(), JobError> {
@@ -122,52 +175,25 @@ pub fn serve_days<
     let Settings { serve, .. } = settings_in(rt, config_name, &text)?;
     // This is checked first, so that no day is closed if the configuration can't be served.
     let serve = served(rt.alloc(), config_name, serve)?;
-    let mut day = days.begin(&text, is_new_day)?;
+    let mut next = Some(days.begin(&text, is_new_day)?);
     let stop = new_stop(rt, host)?;
     let doors = OpenDoors::open(rt, host, config_name, &serve, Some(Arc::try_clone(&stop)?))?;
     let mut is_first = true;
     for _ in host.forever() {
-        let BegunDay {
-            number,
-            path,
-            audited,
-            file,
-            found,
-            retry,
-        } = day;
-        let now = second(host);
-        let ends = match retry {
-            Some(retry) => Some(retry),
-            None => end_of(audited.site(), serve.day_ends, now),
-        };
-        let kept_by = KeptBy {
-            by: ServedBy {
-                config_name,
-                serve: &serve,
-                day: number,
-            },
-            doors: &doors,
-            stop: &stop,
-            after,
-            is_first,
-            is_day: true,
-            ends,
-        };
-        let kept = OpenJournal {
-            audited,
-            path: &path,
-            file,
-            found,
-        };
-        serve_on(rt, host, kept_by, kept)?;
-        if !stop.is_asked() {
+        let Some(day) = next.take() else {
             break;
-        }
-        stop.withdraw();
+        };
+        days.serve(host, &serve, &stop, doors.crew(rt.alloc())?, day, is_first)?;
         is_first = false;
-        text = days.reread(text);
-        day = days.begin_next(host, &text)?;
-        print_message(rt, &format_args!("day {}", day.number));
+        if stop.is_asked() {
+            stop.withdraw();
+            if let Some(new) = days.reread() {
+                text = new;
+            }
+            let day = days.begin_next(host, &text)?;
+            print_message(rt, &format_args!("day {}", day.number));
+            next = Some(day);
+        }
     }
     doors.end(rt);
     Ok(())
