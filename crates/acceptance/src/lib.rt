@@ -24,4 +24,6 @@ mod servers;
 #[cfg(test)]
 mod sites;
 #[cfg(test)]
+mod stops;
+#[cfg(test)]
 mod syncs;

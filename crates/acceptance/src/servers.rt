@@ -18,7 +18,7 @@ use till_request::{Role, Stray};
 
 /// A receiver of notices that ignores them.
 #[derive(Drop)]
-struct Silent;
+pub struct Silent;
 
 impl Notices for Silent {
     ghost failure_reported = { λ _ _ _. Unit {0} };
@@ -55,7 +55,7 @@ impl Notices for Silent {
 }
 
 /// Opens a free port.
-fn port<R: Net<Listener = TcpListener, Stream = TcpStream>>(rt: &R) -> Result<Listener, Fail> {
+pub fn port<R: Net<Listener = TcpListener, Stream = TcpStream>>(rt: &R) -> Result<Listener, Fail> {
     match Listener::on_port(rt, 0) {
         Ok(listener) => Ok(listener),
         Err(_) => Err(Fail::from("a port")),
@@ -64,7 +64,7 @@ fn port<R: Net<Listener = TcpListener, Stream = TcpStream>>(rt: &R) -> Result<Li
 
 /// Makes a new site with one till and one fuelling point. Releases are decided by slot 0, presets by slot 1, and prices
 /// by slot 2.
-fn site(alloc: Global) -> Result<Watched<Sums>, Fail> {
+pub fn site(alloc: Global) -> Result<Watched<Sums>, Fail> {
     let points = vec![in alloc; (0, 1)]?;
     let prices = [1799, 1849, 0, 0, 0, 0, 0, 0];
     let config = Config::new(1, 2, prices, points, [(0, 0); 32]).ok_or("a configuration")?;
@@ -79,7 +79,7 @@ struct Addresses {
     owner: SocketAddr,
 }
 
-fn address_of(listener: &Listener) -> io::Result<SocketAddr> {
+pub fn address_of(listener: &Listener) -> io::Result<SocketAddr> {
     match listener {
         Listener::Port(listener) => listener.local_addr(),
         Listener::Socket(_) => Err(io::Error::from(io::ErrorKind::Unsupported)),
@@ -166,7 +166,7 @@ fn in_turn<R: Net<Listener = TcpListener, Stream = TcpStream>>(
 
 /// Makes what is needed to serve a new site, with one connection for each worker.
 fn serving(alloc: Global, ports: Ports) -> Result<Serving, Fail> {
-    let crew = Crew::new(alloc, doors_at(alloc, ports)?)?.ok_or("a crew")?;
+    let crew = Crew::new(alloc, doors_at(alloc, ports)?, None)?.ok_or("a crew")?;
     Ok(Serving {
         watched: site(alloc)?,
         journal: NoJournal,
@@ -216,12 +216,13 @@ fn serve_on_loopback(rt: HostRuntime) -> Result<(), Fail> {
 /// Returns whether the socket of a till's connection sends small answers without delay (`TCP_NODELAY`).
 fn leaves_at_once<R: Net<Listener = TcpListener, Stream = TcpStream> + Wait + Clock>(
     rt: &R,
+    alloc: Global,
     door: &SharedDoor,
 ) -> io::Result<bool> {
     let _peer = TcpStream::connect(rt, address_of(&door.listener)?)?;
-    let mut doors = SocketDoors::new(rt, door, &Silent, Role::Till, 1, 0);
+    let mut doors = SocketDoors::new(rt, alloc, door, &Silent, Role::Till, 1, 0, None);
     match doors.next() {
-        Ok((_input, output)) => match output.writer {
+        Ok((_input, output)) => match output.writer.stream {
             Stream::Port(stream) => stream.nodelay(),
             Stream::Socket(_stream) => Ok(false),
         },
@@ -231,7 +232,7 @@ fn leaves_at_once<R: Net<Listener = TcpListener, Stream = TcpStream> + Wait + Cl
 
 #[test]
 fn answers_leave_without_a_delay(rt: HostRuntime) -> Result<(), Fail> {
-    let door = SharedDoor::new(port(&rt)?, 0);
-    assert!(rt; leaves_at_once(&rt, &door)?);
+    let door = SharedDoor::new(rt.alloc(), port(&rt)?, 0, None);
+    assert!(rt; leaves_at_once(&rt, rt.alloc(), &door)?);
     Ok(())
 }

@@ -4,6 +4,7 @@ pub mod Collecting
 pub mod Draining
 pub mod Guard
 pub mod Guarding
+pub mod Kept
 pub mod Limits
 pub mod Outputs
 pub mod Pace

@@ -40,6 +40,18 @@ impl Beginning {
         }
     }
 
+    /// Of a peer that was judged before, and is no stranger.
+    pub(crate) fn of_client() -> Beginning
+        ensures kept { result.kept ≡ [] }
+        ensures verdict { result.verdict ≡ Verdict.Client }
+    {
+        Beginning {
+            bytes: ArrayVec::new(),
+            given: 0,
+            verdict: Verdict::Client,
+        }
+    }
+
     pub(crate) fn verdict(&self) -> Verdict
         ensures { result ≡ self.now.verdict }
     {
@@ -49,7 +61,13 @@ impl Beginning {
     pub(crate) fn is_empty(&self) -> bool
         ensures { IsTrue result ↔ (self.now.kept ≡ []) }
     {
-        self.bytes[self.given..].is_empty()
+        self.kept().is_empty()
+    }
+
+    pub(crate) fn kept(&self) -> &[u8]
+        ensures { result.now ≡ self.now.kept }
+    {
+        &self.bytes[self.given..]
     }
 
     /// Appends the bytes that were read next, at most 512, and judges the peer by all bytes so far.

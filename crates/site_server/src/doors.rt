@@ -1,32 +1,38 @@
 //! The connections of a listener, which a worker opens one after another.
-ghost use Rattle.std.specs.Prelude.{◌≡◌, IfOk, IfSome, IsSome};
+ghost use Rattle.std.specs.Prelude.{◌≡◌, IfOk, IfSome, IsSome, is_some};
 ghost use Rattle.till_request.specs.Count.{RoseBy};
-ghost use Rattle.site_server.specs.Pauses.{longer_pause, reported_failure};
+ghost use Rattle.site_server.specs.Kept.{EndsConnection, ReportsUnkept};
+ghost use Rattle.site_server.specs.Pauses.{IsNextPause, longer_pause, reported_failure};
 
+use crate::accepting::accept;
 use crate::draining::{drain, is_drained};
 use crate::guard::GuardedReader;
+use crate::kept::{KeptConnection, is_kept, kept_of};
 use crate::notices::{Notices, SessionFailure};
 use crate::paced::PacedIn;
+use crate::paused::PausedIn;
+use crate::rest::Rest;
 use crate::shared_door::SharedDoor;
 use crate::silence::IdleLimitedReader;
-use crate::stop::Stop;
+use crate::stop::{Stop, is_stopped};
 use crate::stream::Stream;
+use crate::waiting::{WaitingReader, WaitingWriter, limit_waits};
 use line_session::{Doors, Ended, SessionFault};
+use std::alloc::{AllocError, Global};
+use std::io::{self, Cursor, Read};
+use std::net::Net;
 use std::sync::Wait;
 use std::time::{Clock, Duration};
-use std::{io, thread};
 use till_request::devices::{Ahead, StreamIn, StreamOut};
 use till_request::{DeviceFault, Role};
 
-/// From the socket on: its end if the peer is silent, the guard, the block that is read ahead, and the pace.
-type Input<'a, R, N> = PacedIn<
-    'a,
-    R,
-    N,
-    Ahead<StreamIn<GuardedReader<'a, N, IdleLimitedReader<'a, N>>>>,
->;
+/// From the socket on: what is kept of it, its end if the peer is silent, and the guard.
+pub(crate) type Source<'a, R, N> = StreamIn<GuardedReader<'a, N, IdleLimitedReader<'a, R, N>>>;
 
-type Connection<'a, R, N> = (Input<'a, R, N>, StreamOut<Stream>);
+/// Behind that the block that is read ahead, which a stop may interrupt, and the pace.
+type Input<'a, R, N> = PacedIn<'a, R, N, PausedIn<'a, Source<'a, R, N>>>;
+
+type Output<'a, R> = StreamOut<WaitingWriter<'a, R>>;
 
 /// Opens the connections of a door one after another, for one worker.
 ///
@@ -36,9 +42,12 @@ type Connection<'a, R, N> = (Input<'a, R, N>, StreamOut<Stream>);
 ///   closed, so that the peer gets all answers.
 /// - If a connection can't be opened, the worker waits before it tries again: 10 milliseconds, then twice as long each
 ///   time, at most 1 second. Of several failures in a row only the first is reported.
+/// - Where a stop is asked for, no connection is opened. The one that is open is kept, if its session ended by that, and
+///   the first to be opened next is one that was kept.
 #[derive(Drop)]
-pub struct SocketDoors<'a, R: Wait + Clock, N: Notices> {
+pub struct SocketDoors<'a, R: Net + Wait + Clock, N: Notices> {
     rt: &'a R,
+    alloc: Global,
     door: &'a SharedDoor,
     notices: &'a N,
     role: Role,
@@ -48,8 +57,8 @@ pub struct SocketDoors<'a, R: Wait + Clock, N: Notices> {
     asked: u64,
     /// How many milliseconds the worker waited after the last failure; 0 if a connection was opened since then.
     pause: u64,
-    /// A further handle of the connection that was opened last.
-    current: Option<Stream>,
+    /// Where the worker waits for a connection, if it can be asked to stop.
+    rest: Option<Rest>,
 }
 
 fn longer(pause: u64) -> u64
@@ -74,9 +83,10 @@ fn failure_of(outcome: &Result<Ended, SessionFault>) -> Option<SessionFailure>
     }
 }
 
-impl<'a, R: Wait + Clock, N: Notices> SocketDoors<'a, R, N> {
+impl<'a, R: Net + Wait + Clock, N: Notices> SocketDoors<'a, R, N> {
     pub fn new(
         rt: &'a R,
+        alloc: Global,
         door: &'a SharedDoor,
         notices: &'a N,
         role: Role,
@@ -96,6 +106,7 @@ impl<'a, R: Wait + Clock, N: Notices> SocketDoors<'a, R, N> {
     {
         SocketDoors {
             rt,
+            alloc,
             door,
             notices,
             role,
@@ -104,70 +115,128 @@ impl<'a, R: Wait + Clock, N: Notices> SocketDoors<'a, R, N> {
             stop,
             asked: 0,
             pause: 0,
-            current: None,
+            rest: None,
         }
     }
 
-    fn input_of(&self, stream: Stream) -> Input<'a, R, N>
-        ensures door { result.door.now ≡ self.now.door.now }
-        ensures role { result.role ≡ self.now.role }
-        ensures pass { result.pass ≡ self.now.pass }
-    {
+    /// For how long a peer may be silent, or take no bytes.
+    fn limit(&self) -> Option<Duration> {
+        match self.idle_seconds {
+            0 => None,
+            seconds => Some(Duration::from_secs(u64::from(seconds))),
+        }
+    }
+
+    fn guarded(
+        &self,
+        stream: Stream,
+        ahead: Vec<u8>,
+        is_known: bool,
+    ) -> GuardedReader<'a, N, IdleLimitedReader<'a, R, N>> {
         let reader = IdleLimitedReader {
-            stream,
+            stream: WaitingReader {
+                rt: self.rt,
+                alloc: self.alloc,
+                source: Cursor::new(ahead).chain(stream),
+                stop: self.stop,
+                limit: self.limit(),
+                rest: None,
+            },
             notices: self.notices,
             role: self.role,
             pass: self.pass,
             idle_seconds: self.idle_seconds,
             is_over: false,
         };
-        let ahead = Ahead::new(StreamIn {
-            reader: GuardedReader::new(reader, self.notices, self.role, self.pass),
+        if is_known {
+            GuardedReader::of_client(reader, self.notices, self.role, self.pass)
+        } else {
+            GuardedReader::new(reader, self.notices, self.role, self.pass)
+        }
+    }
+
+    fn connection_of(&self, opened: KeptConnection) -> (Input<'a, R, N>, Output<'a, R>)
+        ensures door { result.0.door.now ≡ self.now.door.now }
+        ensures role { result.0.role ≡ self.now.role }
+        ensures pass { result.0.pass ≡ self.now.pass }
+    {
+        let KeptConnection {
+            reader,
+            writer,
+            ahead,
+            is_known,
+        } = opened;
+        let source = Ahead::new(StreamIn {
+            reader: self.guarded(reader, ahead, is_known),
             reads: 0,
             failures: 0,
             asked: 0,
         });
-        PacedIn::new(
+        let input = PacedIn::new(
             self.rt,
             self.door,
             self.notices,
             self.role,
             self.pass,
-            ahead,
+            PausedIn::new(self.alloc, source, self.stop),
+        );
+        let writer = WaitingWriter {
+            rt: self.rt,
+            stream: writer,
+            stop: self.stop,
+            limit: self.limit(),
+        };
+        (
+            input,
+            StreamOut {
+                writer,
+                failures: 0,
+            },
         )
     }
 
-    fn connect(&self) -> io::Result<(Connection<'a, R, N>, Stream)>
-        ensures { IfOk result (λ made. (made.0.0.door.now ≡ self.now.door.now) × (made.0.0.role ≡ self.now.role)
-            × (made.0.0.pass ≡ self.now.pass)) }
-    {
-        let writer = self.door.listener.accept()?;
-        if self.idle_seconds > 0 {
-            writer.limit_waits(Duration::from_secs(u64::from(self.idle_seconds)))?;
-        }
-        let stream = writer.try_clone()?;
-        let handle = writer.try_clone()?;
-        let output = StreamOut {
-            writer,
-            failures: 0,
-        };
-        Ok(((self.input_of(stream), output), handle))
-    }
-
-    fn wait_after_failure(&mut self, error: &io::Error)
+    /// The next connection: one that was kept, or one that comes in.
+    fn open(&mut self) -> io::Result<KeptConnection>
         ensures asked { self.new.asked ≡ self.old.asked }
-        ensures pause { self.new.pause ≡ longer_pause self.old.pause }
+        ensures pause { self.new.pause ≡ self.old.pause }
         ensures role { self.new.role ≡ self.old.role }
         ensures pass { self.new.pass ≡ self.old.pass }
         ensures idle { self.new.idle_seconds ≡ self.old.idle_seconds }
         ensures stop { self.new.stop ≡ self.old.stop }
         ensures door { self.new.door.now ≡ self.old.door.now }
     {
+        if let Some(kept) = self.door.take_kept(self.rt) {
+            return Ok(kept);
+        }
+        let (listener, stop) = (&self.door.listener, self.stop);
+        let writer = accept(self.rt, self.alloc, listener, stop, &mut self.rest)?;
+        limit_waits(&writer, stop.is_some(), self.limit())?;
+        Ok(KeptConnection {
+            reader: writer.try_clone()?,
+            writer,
+            ahead: Vec::new(self.alloc),
+            is_known: false,
+        })
+    }
+
+    /// Doesn't wait if the failure came from a stop.
+    fn wait_after_failure(&mut self, error: &io::Error)
+        ensures asked { self.new.asked ≡ self.old.asked }
+        ensures pause { IsNextPause (is_some self.old.stop) self.old.pause self.new.pause }
+        ensures role { self.new.role ≡ self.old.role }
+        ensures pass { self.new.pass ≡ self.old.pass }
+        ensures idle { self.new.idle_seconds ≡ self.old.idle_seconds }
+        ensures stop { self.new.stop ≡ self.old.stop }
+        ensures door { self.new.door.now ≡ self.old.door.now }
+    {
+        if is_stopped(self.stop) {
+            return;
+        }
         if self.pause == 0 {
             self.notices.accept_failed(self.role, self.pass, error);
         }
         self.pause = longer(self.pause);
-        thread::sleep(self.rt, Duration::from_millis(self.pause));
+        self.door.sleep(self.rt, 1000 * self.pause);
     }
 
     fn report(&self, outcome: &Result<Ended, SessionFault>)
@@ -179,46 +248,72 @@ impl<'a, R: Wait + Clock, N: Notices> SocketDoors<'a, R, N> {
         }
     }
 
-    fn drain_if_needed(&self, outcome: &Result<Ended, SessionFault>) {
-        if let Some(stream) = &self.current {
-            if is_drained(outcome) {
-                let _ = drain(self.rt, stream);
-            }
+    fn drain_if_needed(&self, input: &mut Input<'a, R, N>, outcome: &Result<Ended, SessionFault>) {
+        if is_drained(outcome) {
+            let reader = &mut input.input.input.input.reader.reader.stream;
+            let _ = drain(self.rt, reader);
+        }
+    }
+
+    /// Keeps a connection whose input a stop has interrupted.
+    fn keep(&self, input: Input<'a, R, N>, writer: Stream) -> Result<(), AllocError> {
+        self.door.keep(self.rt, kept_of(input.input, writer)?)
+    }
+
+    fn end(
+        &self,
+        mut input: Input<'a, R, N>,
+        output: Output<'a, R>,
+        outcome: &Result<Ended, SessionFault>,
+    )
+        ensures { ReportsUnkept N.failure_reported self.now.role self.now.pass input.entry.input.is_paused
+            outcome.now }
+    {
+        if !is_kept(input.input.is_paused, outcome) {
+            self.report(outcome);
+            self.drain_if_needed(&mut input, outcome);
+            return;
+        }
+        if self.keep(input, output.writer.stream).is_err() {
+            self.report(&Err(SessionFault::Read));
         }
     }
 }
 
-impl<'a, R: Wait + Clock, N: Notices> Doors for SocketDoors<'a, R, N> {
-    type In = PacedIn<'a, R, N, Ahead<StreamIn<GuardedReader<'a, N, IdleLimitedReader<'a, N>>>>>;
+impl<'a, R: Net + Wait + Clock, N: Notices> Doors for SocketDoors<'a, R, N> {
+    type In = PacedIn<
+        'a,
+        R,
+        N,
+        PausedIn<'a, StreamIn<GuardedReader<'a, N, IdleLimitedReader<'a, R, N>>>>,
+    >;
 
-    type Out = StreamOut<Stream>;
+    type Out = StreamOut<WaitingWriter<'a, R>>;
 
     ghost opens = { λ before input _ after. RoseBy 1 before.asked after.asked × (after.pause ≡ 0)
         × (input.door.now ≡ before.door.now) × (input.role ≡ before.role) × (input.pass ≡ before.pass)
         × (after.role ≡ before.role) × (after.pass ≡ before.pass) × (after.idle_seconds ≡ before.idle_seconds)
         × (after.door.now ≡ before.door.now) };
 
-    ghost fails = { λ before after. RoseBy 1 before.asked after.asked × (after.pause ≡ longer_pause before.pause)
+    ghost fails = { λ before after. RoseBy 1 before.asked after.asked
+        × IsNextPause (is_some before.stop) before.pause after.pause
         × (after.role ≡ before.role) × (after.pass ≡ before.pass) × (after.idle_seconds ≡ before.idle_seconds)
         × (after.door.now ≡ before.door.now) };
 
     ghost may_close = { λ doors. IsSome doors.stop };
 
-    ghost reported = { λ before _ _ outcome after. IfSome (reported_failure outcome) (λ failure. N.failure_reported
-        before.role before.pass failure)
-        × N.end_reported before.role before.pass × (after ≡ before) };
+    ghost reported = { λ before input _ outcome after. EndsConnection N.failure_reported N.end_reported before.role
+        before.pass input.input.is_paused outcome × (after ≡ before) };
 
     ghost stray_reported = { λ doors. N.stray_reported doors.role doors.pass };
 
     fn next(&mut self) -> Result<(Self::In, Self::Out), DeviceFault> {
         self.asked = self.asked.wrapping_add(1);
-        self.current = None;
-        match self.connect() {
-            Ok((connection, handle)) => {
-                self.current = Some(handle);
+        match self.open() {
+            Ok(opened) => {
                 self.pause = 0;
                 self.notices.connected(self.role, self.pass);
-                Ok(connection)
+                Ok(self.connection_of(opened))
             }
             Err(error) => {
                 self.wait_after_failure(&error);
@@ -228,30 +323,21 @@ impl<'a, R: Wait + Clock, N: Notices> Doors for SocketDoors<'a, R, N> {
     }
 
     fn are_closed(&self) -> bool {
-        match self.stop {
-            Some(stop) => stop.is_asked(),
-            None => false,
-        }
+        is_stopped(self.stop)
     }
 
     // The block that is read ahead can have the next line too. False where the door has a bound, since the line may
     // have to wait, and no answer is to wait with it.
     fn has_buffered_line(&self, input: &Self::In) -> bool {
-        self.door.lines_per_second == 0 && input.input.holds_line()
+        self.door.lines_per_second == 0 && input.input.input.holds_line()
     }
 
     fn met_stray(&self) {
         self.notices.met_stray(self.role, self.pass);
     }
 
-    fn ended(
-        &mut self,
-        _input: Self::In,
-        _output: Self::Out,
-        outcome: &Result<Ended, SessionFault>,
-    ) {
-        self.report(outcome);
-        self.drain_if_needed(outcome);
+    fn ended(&mut self, input: Self::In, output: Self::Out, outcome: &Result<Ended, SessionFault>) {
+        self.end(input, output, outcome);
         self.notices.disconnected(self.role, self.pass);
     }
 }

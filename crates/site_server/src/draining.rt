@@ -2,9 +2,10 @@
 ghost use Rattle.std.specs.Prelude.{◌≡◌};
 ghost use Rattle.site_server.specs.Draining.{drain_wait, is_drained};
 
-use crate::stream::Stream;
+use crate::waiting::WaitingReader;
 use line_session::{Ended, SessionFault};
-use std::io;
+use std::io::{self, Read};
+use std::net::Net;
 use std::sync::Wait;
 use std::time::{Clock, Duration, Instant};
 use till_request::LineFault;
@@ -29,10 +30,13 @@ fn drain_wait(elapsed: u64) -> u64
 }
 
 /// Ends the output, and throws away what comes until the peer closes the connection, for at most 30 seconds, or 5 in
-/// which nothing comes.
-pub(crate) fn drain<R: Wait + Clock>(rt: &R, stream: &Stream) -> io::Result<()> {
+/// which nothing comes. A stop ends it.
+pub(crate) fn drain<R: Net + Wait + Clock>(
+    rt: &R,
+    reader: &mut WaitingReader<'_, R>,
+) -> io::Result<()> {
     let start = Instant::now(rt)?;
-    stream.end_output()?;
+    reader.stream().end_output()?;
     let mut bytes = [0; 4096];
     for _ in rt.forever() {
         let elapsed = start.elapsed(rt)?;
@@ -40,8 +44,8 @@ pub(crate) fn drain<R: Wait + Clock>(rt: &R, stream: &Stream) -> io::Result<()> 
         if wait == 0 {
             return Ok(());
         }
-        stream.limit_reads(Duration::from_millis(wait))?;
-        if stream.read_shared(&mut bytes)? == 0 {
+        reader.limit_reads(Duration::from_millis(wait))?;
+        if reader.read(&mut bytes)? == 0 {
             return Ok(());
         }
     }

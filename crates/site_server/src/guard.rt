@@ -60,8 +60,8 @@ fn read_on<R: Read>(beginning: &mut Beginning, reader: &mut R, buf: &mut [u8]) -
 /// it.
 #[derive(Drop)]
 pub struct GuardedReader<'a, N: Notices, R: Read> {
-    reader: R,
-    beginning: Beginning,
+    pub(crate) reader: R,
+    pub(crate) beginning: Beginning,
     notices: &'a N,
     role: Role,
     pass: u32,
@@ -79,6 +79,26 @@ impl<'a, N: Notices, R: Read> GuardedReader<'a, N, R> {
         GuardedReader {
             reader,
             beginning: Beginning::new(),
+            notices,
+            role,
+            pass,
+        }
+    }
+
+    /// Of a peer that was judged before, and is no stranger.
+    pub(crate) fn of_client(
+        reader: R,
+        notices: &'a N,
+        role: Role,
+        pass: u32,
+    ) -> GuardedReader<'a, N, R>
+        ensures all { ahead_of result.beginning (R.remaining result.reader) ≡ R.remaining reader }
+        ensures role { result.role ≡ role }
+        ensures pass { result.pass ≡ pass }
+    {
+        GuardedReader {
+            reader,
+            beginning: Beginning::of_client(),
             notices,
             role,
             pass,

@@ -1,6 +1,7 @@
 //! Serves a site over sockets to tills, dispensers and the owner.
 #![tactic(auto)]
 
+mod accepting;
 mod beginning;
 mod crew;
 mod doors;
@@ -8,11 +9,14 @@ mod draining;
 mod group_sync;
 mod guard;
 mod judging;
+mod kept;
 mod limiter;
 mod listener;
 mod notices;
 pub mod pace;
 mod paced;
+mod paused;
+mod rest;
 mod running;
 mod serving;
 mod shared_door;
@@ -22,6 +26,7 @@ mod starting;
 mod stop;
 mod stream;
 mod tasks;
+mod waiting;
 mod watcher;
 mod workers;
 
@@ -36,6 +41,7 @@ pub use line_session::SessionFault;
 pub use listener::Listener;
 pub use notices::{Notices, SessionFailure};
 pub use paced::PacedIn;
+pub use paused::PausedIn;
 pub use serving::{ServeFault, Served, Serving, ServingHooks, Unclosed};
 pub use shared_door::SharedDoor;
 pub use silence::IdleLimitedReader;
@@ -43,4 +49,5 @@ pub use site_lock::{CloseRefusal, Forecourt, Journal, LineJournal, Look, NoJourn
 pub use starting::{RoleThreads, ThreadCounts};
 pub use stop::Stop;
 pub use stream::Stream;
+pub use waiting::{WaitingReader, WaitingWriter};
 pub use watcher::{NoWatcher, Watcher};

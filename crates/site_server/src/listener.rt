@@ -5,6 +5,7 @@ ghost use Rattle.std.specs.IoError.{error_kind};
 use crate::stream::Stream;
 use std::io::{self, ErrorKind};
 use std::net::{Net, SocketAddr, TcpListener, TcpStream};
+use std::os::fd::{AsRawFd, RawFd};
 use std::os::unix::net::UnixListener;
 
 /// A port or a local socket where connections come in. It is closed when it is dropped.
@@ -28,6 +29,21 @@ impl Listener {
         };
         let address = SocketAddr::from(([127, 0, 0, 1], number));
         Ok(Listener::Port(TcpListener::bind(rt, address)?))
+    }
+
+    /// From now on an `accept` that would wait fails with `WouldBlock`.
+    pub(crate) fn never_wait(&self) -> io::Result<()> {
+        match self {
+            Listener::Port(listener) => listener.set_nonblocking(true),
+            Listener::Socket(listener) => listener.set_nonblocking(true),
+        }
+    }
+
+    pub(crate) fn descriptor(&self) -> RawFd {
+        match self {
+            Listener::Port(listener) => listener.as_raw_fd(),
+            Listener::Socket(listener) => listener.as_raw_fd(),
+        }
     }
 
     pub(crate) fn accept(&self) -> io::Result<Stream> {

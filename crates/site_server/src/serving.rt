@@ -20,6 +20,7 @@ use site_core::{Config, Site, Watched};
 use site_lock::{CloseRefusal, Forecourt, ForecourtBuilder, Journal, NoJournal, Pass, SiteLedger};
 use std::alloc::{AllocError, Global};
 use std::marker::Brand;
+use std::net::{Net, TcpListener, TcpStream};
 use std::sync::Wait;
 use std::sync::ledger::Blank;
 use std::thread;
@@ -173,7 +174,7 @@ fn work_all<
     N: Notices + Sync,
     A: Release + Sync,
     W: Watcher,
-    R: Threads + Wait + Clock + Sync,
+    R: Net<Listener = TcpListener, Stream = TcpStream> + Threads + Wait + Clock + Sync,
 >(
     workers: &Workers<'_, L, J, N, A, R>,
     tasks: Vec<WorkerTask<L>>,
@@ -202,7 +203,7 @@ impl<J: Journal + Send> Serving<J> {
         N: Notices + Sync,
         A: Release + Sync,
         W: Watcher + Sync,
-        R: Threads + Wait + Clock + Sync,
+        R: Net<Listener = TcpListener, Stream = TcpStream> + Threads + Wait + Clock + Sync,
     >(
         self,
         rt: &R,
@@ -235,7 +236,7 @@ impl<J: Journal + Send> Serving<J> {
         N: Notices + Sync,
         A: Release + Sync,
         W: Watcher + Sync,
-        R: Threads + Wait + Clock + Sync,
+        R: Net<Listener = TcpListener, Stream = TcpStream> + Threads + Wait + Clock + Sync,
     >(
         self,
         rt: &R,

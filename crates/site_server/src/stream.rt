@@ -1,6 +1,7 @@
 //! A connection, over a port or a local socket.
 use std::io::{self, Read, Write};
 use std::net::{Shutdown, TcpStream};
+use std::os::fd::{AsRawFd, RawFd};
 use std::os::unix::net::UnixStream;
 use std::time::Duration;
 
@@ -41,24 +42,18 @@ impl Stream {
         }
     }
 
+    pub(crate) fn descriptor(&self) -> RawFd {
+        match self {
+            Stream::Port(stream) => stream.as_raw_fd(),
+            Stream::Socket(stream) => stream.as_raw_fd(),
+        }
+    }
+
     /// Tells the peer that nothing more will be written.
     pub(crate) fn end_output(&self) -> io::Result<()> {
         match self {
             Stream::Port(stream) => stream.shutdown(Shutdown::Write),
             Stream::Socket(stream) => stream.shutdown(Shutdown::Write),
-        }
-    }
-
-    pub(crate) fn read_shared(&self, buf: &mut [u8]) -> io::Result<usize> {
-        match self {
-            Stream::Port(stream) => {
-                let mut reader: &TcpStream = stream;
-                reader.read(buf)
-            }
-            Stream::Socket(stream) => {
-                let mut reader: &UnixStream = stream;
-                reader.read(buf)
-            }
         }
     }
 }

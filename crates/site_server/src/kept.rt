@@ -1,0 +1,101 @@
+//! The connections that a stop leaves open.
+ghost use Rattle.std.specs.Prelude.{◌≡◌, ◌↔◌, IfOk, drop, true};
+ghost use Rattle.std.specs.Io.Chain.{chain_first};
+ghost use Rattle.std.specs.Io.Cursor.{cursor_inner, cursor_position};
+ghost use Rattle.site_server.specs.Kept.{has_more, is_kept, left_ahead};
+
+use crate::guard::GuardedReader;
+use crate::judging::Verdict;
+use crate::notices::Notices;
+use crate::paused::PausedIn;
+use crate::silence::IdleLimitedReader;
+use crate::stream::Stream;
+use line_session::{Ended, SessionFault};
+use std::alloc::AllocError;
+use std::io::Cursor;
+use std::net::Net;
+use std::sync::Wait;
+use std::time::Clock;
+use till_request::devices::StreamIn;
+
+/// A connection that a stop leaves open for the workers that follow.
+#[derive(Drop)]
+pub struct KeptConnection {
+    pub(crate) reader: Stream,
+    pub(crate) writer: Stream,
+    /// What was read of it, and isn't answered.
+    pub(crate) ahead: Vec<u8>,
+    /// Whether its peer was judged, and is no stranger.
+    pub(crate) is_known: bool,
+}
+
+fn has_more(outcome: &Result<Ended, SessionFault>) -> bool
+    ensures { result ≡ has_more outcome.now }
+{
+    match outcome {
+        Ok(ended) => ended.cut.is_none(),
+        Err(fault) => matches!(fault, SessionFault::Read),
+    }
+}
+
+/// Whether a connection is kept, by whether a stop interrupted its input.
+pub(crate) fn is_kept(is_paused: bool, outcome: &Result<Ended, SessionFault>) -> bool
+    ensures { result ≡ is_kept is_paused outcome.now }
+{
+    is_paused && has_more(outcome)
+}
+
+/// What wasn't read of a list.
+fn unread(cursor: &Cursor<Vec<u8>>) -> &[u8]
+    ensures { result.now ≡ drop (cursor_position cursor.now) (cursor_inner cursor.now).items }
+{
+    let bytes = cursor.get_ref().as_slice();
+    let start = (cursor.position() as usize).min(bytes.len());
+    &bytes[start..]
+}
+
+fn gather(begun: Vec<u8>, block: &[u8], judged: &[u8], kept: &[u8]) -> Result<Vec<u8>, AllocError>
+    ensures { IfOk result (λ ahead. ahead.items ≡ left_ahead begun.items block.now judged.now kept.now) }
+{
+    let mut ahead = begun;
+    ahead.extend_from_slice(block)?;
+    ahead.extend_from_slice(judged)?;
+    ahead.extend_from_slice(kept)?;
+    Ok(ahead)
+}
+
+/// What is left of a connection whose input a stop has interrupted.
+pub(crate) fn kept_of<R: Net + Wait + Clock, N: Notices>(
+    input: PausedIn<'_, StreamIn<GuardedReader<'_, N, IdleLimitedReader<'_, R, N>>>>,
+    writer: Stream,
+) -> Result<KeptConnection, AllocError>
+    // proved ahead, known: Nothing is lost of a kept connection
+    ensures ahead { IfOk result (λ kept. kept.ahead.items ≡ left_ahead input.entry.begun.items input.entry.input.block
+        input.entry.input.input.reader.beginning.kept
+        (drop (cursor_position (chain_first input.entry.input.input.reader.reader.stream.source))
+        (cursor_inner (chain_first input.entry.input.input.reader.reader.stream.source)).items)) }
+    ensures known { IfOk result (λ kept. kept.is_known ≡ true
+        ↔ (input.entry.input.input.reader.beginning.verdict ≡ Verdict.Client)) }
+{
+    let PausedIn {
+        input: source,
+        begun,
+        ..
+    } = input;
+    let guard = &source.input.reader;
+    let before = guard.reader.stream.source.get_ref().0;
+    let is_known = matches!(guard.beginning.verdict(), Verdict::Client);
+    let ahead = gather(
+        begun,
+        source.ahead(),
+        guard.beginning.kept(),
+        unread(before),
+    )?;
+    let (_, reader) = source.input.reader.reader.stream.source.into_inner();
+    Ok(KeptConnection {
+        reader,
+        writer,
+        ahead,
+        is_known,
+    })
+}
