@@ -50,11 +50,11 @@ HasRightPosition bytes (NotToml line column message) = (is_utf8 bytes ≡ true) 
 HasRightPosition bytes OutOfMemory = is_utf8 bytes ≡ true
 HasRightPosition bytes flaw = Unit {0}
 
--- The flaw is `NotToml` with this position and this message, or `OutOfMemory`.
-abbrev pub IsNotToml : ℕ × ℕ → List ℕ → ConfigFlaw → Type 0
-IsNotToml at message (NotToml line column actual) = ((line, column) ≡ at) × (string_bytes actual ≡ message)
-IsNotToml at message OutOfMemory = Unit {0}
-IsNotToml at message flaw = ⊥
+-- The flaw is `NotToml` with this position and a message for which `says` holds, or `OutOfMemory`.
+abbrev pub IsNotToml : ℕ × ℕ → (List ℕ → Type 0) → ConfigFlaw → Type 0
+IsNotToml at says (NotToml line column message) = ((line, column) ≡ at) × says (string_bytes message)
+IsNotToml at says OutOfMemory = Unit {0}
+IsNotToml at says flaw = ⊥
 
 -- Replaces a flaw by its fault number.
 abbrev pub numbered : {A : Type 0} → Result A ConfigFlaw → Result A ConfigFault

@@ -1,5 +1,7 @@
 -- Definitions: the text that describes a flaw of a configuration (source: this project).
-use Rattle.std.specs.Prelude.{ℕ, ℤ, nat_lt, List, [], ◌++◌, codes, string_bytes, if◌then◌else◌}
+use Rattle.std.specs.Prelude.{◌≡◌, ◌≢◌, ◌⊎◌, ℕ, ℤ, nat_lt, ◌==◌, List, [], ◌∷◌, ◌++◌, Option, Some, None, codes, string_bytes, if◌then◌else◌}
+use Rattle.std.specs.List.{before_first}
+use Rattle.std.specs.Str.{IsTrimAscii}
 use Rattle.std.specs.Fmt.{decimal, signed_decimal}
 use Rattle.site_config.specs.declared.flaw.«Type».{«Type» as ValueType}
 use Rattle.site_config.specs.declared.flaw.«Type».TheVariants as types
@@ -57,7 +59,30 @@ doors_text (TooManyWorkers side count most) =
 doors_text (WithoutDoor side number) = singular_of side ++ (codes " " ++ (decimal number ++ codes " has no door"))
 doors_text flaw = []
 
--- The text for a flaw. If a configuration isn't TOML, the text is the message of the TOML reader.
+-- a text without the `[` at its front, if it has one
+abbrev pub behind_bracket : List ℕ → List ℕ
+behind_bracket [] = []
+behind_bracket (byte ∷ text) = if byte == 91 then text else byte ∷ text
+
+-- The key, as it is written, of a pair such as `tills = 2` or of a header such as `[serve]` or `[[serve.till]]`: what is
+-- behind the brackets, and before the first `]` and the first `=`. It may have blanks around it.
+abbrev pub key_part : List ℕ → List ℕ
+key_part piece = before_first (λ byte. byte == 61) (before_first (λ byte. byte == 93) (behind_bracket (behind_bracket piece)))
+
+-- These words name the key of this pair or header, without blanks around it.
+abbrev pub SaysTwice : List ℕ → List ℕ → Type 0
+SaysTwice piece words =
+    (key : List ℕ) × IsTrimAscii (key_part piece) key × (words ≡ codes "the key '" ++ (key ++ codes "' stands twice"))
+
+-- What is said of an error of the TOML reader, whose message this is; `piece` is the part of the text that the error
+-- names, if that is a text. TOML forbids that a key is defined twice: of this error the key is said, of any other the
+-- message.
+abbrev pub SaysFault : List ℕ → Option (List ℕ) → List ℕ → Type 0
+SaysFault message None words = words ≡ message
+SaysFault message (Some piece) words =
+    ((message ≢ codes "duplicate key") × (words ≡ message)) ⊎ ((message ≡ codes "duplicate key") × SaysTwice piece words)
+
+-- The text for a flaw. If a configuration isn't TOML, the text is what is said of the TOML reader's error.
 abbrev pub flaw_text : ConfigFlaw → List ℕ
 flaw_text (NotUtf8 line column) = codes "the text isn't UTF-8"
 flaw_text (NotToml line column message) = string_bytes message

@@ -1,13 +1,16 @@
 //! Reads bytes as a TOML document.
-ghost use Rattle.std.specs.Prelude.{◌≡◌, ◌≢◌, ◌<◌, ◌↔◌, Err, IfErr, IfOk, IfSome, IsNone, None, Some};
-ghost use Rattle.toml.specs.Errors.{IsBlank, IsMemory, span_start};
+ghost use Rattle.std.specs.Prelude.{◌≡◌, ◌≢◌, ◌<◌, ◌==◌, ◌↔◌, Err, IfErr, IfOk, IfSome, IsNone, None, Some, option_map, slice_range, string_bytes};
+ghost use Rattle.std.specs.List.{before_first};
+ghost use Rattle.std.specs.Str.{IsCharBoundary};
+ghost use Rattle.toml.specs.Errors.{IsBlank, IsMemory, IsWithin, span_end, span_start};
 ghost use Rattle.toml.specs.View.{table_view};
 ghost use Rattle.site_config.specs.Document.{document_of};
 ghost use Rattle.site_config.specs.Flaws.{HasRightPosition, IsNotToml, IsOfText};
+ghost use Rattle.site_config.specs.Words.{SaysFault, SaysTwice, behind_bracket, key_part};
 ghost use Rattle.site_config.specs.Positions.{past, position_behind, position_at};
 
 use crate::flaw::ConfigFlaw;
-use std::alloc::Global;
+use std::alloc::{AllocError, Global};
 use toml::Table;
 use toml::de::Error;
 
@@ -53,12 +56,75 @@ fn start_of(text: &str, error: &Error) -> Option<(usize, usize)>
     }
 }
 
-/// `NotToml` with this position and message, or `OutOfMemory`.
-fn not_toml(alloc: Global, at: (usize, usize), message: &str) -> ConfigFlaw
-    ensures { IsNotToml at message.now result }
+/// The text of an error's span.
+fn piece_of<'a>(text: &'a str, error: &Error) -> Option<&'a str>
+    ensures piece { IfSome result
+        (λ piece. piece.now ≡ slice_range text.now (span_start error.now) (span_end error.now)) }
+    ensures none { IsNone result → IsWithin text.now error.now → IsCharBoundary text.now (span_start error.now)
+        → IsCharBoundary text.now (span_end error.now) → IsMemory error.now }
+{
+    text.get(error.span()?)
+}
+
+/// The text without a `[` at its front.
+fn behind_bracket(text: &str) -> &str
+    ensures { result.now ≡ behind_bracket text.now }
+{
+    match text.strip_prefix('[') {
+        Some(rest) => rest,
+        None => text,
+    }
+}
+
+fn before_closing(text: &str) -> &str
+    ensures { result.now ≡ before_first (λ byte. byte == 93) text.now }
+{
+    match text.split_once(']') {
+        Some((front, _)) => front,
+        None => text,
+    }
+}
+
+fn before_equals(text: &str) -> &str
+    ensures { result.now ≡ before_first (λ byte. byte == 61) text.now }
+{
+    match text.split_once('=') {
+        Some((front, _)) => front,
+        None => text,
+    }
+}
+
+/// The key at the front of a pair or of a table's header, perhaps with blanks around it.
+fn key_part(piece: &str) -> &str
+    ensures { result.now ≡ key_part piece.now }
+{
+    before_equals(before_closing(behind_bracket(behind_bracket(piece))))
+}
+
+fn twice(alloc: Global, piece: &str) -> Result<String, AllocError>
+    ensures { IfOk result (λ words. SaysTwice piece.now (string_bytes words)) }
+{
+    let key = key_part(piece).trim_ascii();
+    format!(in alloc; "the key '{key}' stands twice")
+}
+
+/// What is said of an error of the TOML reader: its message, or which key stands twice. `piece` is the text of its span.
+fn fault_words(alloc: Global, message: &str, piece: Option<&str>) -> Result<String, AllocError>
+    ensures { IfOk result (λ words.
+        SaysFault message.now (option_map (λ text. text.now) piece.entry) (string_bytes words)) }
+{
+    match piece {
+        Some(piece) if message == "duplicate key" => twice(alloc, piece),
+        Some(_) | None => String::from_str(alloc, message),
+    }
+}
+
+/// `NotToml` with this position and what is said of the error, or `OutOfMemory`.
+fn not_toml(alloc: Global, at: (usize, usize), message: &str, piece: Option<&str>) -> ConfigFlaw
+    ensures { IsNotToml at (SaysFault message.now (option_map (λ text. text.now) piece.entry)) result }
 {
     let (line, column) = at;
-    match String::from_str(alloc, message) {
+    match fault_words(alloc, message, piece) {
         Ok(message) => ConfigFlaw::NotToml {
             line,
             column,
@@ -85,7 +151,7 @@ pub fn read_document(alloc: Global, bytes: &[u8]) -> Result<Table, ConfigFlaw>
         Ok(text) => match toml::table_from_str(alloc, text) {
             Ok(table) => Ok(table),
             Err(error) => match start_of(text, &error) {
-                Some(at) => Err(not_toml(alloc, at, error.message())),
+                Some(at) => Err(not_toml(alloc, at, error.message(), piece_of(text, &error))),
                 None => Err(ConfigFlaw::OutOfMemory),
             },
         },
