@@ -191,7 +191,9 @@ pub fn serve_days<
                 text = new;
             }
             let day = days.begin_next(host, &text)?;
-            print_message(rt, &format_args!("day {}", day.number));
+            if day.retry.is_none() {
+                print_message(rt, &format_args!("day {} is served", day.number));
+            }
             next = Some(day);
         }
     }
