@@ -31,6 +31,7 @@ use Rattle.site_config.specs.declared.settings.Serve.{Serve}
 use Rattle.site_config.specs.Document.{◌>>=◌, demand, without, first_of}
 use Rattle.site_config.specs.Demands.{ranged}
 use Rattle.site_config.specs.Typed.{TypedServe}
+use Rattle.site_config.specs.DayEnds.{day_ends_of}
 
 -- Where connections come in: a port of 127.0.0.1, or the text of a local socket's path.
 pub data AddressValue : Type 0 where
@@ -52,13 +53,14 @@ pub record DoorValue : Type 0 where
   pub lines_per_second : ℕ
 
 -- Where and how to serve: the doors in their order, how many connections each worker serves (None for connections
--- without end), after how many seconds without a byte a connection ends (0 for never), and the port of the page on which
--- the site is shown, if there is one.
+-- without end), after how many seconds without a byte a connection ends (0 for never), the port of the page on which
+-- the site is shown, if there is one, and the minute of the day in UTC at which a day ends, if it ends at a time.
 pub record ServeValue : Type 0 where
   pub doors : List DoorValue
   pub connections : Option ℕ
   pub idle_seconds : ℕ
   pub page_port : Option ℕ
+  pub day_ends : Option ℕ
 
 -- The place of `key` in the same table as the key at `place`. If `place` isn't the place of a key, the result is
 -- `place` itself.
@@ -279,6 +281,7 @@ each_door one (d ∷ ds) = do
 -- - clashes among the doors
 -- - the numbers of `[serve]`
 -- - the page's port
+-- - the time at which a day ends
 -- - the doors of tills: how many workers they have in all, and whether each till has a door
 -- - the doors of dispensers: how many workers they have in all, and whether each point has a door
 unfoldable pub serve_of : ℕ → ℕ → TypedServe → Result ServeValue ConfigFlaw
@@ -291,11 +294,12 @@ serve_of tills points s = do
   i ← ranged (At OfServe key.IdleSeconds) 0 86400 s.idle_seconds
   l ← ranged (At OfServe key.LinesPerSecond) 0 1000000 s.lines_per_second
   p ← page_of s.doors s.page_port
+  e ← day_ends_of s.day_ends
   of_tills ← side_fits sides.Tills t 64 tills s.doors
   of_dispensers ← side_fits sides.Dispensers w 31 points s.doors
   doors ← each_door
       (door_of (record { tills = tills; points = points; till_workers = t; dispenser_workers = w; lines_per_second = l; own_lines = s.own_lines })) s.doors
-  Ok (record { doors = doors; connections = n; idle_seconds = i; page_port = p })
+  Ok (record { doors = doors; connections = n; idle_seconds = i; page_port = p; day_ends = e })
 
 -- The code's `Address` as an `AddressValue`. Below: the code's `Door` as a `DoorValue`, and the code's `Serve` as a
 -- `ServeValue`.
@@ -318,4 +322,5 @@ serve_seen s = record {
   connections = s.connections;
   idle_seconds = s.idle_seconds;
   page_port = s.page_port;
+  day_ends = s.day_ends;
 }

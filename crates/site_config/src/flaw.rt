@@ -30,6 +30,7 @@ pub enum Key {
     LinesPerSecond,
     PagePort,
     OwnLines,
+    DayEnds,
     TillSocket,
     DispenserSocket,
     OwnerSocket,
@@ -70,6 +71,7 @@ impl Key {
             Key::LinesPerSecond => "lines_per_second",
             Key::PagePort => "page_port",
             Key::OwnLines => "own_lines",
+            Key::DayEnds => "day_ends",
             Key::TillSocket => "till_socket",
             Key::DispenserSocket => "dispenser_socket",
             Key::OwnerSocket => "owner_socket",
@@ -280,6 +282,8 @@ pub enum ConfigFlaw {
     TooManyWorkers(Side, usize, usize),
     /// K3: the lines of this till, or of this point, are taken at no door.
     WithoutDoor(Side, u32),
+    /// K3: a value isn't the text of a time from 00:00 to 23:59.
+    NotTimeOfDay(Place),
     OutOfMemory,
 }
 
@@ -361,6 +365,9 @@ impl fmt::Display for ServeFlawText<'_> {
             ConfigFlaw::WithoutDoor(side, number) => {
                 write!(f, "{} {number} has no door", side.singular())
             }
+            ConfigFlaw::NotTimeOfDay(place) => {
+                write!(f, "{place} is not \"00:00\" to \"23:59\"")
+            }
             ConfigFlaw::NotUtf8 { .. }
             | ConfigFlaw::NotToml { .. }
             | ConfigFlaw::UnknownKey(..)
@@ -405,7 +412,8 @@ impl fmt::Display for ConfigFlaw {
             | ConfigFlaw::SameTill(..)
             | ConfigFlaw::PointTwice(..)
             | ConfigFlaw::TooManyWorkers(..)
-            | ConfigFlaw::WithoutDoor(..) => write!(f, "{}", ServeFlawText(self)),
+            | ConfigFlaw::WithoutDoor(..)
+            | ConfigFlaw::NotTimeOfDay(..) => write!(f, "{}", ServeFlawText(self)),
         }
     }
 }
@@ -434,7 +442,8 @@ impl ConfigFlaw {
             | ConfigFlaw::SameTill(..)
             | ConfigFlaw::PointTwice(..)
             | ConfigFlaw::TooManyWorkers(..)
-            | ConfigFlaw::WithoutDoor(..) => ConfigFault::K3,
+            | ConfigFlaw::WithoutDoor(..)
+            | ConfigFlaw::NotTimeOfDay(..) => ConfigFault::K3,
             ConfigFlaw::OutOfMemory => ConfigFault::OutOfMemory,
         }
     }

@@ -21,6 +21,7 @@ macro_rules! room_for {
     };
 }
 
+mod day_ends;
 mod document;
 pub mod doors;
 mod fault;

@@ -1,15 +1,17 @@
 //! Reads the table `[serve]` and its tables of doors, and checks their keys and types (K2).
 ghost use Rattle.std.specs.Prelude.{◌≡◌, ◌≢◌, ◌<◌, Err, IsOkAnd, IsSomeAnd, length, option_map};
 ghost use Rattle.toml.specs.View.{view, table_view, items_view};
-ghost use Rattle.toml.specs.Data.{get_member};
+ghost use Rattle.toml.specs.Data.{as_str, get_member};
 ghost use Rattle.site_config.specs.Document.{Finds, with_front};
 ghost use Rattle.site_config.specs.Keys.{name_of};
 ghost use Rattle.site_config.specs.Typed.{text_of, has_shared, door_at, shared_at, workers_at, till_in};
 ghost use Rattle.site_config.specs.Typed.{dispenser_in, single_in, each_in, tables_from, owner_at, doors_at};
-ghost use Rattle.site_config.specs.Typed.{own_door_at, own_lines_from, page_from, served_in, served_at, seen_serve};
+ghost use Rattle.site_config.specs.Typed.{own_door_at, own_lines_from, page_from, minute_in, day_ends_from};
+ghost use Rattle.site_config.specs.Typed.{served_in, served_at, seen_serve};
 ghost use Rattle.site_config.specs.Memory.{KeepsFirst, TakesDoor, TakesShared, TakesTill, TakesDispenser};
 ghost use Rattle.site_config.specs.Memory.{TakesSingle, TakesTables, TakesDoors, TakesServed};
 
+use crate::day_ends::minute_of;
 use crate::flaw::{ConfigFlaw, Key, Place, Section, Side};
 use crate::raw::{Numbers, RawAddress, RawDoor, RawRole, Served};
 use crate::text::Text;
@@ -295,6 +297,23 @@ fn read_own_lines(table: &Table) -> Result<Stray, ConfigFlaw>
     }
 }
 
+/// The minute of the day that a value is; `None` if it isn't a text that is a time.
+fn read_minute(value: &Value) -> Option<u32>
+    ensures { result ≡ minute_in (as_str (view value.now)) }
+{
+    match value.as_str() {
+        Some(text) => minute_of(text),
+        None => None,
+    }
+}
+
+/// The minute of the day at which a day ends; `None` if the key isn't given, `Some(None)` if its value is no time.
+fn read_day_ends(table: &Table) -> Option<Option<u32>>
+    ensures { result ≡ day_ends_from (get_member (name_of Key.DayEnds) (table_view table.now)) }
+{
+    find_value(table, Key::DayEnds.name()).map(read_minute)
+}
+
 #[tactic(auto, unfolding(crate::specs::Typed::served_in, crate::specs::Memory::TakesServed))]
 fn read_served(alloc: Global, value: &Value) -> Result<Served, ConfigFlaw>
     ensures read { Finds seen_serve result (served_in (view value.now)) }
@@ -319,6 +338,7 @@ fn read_served(alloc: Global, value: &Value) -> Result<Served, ConfigFlaw>
         page_port,
         lines_per_second,
         own_lines,
+        day_ends: read_day_ends(table),
     })
 }
 

@@ -222,6 +222,7 @@ fn is_serve(key: &str) -> bool
         || key == "till"
         || key == "dispenser"
         || key == "own_lines"
+        || key == "day_ends"
 }
 
 #[tactic(auto, unfolding(crate::specs::Typed::is_till_key))]
