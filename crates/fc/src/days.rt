@@ -119,7 +119,7 @@ impl Days<'_> {
         } = day;
         let ends = match retry {
             Some(retry) => Some(retry),
-            None => end_of(audited.site(), None, second(host)),
+            None => end_of(audited.site(), serve.day_ends, second(host)),
         };
         let kept_by = KeptBy {
             by: ServedBy {
