@@ -1,6 +1,8 @@
 -- Definitions: what the message of a job says whose configuration, history, journal, opening, day or script is refused:
 -- the file, the line if there is one, why, and the fault's number (source: this project).
-use Rattle.std.specs.Prelude.{◌≡◌, ◌⊎◌, ℕ, ◌+◌, ⊤, List, [], ◌++◌, codes, decimal, min, Option, Some, None, IfSome, option_map, Result, Ok, Err}
+use Rattle.std.specs.Prelude.{◌≡◌, ◌≢◌, ◌⊎◌, ℕ, ◌+◌, ◌-◌, ⊤, List, [], ◌++◌, codes, decimal, min, Option, Some, None, IfSome, option_map, Result, Ok, Err}
+use Rattle.std.specs.Prelude.{string_bytes}
+use Rattle.std.specs.Str.{IsUtf8}
 use Rattle.till_request.specs.declared.act.LineFault.{LineFault}
 use Rattle.till_request.specs.declared.act.LineFault.TheVariants as line_fault
 use Rattle.decision_journal.specs.declared.fault.JournalFault.{JournalFault}
@@ -22,12 +24,18 @@ use Rattle.days.specs.declared.file.OpeningFlaw.{OpeningFlaw}
 use Rattle.days.specs.declared.file.OpeningFlaw.TheVariants as opening
 use Rattle.days.specs.declared.chain_fault.Unbegun.{Unbegun}
 use Rattle.days.specs.declared.chain_fault.Unbegun.TheVariants as unbegun
-use Rattle.days.specs.Words.{unfit_text}
+use Rattle.days.specs.declared.chain_fault.Unfollowed.{Unfollowed}
+use Rattle.days.specs.declared.chain_fault.Unfollowed.TheVariants as unfollowed
+use Rattle.days.specs.declared.chain_fault.NoNextOpening.TheVariants as no_next_opening
+use Rattle.days.specs.declared.chain_fault.Cause.{Cause}
+use Rattle.days.specs.declared.chain_fault.Cause.TheVariants as cause
+use Rattle.days.specs.Words.{uncarried_text, unfit_text}
 use Rattle.file_jobs.specs.declared.job_error.JobError.{JobError}
 use Rattle.file_jobs.specs.declared.job_error.JobError.TheVariants as job_error
 use Rattle.file_jobs.specs.declared.journal_reasons.JournalFlaw.{JournalFlaw}
 use Rattle.file_jobs.specs.declared.journal_reasons.JournalFlaw.TheVariants as flaw
 use Rattle.file_jobs.specs.declared.reasons.RefusedProgram.{RefusedProgram}
+use Rattle.file_jobs.specs.Chained.{IsOtherLine}
 use Rattle.file_jobs.specs.FlawTexts.{flaw_text}
 use Rattle.file_jobs.specs.JournalFlaws.{Explains}
 use Rattle.file_jobs.specs.Reasons.{Names}
@@ -95,6 +103,31 @@ SaysUnbegun word unbegun.HasOpening error = SaysFault word None (codes "the firs
 SaysUnbegun word (unbegun.Flawed why) error = SaysOpening word why error
 SaysUnbegun word (unbegun.OtherDay day) error = SaysFault word None (codes "this is the opening of day " ++ decimal day) (codes "O1") error
 SaysUnbegun word (unbegun.Unfit why) error = SaysOf word None (unfit_text why) error
+
+-- of an opening whose line `number` should be `line`, which day `day` - 1 left; nothing is quoted of a line that is
+-- empty or no text
+abbrev pub SaysOtherLine : List ℕ → ℕ → ℕ → List ℕ → JobError → Type 0
+SaysOtherLine word day number line error =
+    ((line ≢ []) × SaysFault word (Some number) (codes "day " ++ (decimal (day - 1) ++ (codes " left '" ++ (line ++ codes "' here")))) (codes "O1") error)
+    ⊎ ((IsUtf8 line → line ≡ []) × SaysFault word (Some number) (codes "the day before left no such line") (codes "O1") error)
+
+-- of a day that doesn't follow the day before; `word` names its opening
+abbrev pub SaysUnfollowed : List ℕ → ℕ → Unfollowed → JobError → Type 0
+SaysUnfollowed word day (unfollowed.NoOpening left) error = SaysFault word None (codes "the day has no opening") (codes "O1") error
+SaysUnfollowed word day (unfollowed.OtherOpening bytes left) error =
+    (number : ℕ) × (line : List ℕ) × IsOtherLine bytes.items (string_bytes left) number line × SaysOtherLine word day number line error
+
+-- of days that are refused at day `day`; `opening` and `journal` name its files. Nothing is claimed of a day that can't
+-- be read, and of a journal that can't be closed.
+abbrev pub SaysDays : {J : Type 0} → List ℕ → List ℕ → ℕ → Cause J → JobError → Type 0
+SaysDays opening journal day cause.NoDays error = ⊤
+SaysDays opening journal day cause.Unread error = ⊤
+SaysDays opening journal day (cause.NoNextOpening no_next_opening.NoJournal) error =
+    SaysFault journal None (codes "the day has no journal") (codes "O1") error
+SaysDays opening journal day (cause.NoNextOpening (no_next_opening.Uncarried why)) error = SaysOf journal None (uncarried_text why) error
+SaysDays opening journal day (cause.Unfollowed why) error = SaysUnfollowed opening day why error
+SaysDays opening journal day (cause.Unbegun why) error = SaysUnbegun opening why error
+SaysDays opening journal day (cause.Unclosed why) error = ⊤
 
 -- of a script that stops at a line; nothing is claimed of the faults at which none stops
 abbrev pub SaysStop : List ℕ → ℕ → LineFault → JobError → Type 0

@@ -1,5 +1,5 @@
 //! The audit of all days of a station.
-ghost use Rattle.std.specs.Prelude.{◌≡◌, ◌-◌, ◌++◌, true, [], Some, IfSome, IfNone, IfOk, IfErr, IsErrAnd, codes};
+ghost use Rattle.std.specs.Prelude.{◌≡◌, ◌≢◌, ◌-◌, ◌++◌, true, [], None, Some, IfSome, IfNone, IfOk, IfErr, IsErrAnd, codes};
 ghost use Rattle.std.specs.Prelude.{length, option_map};
 ghost use Rattle.std.specs.Fmt.{decimal};
 ghost use Rattle.std.specs.Str.{IsUtf8};
@@ -9,7 +9,7 @@ ghost use Rattle.file_jobs.specs.StandardInput.{is_input};
 ghost use Rattle.file_jobs.specs.Days.{FolderText, IsConfigOf, file_of, own_config};
 ghost use Rattle.file_jobs.specs.JobErrors.{Ends, EndsOrRunsOut, Refuses};
 ghost use Rattle.file_jobs.specs.PlaysAndDays.{RefusesBeginning, RefusesJournal, RefusesDays};
-ghost use Rattle.file_jobs.specs.Told.{SaysUnbegun};
+ghost use Rattle.file_jobs.specs.Told.{SaysDays, SaysFault, SaysOtherLine, SaysUnbegun, SaysUnfollowed};
 ghost use Rattle.file_jobs.specs.Chained.{AgreeFor, AreLegal, IsOtherLine, NoConfigIsRefused, day_in, days_left};
 
 use crate::files::{lines_in, text_of};
@@ -223,7 +223,8 @@ fn refuse_cause<F: DayFiles + Drop>(
     paths: (&str, &str),
     cause: Cause<Journal<'_, F::File>>,
 ) -> JobError
-    ensures { RefusesDays day cause.entry days.entry.job_error result }
+    ensures ends { RefusesDays day cause.entry days.entry.job_error result }
+    ensures says { SaysDays paths.entry.0.now paths.entry.1.now day cause.entry result }
 {
     let (opening, journal) = paths;
     let alloc = rt.alloc();
@@ -231,9 +232,7 @@ fn refuse_cause<F: DayFiles + Drop>(
         // Never here: the folder had a day when it was read.
         Cause::NoDays => refuse_folder(alloc, days.folder.as_folder()),
         Cause::Unread => days.job_error.unwrap_or(JobError::OutOfMemory),
-        Cause::NoNextOpening(NoNextOpening::NoJournal) => {
-            refuse_link(alloc, Place::of(journal), day, &"the day has no journal")
-        }
+        Cause::NoNextOpening(NoNextOpening::NoJournal) => { refuse_missing(alloc, journal, day) }
         Cause::NoNextOpening(NoNextOpening::Uncarried(why)) => {
             refuse_uncarried(alloc, journal, why)
         }
@@ -243,6 +242,13 @@ fn refuse_cause<F: DayFiles + Drop>(
     }
 }
 
+fn refuse_missing(alloc: Global, journal: &str, day: u32) -> JobError
+    ensures ends { EndsOrRunsOut 1 (codes "O1 " ++ (decimal day ++ codes "\n")) result }
+    ensures says { SaysFault journal.now None (codes "the day has no journal") (codes "O1") result }
+{
+    refuse_link(alloc, Place::of(journal), day, &"the day has no journal")
+}
+
 fn refuse_folder(alloc: Global, folder: Folder<'_>) -> JobError
     ensures { Ends 1 [] result }
 {
@@ -250,24 +256,40 @@ fn refuse_folder(alloc: Global, folder: Folder<'_>) -> JobError
 }
 
 fn refuse_unfollowed(alloc: Global, opening: &str, day: u32, why: Unfollowed) -> JobError
-    ensures { EndsOrRunsOut 1 (codes "O1 " ++ (decimal day ++ codes "\n")) result }
+    ensures ends { EndsOrRunsOut 1 (codes "O1 " ++ (decimal day ++ codes "\n")) result }
+    ensures says { SaysUnfollowed opening.now day why result }
 {
     match why {
         Unfollowed::NoOpening(_left) => refuse_link(alloc, Place::of(opening), day, &UNOPENED),
         Unfollowed::OtherOpening(bytes, left) => {
             let (number, line) = other_line(&bytes, left.as_bytes());
-            let place = Place::of(opening).line(number);
-            match left_line(day, line) {
-                Some(left) => refuse_link(alloc, place, day, &left),
-                None => refuse_link(alloc, place, day, &"the day before left no such line"),
-            }
+            refuse_line(alloc, opening, day, number, line)
         }
     }
 }
 
+/// Makes the error for an opening whose line `number` should be `line`.
+fn refuse_line(alloc: Global, opening: &str, day: u32, number: u64, line: &[u8]) -> JobError
+    ensures ends { EndsOrRunsOut 1 (codes "O1 " ++ (decimal day ++ codes "\n")) result }
+    ensures says { SaysOtherLine opening.now day number line.now result }
+{
+    match left_line(day, line) {
+        Some(left) => refuse_link(alloc, Place::of(opening).line(number), day, &left),
+        None => refuse_lacking(alloc, opening, day, number),
+    }
+}
+
+fn refuse_lacking(alloc: Global, opening: &str, day: u32, number: u64) -> JobError
+    ensures ends { EndsOrRunsOut 1 (codes "O1 " ++ (decimal day ++ codes "\n")) result }
+    ensures says { SaysFault opening.now (Some number) (codes "the day before left no such line") (codes "O1") result }
+{
+    let place = Place::of(opening).line(number);
+    refuse_link(alloc, place, day, &"the day before left no such line")
+}
+
 /// Returns the message for a line that day `day` should begin with, or `None` if it is empty or isn't UTF-8.
 fn left_line(day: u32, line: &[u8]) -> Option<Left<'_>>
-    ensures left { IfSome result (λ left. (left.0 ≡ day - 1) × (left.1.now ≡ line.now)) }
+    ensures left { IfSome result (λ left. (left.0 ≡ day - 1) × (left.1.now ≡ line.now) × (line.now ≢ [])) }
     ensures none { IfNone result (IsUtf8 line.now → line.now ≡ []) }
 {
     match str::from_utf8(line) {

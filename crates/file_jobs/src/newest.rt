@@ -4,6 +4,7 @@ ghost use Rattle.std.specs.Prelude.{codes, is_some, option_map, string_bytes};
 ghost use Rattle.std.specs.Fmt.{decimal};
 ghost use Rattle.file_jobs.specs.JobErrors.{Ends, EndsOrRunsOut, Refuses, Says, SaysOf, numbered_words, words_at};
 ghost use Rattle.days.specs.Chain.{BeginsBy, next_opening};
+ghost use Rattle.site_core.specs.Limits.{ConfigValue};
 ghost use Rattle.days.specs.Text.{opening_text};
 ghost use Rattle.days.specs.Words.{uncarried_text};
 ghost use Rattle.file_jobs.specs.Days.{day_plan, BeginsDay, FolderText, GoesOn, IsNextText, IsOwn, IsServed, IsUnfitting, Takes};
@@ -187,6 +188,9 @@ fn own_that_fits<F: DayFiles>(
 ) -> Result<Option<Own>, JobError>
     ensures own { (texts : FolderText) → F.files folder.now ≡ Some texts
         → IfOk result (λ own. IfSome own (IsOwn (file_of texts day Part.Config))) }
+    ensures none { (texts : FolderText) → F.files folder.now ≡ Some texts → IfOk result (λ own. own ≡ None
+        → (config : ConfigValue) → own_config (file_of texts day Part.Config) ≡ Some (Ok config)
+        → IsUnfitting texts config day) }
     ensures refused { IfErr result (Refuses 1) }
 {
     let Some(own) = own_of(rt, folder, day)? else {
