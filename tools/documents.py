@@ -1,7 +1,7 @@
 #!/usr/bin/env python3
-"""Checks the documents' text: no line has more than 120 characters, each file of the repository exists that a document
-names (`crates/..`, `docs/..`, a page beside it, a file of a crate as `site_core/src/site.rt`), and each link leads to a
-file, and to a heading of it.
+"""Checks the documents' text: no line has more than 120 characters, but rows of PROVED.md; each file of the repository
+exists that a document names (`crates/..`, `docs/..`, a page beside it, a file of a crate as `site_core/src/site.rt`),
+and each link leads to a file, and to a heading of it.
 
     documents.py     the last line is 'N passed, M failed', of documents
 """
@@ -46,7 +46,8 @@ def broken_links(document, line):
 
 def faults_of(document):
     for number, line in enumerate(text_of(document).splitlines(), 1):
-        if len(line) > MOST:
+        # A row that is made of the sources can't be wrapped.
+        if len(line) > MOST and not (document == "docs/code/PROVED.md" and line.startswith("| ")):
             yield f"{document}:{number}: {len(line)} characters"
         for code in re.findall(r"`([^`\s]+)`", line):
             is_pattern = re.search(r"/[A-Z]+(/|\.edit|$)", code)  # as crates/CRATE/src
