@@ -1,11 +1,13 @@
 -- Definitions: which connections a stop leaves open, and what of their input is left for the workers that follow (source:
 -- this project).
-use Rattle.std.specs.Prelude.{◌≡◌, ℕ, Bool, true, false, List, [], ◌∷◌, ◌++◌, ◌&&◌, is_none, IfSome, Result, Ok, Err}
+use Rattle.std.specs.Prelude.{◌≡◌, ℕ, Bool, true, false, List, [], ◌∷◌, ◌++◌, ◌&&◌, if◌then◌else◌, is_none, IfSome, Result, Ok, Err}
 use Rattle.till_request.specs.declared.act.Role.{Role}
 use Rattle.line_session.specs.declared.answering.Ended.{Ended}
 use Rattle.line_session.specs.declared.answering.SessionFault.{SessionFault}
 use Rattle.line_session.specs.declared.answering.SessionFault.TheVariants.{Read, Write, ReadsSpent, OutOfMemory, Journal}
 use Rattle.site_server.specs.declared.notices.SessionFailure.{SessionFailure}
+use Rattle.site_server.specs.declared.judging.Verdict.TheVariants.{Client, Unclear}
+use Rattle.site_server.specs.Guarding.{BeginningValue}
 use Rattle.site_server.specs.Pauses.{reported_failure}
 
 -- the session ended behind a whole line, or by a failed read
@@ -30,6 +32,10 @@ begun_line (b ∷ block) line = []
 -- that were read ahead, those by which the peer is judged, and those that were kept before and not read again yet.
 abbrev pub left_ahead : List ℕ → List ℕ → List ℕ → List ℕ → List ℕ
 left_ahead begun block judged kept = begun ++ (block ++ (judged ++ kept))
+
+-- Of a peer that was judged before and is no stranger, all is let in; any other is judged by what comes.
+abbrev pub BeginsJudged : Bool → BeginningValue → Type 0
+BeginsJudged is_known beginning = (beginning.kept ≡ []) × (beginning.verdict ≡ (if is_known then Client else Unclear))
 
 -- If the connection isn't kept, the failure of its session, if there is one, was reported.
 abbrev pub ReportsUnkept : (Role → ℕ → SessionFailure → Type 0) → Role → ℕ → Bool → Result Ended SessionFault → Type 0

@@ -1,7 +1,9 @@
 //! The connections of a listener, which a worker opens one after another.
-ghost use Rattle.std.specs.Prelude.{◌≡◌, IfOk, IfSome, IsSome, is_some};
+ghost use Rattle.std.specs.Prelude.{◌≡◌, [], false, IfOk, IfSome, IsSome, is_some};
 ghost use Rattle.till_request.specs.Count.{RoseBy};
-ghost use Rattle.site_server.specs.Kept.{EndsConnection, ReportsUnkept};
+ghost use Rattle.site_server.specs.Kept.{BeginsJudged, EndsConnection, ReportsUnkept};
+ghost use Rattle.std.specs.Io.Chain.{chain_first, chain_second};
+ghost use Rattle.std.specs.Io.Cursor.{cursor_inner, cursor_position};
 ghost use Rattle.site_server.specs.Pauses.{IsNextPause, longer_pause, reported_failure};
 
 use crate::accepting::accept;
@@ -132,7 +134,12 @@ impl<'a, R: Net + Wait + Clock, N: Notices> SocketDoors<'a, R, N> {
         stream: Stream,
         ahead: Vec<u8>,
         is_known: bool,
-    ) -> GuardedReader<'a, N, IdleLimitedReader<'a, R, N>> {
+    ) -> GuardedReader<'a, N, IdleLimitedReader<'a, R, N>>
+        ensures first { (cursor_inner (chain_first result.reader.stream.source) ≡ ahead)
+            × (cursor_position (chain_first result.reader.stream.source) ≡ 0) }
+        ensures then { chain_second result.reader.stream.source ≡ stream }
+        ensures judged { BeginsJudged is_known result.beginning }
+    {
         let reader = IdleLimitedReader {
             stream: WaitingReader {
                 rt: self.rt,
@@ -156,6 +163,15 @@ impl<'a, R: Net + Wait + Clock, N: Notices> SocketDoors<'a, R, N> {
     }
 
     fn connection_of(&self, opened: KeptConnection) -> (Input<'a, R, N>, Output<'a, R>)
+        // proved first, then, judged, writer: What is kept of a connection is read first
+        ensures first { (cursor_inner (chain_first result.0.input.input.input.reader.reader.stream.source)
+            ≡ opened.ahead)
+            × (cursor_position (chain_first result.0.input.input.input.reader.reader.stream.source) ≡ 0) }
+        ensures then { chain_second result.0.input.input.input.reader.reader.stream.source ≡ opened.reader }
+        ensures judged { BeginsJudged opened.is_known result.0.input.input.input.reader.beginning }
+        ensures fresh { (result.0.input.input.block ≡ []) × (result.0.input.begun.items ≡ [])
+            × (result.0.input.is_paused ≡ false) }
+        ensures writer { result.1.writer.stream ≡ opened.writer }
         ensures door { result.0.door.now ≡ self.now.door.now }
         ensures role { result.0.role ≡ self.now.role }
         ensures pass { result.0.pass ≡ self.now.pass }

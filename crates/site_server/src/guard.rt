@@ -1,5 +1,5 @@
 //! What keeps a peer that speaks another protocol out of a session.
-ghost use Rattle.std.specs.Prelude.{◌≡◌, ◌≢◌, ◌≤◌, ◌<◌, ◌+◌, ◌⊎◌, length, OnOk, OnErr, option_map};
+ghost use Rattle.std.specs.Prelude.{[], ◌≡◌, ◌≢◌, ◌≤◌, ◌<◌, ◌+◌, ◌⊎◌, length, OnOk, OnErr, option_map};
 ghost use Rattle.std.specs.Io.{ReadsAtMost};
 ghost use Rattle.std.specs.Io.KnownBytes.{Keeps, ReadConsumes};
 ghost use Rattle.site_server.specs.Guard.{admitted};
@@ -71,6 +71,8 @@ impl<'a, N: Notices, R: Read> GuardedReader<'a, N, R> {
     /// Nothing may have been read from `reader` yet.
     pub(crate) fn new(reader: R, notices: &'a N, role: Role, pass: u32) -> GuardedReader<'a, N, R>
         // proved: No byte of a stranger | bytes_of_a_stranger_are_passed_on
+        ensures reader { result.reader ≡ reader }
+        ensures unclear { (result.beginning.kept ≡ []) × (result.beginning.verdict ≡ Verdict.Unclear) }
         ensures admitted { ahead_of result.beginning (R.remaining result.reader)
             ≡ option_map (λ bytes. admitted bytes) (R.remaining reader) }
         ensures role { result.role ≡ role }
@@ -92,6 +94,8 @@ impl<'a, N: Notices, R: Read> GuardedReader<'a, N, R> {
         role: Role,
         pass: u32,
     ) -> GuardedReader<'a, N, R>
+        ensures reader { result.reader ≡ reader }
+        ensures client { (result.beginning.kept ≡ []) × (result.beginning.verdict ≡ Verdict.Client) }
         ensures all { ahead_of result.beginning (R.remaining result.reader) ≡ R.remaining reader }
         ensures role { result.role ≡ role }
         ensures pass { result.pass ≡ pass }

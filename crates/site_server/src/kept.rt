@@ -1,6 +1,6 @@
 //! The connections that a stop leaves open.
 ghost use Rattle.std.specs.Prelude.{◌≡◌, ◌↔◌, IfOk, drop, true};
-ghost use Rattle.std.specs.Io.Chain.{chain_first};
+ghost use Rattle.std.specs.Io.Chain.{chain_first, chain_second};
 ghost use Rattle.std.specs.Io.Cursor.{cursor_inner, cursor_position};
 ghost use Rattle.site_server.specs.Kept.{has_more, is_kept, left_ahead};
 
@@ -74,6 +74,9 @@ pub(crate) fn kept_of<R: Net + Wait + Clock, N: Notices>(
         input.entry.input.input.reader.beginning.kept
         (drop (cursor_position (chain_first input.entry.input.input.reader.reader.stream.source))
         (cursor_inner (chain_first input.entry.input.input.reader.reader.stream.source)).items)) }
+    ensures reader { IfOk result
+        (λ kept. kept.reader ≡ chain_second input.entry.input.input.reader.reader.stream.source) }
+    ensures writer { IfOk result (λ kept. kept.writer ≡ writer) }
     ensures known { IfOk result (λ kept. kept.is_known ≡ true
         ↔ (input.entry.input.input.reader.beginning.verdict ≡ Verdict.Client)) }
 {

@@ -1,8 +1,8 @@
 //! The input of a connection that a stop may interrupt.
-ghost use Rattle.std.specs.Prelude.{◌≡◌, ◌≤◌, ◌-◌, [], None, Ok, IfOk, IsTrue, OnErr, OnOk, false, true, is_err, is_some, length};
+ghost use Rattle.std.specs.Prelude.{◌≡◌, ◌≤◌, ◌-◌, [], None, Ok, IfOk, IsTrue, OnErr, OnOk, ◌+◌, false, true, is_err, is_some, length, vec_capacity};
 ghost use Rattle.std.specs.Io.KnownBytes.{Consumes, Keeps, ReadConsumes, prepend_known};
 ghost use Rattle.till_request.specs.Count.{RoseBy, one_if};
-ghost use Rattle.till_request.specs.Line.{ReadsIntoLine};
+ghost use Rattle.till_request.specs.Line.{IsLine, LacksRoom, ReadsIntoLine};
 ghost use Rattle.site_server.specs.Kept.{begun_line};
 
 use crate::stop::{Stop, is_stopped};
@@ -154,7 +154,26 @@ impl<I: LineIn + Drop> LineIn for PausedIn<'_, I> {
         read
     }
 
-    fn read_buffered(&mut self, line: &mut Vec<u8>, left: &mut u32) -> Result<(), AllocError> {
+    fn read_buffered(&mut self, line: &mut Vec<u8>, left: &mut u32) -> Result<(), AllocError>
+        requires { IsLine line.old.items }
+        ensures taken { OnOk result (ReadsIntoLine None None line.old.items line.new.items) }
+        ensures unchanged { OnErr result (Consumes None None []) }
+        ensures left { left.new ≤ left.old }
+        ensures unused { OnErr result (left.new ≡ left.old) }
+        ensures each { OnOk result (length line.new.items + left.new ≡ length line.old.items + left.old) }
+        ensures room { vec_capacity line.old ≤ vec_capacity line.new }
+        ensures memory { OnErr result
+            (LacksRoom None line.old.items (vec_capacity line.old) left.old left.new) }
+        ensures counted { RoseBy (left.old - left.new) self.old.counts.reads self.new.counts.reads }
+        ensures asked_for { RoseBy (left.old - left.new) self.old.counts.asked self.new.counts.asked }
+        ensures failed { RoseBy 0 self.old.counts.failures self.new.counts.failures }
+        // proved moved, begun: The line so far is kept, or ahead
+        ensures moved { OnOk result (ReadsIntoLine
+            (prepend_known self.old.input.block (I.remaining self.old.input.input))
+            (prepend_known self.new.input.block (I.remaining self.new.input.input)) line.old.items line.new.items) }
+        ensures begun { OnOk result (IsTrue (is_some self.old.stop) → self.new.is_lost ≡ false
+            → self.new.begun.items ≡ begun_line self.new.input.block line.new.items) }
+    {
         if line.is_empty() && is_stopped(self.stop) {
             self.note(line);
             self.is_paused = true;
