@@ -1,7 +1,7 @@
 //! Serves the days of a folder, one after another, behind the same doors.
 use crate::day_end::{end_of, second};
 use crate::kept::{AnswerAfter, KeptBy, new_stop, open_synced, print_error, serve_on};
-use crate::serve::{OpenDoors, ServedBy, served};
+use crate::serve::{OpenDoors, ServedBy, open_site_doors, print_end, served};
 use day_report::Sums;
 use file_jobs::files::text_of;
 use file_jobs::messages::print_message;
@@ -11,6 +11,7 @@ use file_jobs::{DayFile, DayToServe, Folder, FoundFile, JobError, OpenJournal, P
 use site_config::{Serve, Settings};
 use site_core::Watched;
 use site_server::{Crew, Stop};
+use std::alloc::AllocError;
 use std::fs::{File, Files};
 use std::net::{Net, TcpListener, TcpStream};
 use std::sync::{Arc, Wait};
@@ -117,9 +118,11 @@ impl Days<'_> {
             found,
             retry,
         } = day;
+        let goes_on = serve.connections.is_none();
         let ends = match retry {
             Some(retry) => Some(retry),
-            None => end_of(audited.site(), serve.day_ends, second(host)),
+            None if goes_on => end_of(audited.site(), serve.day_ends, second(host)),
+            None => None,
         };
         let kept_by = KeptBy {
             by: ServedBy {
@@ -130,7 +133,7 @@ impl Days<'_> {
             stop,
             after: self.after,
             is_first,
-            is_day: true,
+            is_day: goes_on,
             ends,
         };
         let kept = OpenJournal {
@@ -150,7 +153,8 @@ impl Days<'_> {
 /// - If `is_new_day` is true and the newest day has an entry, closes that day, and serves the next one.
 /// - Otherwise serves the newest day, from the end of its journal.
 ///
-/// A day ends at the time that the configuration names, or when it is full. The doors and their connections stay open.
+/// If its workers serve connections without end, a day ends at the time that the configuration names, or when it is full.
+/// The doors and their connections stay open.
 ///
 /// `host` must be the same runtime as `rt`, with a type that can start threads and open sockets. Only `main` can borrow
 /// the runtime with this type.
@@ -177,13 +181,20 @@ pub fn serve_days<
     let serve = served(rt.alloc(), config_name, serve)?;
     let mut next = Some(days.begin(&text, is_new_day)?);
     let stop = new_stop(rt, host)?;
-    let doors = OpenDoors::open(rt, host, config_name, &serve, Some(Arc::try_clone(&stop)?))?;
+    let OpenDoors { crew, files } = open_site_doors(
+        rt,
+        host,
+        config_name,
+        &serve,
+        Some(Arc::try_clone(&stop)?),
+    )?;
+    let mut crews = Some(crew);
     let mut is_first = true;
     for _ in host.forever() {
-        let Some(day) = next.take() else {
+        let (Some(day), Some(crew)) = (next.take(), crew_of_day(rt, &mut crews, &serve)?) else {
             break;
         };
-        days.serve(host, &serve, &stop, doors.crew(rt.alloc())?, day, is_first)?;
+        days.serve(host, &serve, &stop, crew, day, is_first)?;
         is_first = false;
         if stop.is_asked() {
             stop.withdraw();
@@ -197,8 +208,24 @@ pub fn serve_days<
             next = Some(day);
         }
     }
-    doors.end(rt);
+    print_end(rt, files);
     Ok(())
+}
+
+/// The crew for a day. A site whose workers serve a number of connections has one day, and its doors are closed as they
+/// end; else the doors stay open for the next day.
+fn crew_of_day(
+    rt: &HostRuntime,
+    crews: &mut Option<Crew>,
+    serve: &Serve,
+) -> Result<Option<Crew>, AllocError> {
+    if serve.connections.is_some() {
+        return Ok(crews.take());
+    }
+    match crews {
+        Some(crew) => Ok(Some(crew.try_clone(rt.alloc())?)),
+        None => Ok(None),
+    }
 }
 
 /// Checks that the day after `newest` hasn't begun, and then writes the text of the day's configuration, which is `text`

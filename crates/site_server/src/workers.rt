@@ -1,6 +1,6 @@
 //! What the workers of a served site share, and how a worker does its task.
 ghost use Rattle.std.specs.Prelude.{◌≡◌, IsSome, Some, true};
-ghost use Rattle.site_server.specs.Collecting.{MayRunWorker};
+ghost use Rattle.site_server.specs.Collecting.{MayRunWorker, RunsWorker};
 ghost use Rattle.site_server.specs.Tasks.{Worked, opened_by};
 
 use crate::crew::Worker;
@@ -60,10 +60,18 @@ impl<L: SiteLedger, J: Journal, N: Notices, A: Release, R: Net + Wait + Clock> W
         ensures { MayRunWorker (opened_by L.config L.parts L.base L.taken) J.may_fail self.now.day
             self.now.shift (Some task) result }
     {
-        let (pass, worker) = task;
-        if !self.gate.wait(self.rt) {
-            return None;
+        if self.gate.wait(self.rt) {
+            Some(self.serve_task(task))
+        } else {
+            None
         }
+    }
+
+    fn serve_task(&self, task: (Pass<L>, Worker)) -> (Pass<L>, u64)
+        ensures { RunsWorker (opened_by L.config L.parts L.base L.taken) J.may_fail self.now.day self.now.shift
+            (Some task) (Some result) }
+    {
+        let (pass, worker) = task;
         let (role, number) = (worker.role, pass.id());
         let doors = SocketDoors::new(
             self.rt,
@@ -77,7 +85,7 @@ impl<L: SiteLedger, J: Journal, N: Notices, A: Release, R: Net + Wait + Clock> W
         );
         let done = self.serve(pass, role, doors);
         self.notices.left(role, number);
-        Some(done)
+        done
     }
 
     fn desk(&self, pass: Pass<L>) -> PassDesk<'_, L, R, Straight, J>
