@@ -25,6 +25,11 @@
 #
 #     bench/serve.sh LINES --looks [TURNS]
 #
+# With --days: how long tills wait where one day follows another while they ask (bench/days.py). LINES is how many days
+# of each kind end, and 5 is enough.
+#
+#     bench/serve.sh ENDS --days
+#
 # The program is out/fc, which ./fc builds, or $FC.
 set -eu
 here=$(CDPATH='' cd -- "$(dirname -- "$0")" && pwd -P)
@@ -102,6 +107,11 @@ measure() {
     served=
     wait
 }
+
+if [ "$kept" = --days ]; then
+    "$here/days.py" "$fc" "$lines"
+    exit
+fi
 
 if [ "$kept" = --sync ]; then
     cc -O2 -shared -fPIC -o "$work/slow_disk.so" "$here/slow_disk.c" -ldl
