@@ -28,7 +28,7 @@ impl Post {
         alloc: Global,
         workers: u32,
     ) -> Result<Post, Fail> {
-        let stop = Arc::new(alloc, Stop::new(rt)?)?;
+        let stop = Arc::new(alloc, Stop::new())?;
         let listener = port(rt)?;
         let at = address_of(&listener)?;
         let mut doors = Vec::new(alloc);
@@ -220,7 +220,7 @@ fn is_hung_up<R: Net<Listener = TcpListener, Stream = TcpStream> + Wait + Clock>
     rt: &R,
     alloc: Global,
 ) -> Result<bool, Fail> {
-    let stop = Arc::new(alloc, Stop::new(rt)?)?;
+    let stop = Arc::new(alloc, Stop::new())?;
     let door = SharedDoor::new(alloc, port(rt)?, 0, Some(Arc::try_clone(&stop)?));
     let _peer = TcpStream::connect(rt, address_of(&door.listener)?)?;
     let mut doors = SocketDoors::new(rt, alloc, &door, &Silent, Role::Till, 1, 0, Some(&stop));

@@ -180,7 +180,7 @@ pub fn serve_days<
     // This is checked first, so that no day is closed if the configuration can't be served.
     let serve = served(rt.alloc(), config_name, serve)?;
     let mut next = Some(days.begin(&text, is_new_day)?);
-    let stop = new_stop(rt, host)?;
+    let stop = new_stop(rt)?;
     let OpenDoors { crew, files } = open_site_doors(
         rt,
         host,

@@ -13,7 +13,6 @@ use crate::kept::{KeptConnection, is_kept, kept_of};
 use crate::notices::{Notices, SessionFailure};
 use crate::paced::PacedIn;
 use crate::paused::PausedIn;
-use crate::rest::Rest;
 use crate::shared_door::SharedDoor;
 use crate::silence::IdleLimitedReader;
 use crate::stop::{Stop, is_stopped};
@@ -22,7 +21,6 @@ use crate::waiting::{WaitingReader, WaitingWriter, limit_waits};
 use line_session::{Doors, Ended, SessionFault};
 use std::alloc::{AllocError, Global};
 use std::io::{self, Cursor, Read};
-use std::net::Net;
 use std::sync::Wait;
 use std::time::{Clock, Duration};
 use till_request::devices::{Ahead, StreamIn, StreamOut};
@@ -47,7 +45,7 @@ type Output<'a, R> = StreamOut<WaitingWriter<'a, R>>;
 /// - Where a stop is asked for, no connection is opened. The one that is open is kept, if its session ended by that, and
 ///   the first to be opened next is one that was kept.
 #[derive(Drop)]
-pub struct SocketDoors<'a, R: Net + Wait + Clock, N: Notices> {
+pub struct SocketDoors<'a, R: Wait + Clock, N: Notices> {
     rt: &'a R,
     alloc: Global,
     door: &'a SharedDoor,
@@ -59,8 +57,6 @@ pub struct SocketDoors<'a, R: Net + Wait + Clock, N: Notices> {
     asked: u64,
     /// How many milliseconds the worker waited after the last failure; 0 if a connection was opened since then.
     pause: u64,
-    /// Where the worker waits for a connection, if it can be asked to stop.
-    rest: Option<Rest>,
 }
 
 fn longer(pause: u64) -> u64
@@ -85,7 +81,7 @@ fn failure_of(outcome: &Result<Ended, SessionFault>) -> Option<SessionFailure>
     }
 }
 
-impl<'a, R: Net + Wait + Clock, N: Notices> SocketDoors<'a, R, N> {
+impl<'a, R: Wait + Clock, N: Notices> SocketDoors<'a, R, N> {
     pub fn new(
         rt: &'a R,
         alloc: Global,
@@ -117,7 +113,6 @@ impl<'a, R: Net + Wait + Clock, N: Notices> SocketDoors<'a, R, N> {
             stop,
             asked: 0,
             pause: 0,
-            rest: None,
         }
     }
 
@@ -143,11 +138,9 @@ impl<'a, R: Net + Wait + Clock, N: Notices> SocketDoors<'a, R, N> {
         let reader = IdleLimitedReader {
             stream: WaitingReader {
                 rt: self.rt,
-                alloc: self.alloc,
                 source: Cursor::new(ahead).chain(stream),
                 stop: self.stop,
                 limit: self.limit(),
-                rest: None,
             },
             notices: self.notices,
             role: self.role,
@@ -225,7 +218,7 @@ impl<'a, R: Net + Wait + Clock, N: Notices> SocketDoors<'a, R, N> {
             return Ok(kept);
         }
         let (listener, stop) = (&self.door.listener, self.stop);
-        let writer = accept(self.rt, self.alloc, listener, stop, &mut self.rest)?;
+        let writer = accept(self.rt, listener, stop)?;
         limit_waits(&writer, stop.is_some(), self.limit())?;
         Ok(KeptConnection {
             reader: writer.try_clone()?,
@@ -296,7 +289,7 @@ impl<'a, R: Net + Wait + Clock, N: Notices> SocketDoors<'a, R, N> {
     }
 }
 
-impl<'a, R: Net + Wait + Clock, N: Notices> Doors for SocketDoors<'a, R, N> {
+impl<'a, R: Wait + Clock, N: Notices> Doors for SocketDoors<'a, R, N> {
     type In = PacedIn<
         'a,
         R,

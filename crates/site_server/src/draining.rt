@@ -5,7 +5,6 @@ ghost use Rattle.site_server.specs.Draining.{drain_wait, is_drained};
 use crate::waiting::WaitingReader;
 use line_session::{Ended, SessionFault};
 use std::io::{self, Read};
-use std::net::Net;
 use std::sync::Wait;
 use std::time::{Clock, Duration, Instant};
 use till_request::LineFault;
@@ -31,10 +30,7 @@ fn drain_wait(elapsed: u64) -> u64
 
 /// Ends the output, and throws away what comes until the peer closes the connection, for at most 30 seconds, or 5 in
 /// which nothing comes. A stop ends it.
-pub(crate) fn drain<R: Net + Wait + Clock>(
-    rt: &R,
-    reader: &mut WaitingReader<'_, R>,
-) -> io::Result<()> {
+pub(crate) fn drain<R: Wait + Clock>(rt: &R, reader: &mut WaitingReader<'_, R>) -> io::Result<()> {
     let start = Instant::now(rt)?;
     reader.stream().end_output()?;
     let mut bytes = [0; 4096];

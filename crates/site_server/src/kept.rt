@@ -13,7 +13,6 @@ use crate::stream::Stream;
 use line_session::{Ended, SessionFault};
 use std::alloc::AllocError;
 use std::io::Cursor;
-use std::net::Net;
 use std::sync::Wait;
 use std::time::Clock;
 use till_request::devices::StreamIn;
@@ -65,7 +64,7 @@ fn gather(begun: Vec<u8>, block: &[u8], judged: &[u8], kept: &[u8]) -> Result<Ve
 }
 
 /// What is left of a connection whose input a stop has interrupted.
-pub(crate) fn kept_of<R: Net + Wait + Clock, N: Notices>(
+pub(crate) fn kept_of<R: Wait + Clock, N: Notices>(
     input: PausedIn<'_, StreamIn<GuardedReader<'_, N, IdleLimitedReader<'_, R, N>>>>,
     writer: Stream,
 ) -> Result<KeptConnection, AllocError>

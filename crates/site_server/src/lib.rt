@@ -16,7 +16,6 @@ mod notices;
 pub mod pace;
 mod paced;
 mod paused;
-mod rest;
 mod running;
 mod serving;
 mod shared_door;

@@ -5,8 +5,9 @@ ghost use Rattle.std.specs.IoError.{error_kind};
 use crate::stream::Stream;
 use std::io::{self, ErrorKind};
 use std::net::{Net, SocketAddr, TcpListener, TcpStream};
-use std::os::fd::{AsRawFd, RawFd};
-use std::os::unix::net::UnixListener;
+use std::os::fd::OwnedFd;
+use std::os::unix::net::{UnixListener, UnixStream};
+use std::time::Duration;
 
 /// A port or a local socket where connections come in. It is closed when it is dropped.
 #[derive(Drop)]
@@ -31,19 +32,14 @@ impl Listener {
         Ok(Listener::Port(TcpListener::bind(rt, address)?))
     }
 
-    /// From now on an `accept` that would wait fails with `WouldBlock`.
-    pub(crate) fn never_wait(&self) -> io::Result<()> {
-        match self {
-            Listener::Port(listener) => listener.set_nonblocking(true),
-            Listener::Socket(listener) => listener.set_nonblocking(true),
-        }
-    }
-
-    pub(crate) fn descriptor(&self) -> RawFd {
-        match self {
-            Listener::Port(listener) => listener.as_raw_fd(),
-            Listener::Socket(listener) => listener.as_raw_fd(),
-        }
+    /// From now on an `accept` that waits longer fails with `WouldBlock`.
+    pub(crate) fn limit_waits(&self, limit: Duration) -> io::Result<()> {
+        let again = match self {
+            Listener::Port(listener) => OwnedFd::from(listener.try_clone()?),
+            Listener::Socket(listener) => OwnedFd::from(listener.try_clone()?),
+        };
+        // The limit is the socket's, of whatever kind it is.
+        UnixStream::from(again).set_read_timeout(Some(limit))
     }
 
     pub(crate) fn accept(&self) -> io::Result<Stream> {

@@ -12,7 +12,6 @@ use crate::tasks::WorkerTask;
 use crate::workers::Workers;
 use site_lock::{Journal, Pass, SiteLedger};
 use std::marker::PhantomData;
-use std::net::{Net, TcpListener, TcpStream};
 use std::snapshot::Snapshot;
 use std::sync::Wait;
 use std::thread::{self, Promise, Scope, Threads};
@@ -46,7 +45,7 @@ fn run_each<
     J: Journal + Send,
     N: Notices + Sync,
     A: Release + Sync,
-    R: Net<Listener = TcpListener, Stream = TcpStream> + Threads + Wait + Clock + Sync,
+    R: Threads + Wait + Clock + Sync,
 >(
     scope: &'s Scope<'s, E>,
     workers: &'s Workers<'_, L, J, N, A, R>,
@@ -97,7 +96,7 @@ pub fn run_in_threads<
     J: Journal + Send,
     N: Notices + Sync,
     A: Release + Sync,
-    R: Net<Listener = TcpListener, Stream = TcpStream> + Threads + Wait + Clock + Sync,
+    R: Threads + Wait + Clock + Sync,
 >(workers: &Workers<'_, L, J, N, A, R>, tasks: Vec<WorkerTask<L>>) -> Option<Vec<WorkerTask<L>>>
     // proved: It gives the tasks back only where each ran | half_of_the_tasks_run
     ensures { IfSome result (λ done. RunEach (opened_by L.config L.parts L.base L.taken) J.may_fail workers.now.day

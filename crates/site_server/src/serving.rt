@@ -20,7 +20,6 @@ use site_core::{Config, Site, Watched};
 use site_lock::{CloseRefusal, Forecourt, ForecourtBuilder, Journal, NoJournal, Pass, SiteLedger};
 use std::alloc::{AllocError, Global};
 use std::marker::Brand;
-use std::net::{Net, TcpListener, TcpStream};
 use std::sync::Wait;
 use std::sync::ledger::Blank;
 use std::thread;
@@ -174,7 +173,7 @@ fn work_all<
     N: Notices + Sync,
     A: Release + Sync,
     W: Watcher,
-    R: Net<Listener = TcpListener, Stream = TcpStream> + Threads + Wait + Clock + Sync,
+    R: Threads + Wait + Clock + Sync,
 >(
     workers: &Workers<'_, L, J, N, A, R>,
     tasks: Vec<WorkerTask<L>>,
@@ -203,7 +202,7 @@ impl<J: Journal + Send> Serving<J> {
         N: Notices + Sync,
         A: Release + Sync,
         W: Watcher + Sync,
-        R: Net<Listener = TcpListener, Stream = TcpStream> + Threads + Wait + Clock + Sync,
+        R: Threads + Wait + Clock + Sync,
     >(
         self,
         rt: &R,
@@ -236,7 +235,7 @@ impl<J: Journal + Send> Serving<J> {
         N: Notices + Sync,
         A: Release + Sync,
         W: Watcher + Sync,
-        R: Net<Listener = TcpListener, Stream = TcpStream> + Threads + Wait + Clock + Sync,
+        R: Threads + Wait + Clock + Sync,
     >(
         self,
         rt: &R,

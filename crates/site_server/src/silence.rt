@@ -5,7 +5,6 @@ ghost use Rattle.std.specs.IoError.{error_kind};
 use crate::notices::Notices;
 use crate::waiting::WaitingReader;
 use std::io::{self, ErrorKind, Read};
-use std::net::Net;
 use std::sync::Wait;
 use std::time::Clock;
 use till_request::Role;
@@ -13,7 +12,7 @@ use till_request::Role;
 /// The reading half of a connection. If its peer sends nothing for `idle_seconds` (0 is no limit), that is reported,
 /// and the input ends as if the peer had closed it.
 #[derive(Drop)]
-pub struct IdleLimitedReader<'a, R: Net + Wait + Clock, N: Notices> {
+pub struct IdleLimitedReader<'a, R: Wait + Clock, N: Notices> {
     pub(crate) stream: WaitingReader<'a, R>,
     pub(crate) notices: &'a N,
     pub(crate) role: Role,
@@ -41,7 +40,7 @@ fn end_if_silent(read: io::Result<usize>, idle_seconds: u32) -> (io::Result<usiz
     }
 }
 
-impl<R: Net + Wait + Clock, N: Notices> Read for IdleLimitedReader<'_, R, N> {
+impl<R: Wait + Clock, N: Notices> Read for IdleLimitedReader<'_, R, N> {
     fn read(&mut self, buf: &mut [u8]) -> io::Result<usize> {
         if self.is_over {
             return Ok(0);

@@ -1,7 +1,6 @@
 //! A connection, over a port or a local socket.
 use std::io::{self, Read, Write};
 use std::net::{Shutdown, TcpStream};
-use std::os::fd::{AsRawFd, RawFd};
 use std::os::unix::net::UnixStream;
 use std::time::Duration;
 
@@ -39,13 +38,6 @@ impl Stream {
         match self {
             Stream::Port(stream) => stream.set_read_timeout(Some(limit)),
             Stream::Socket(stream) => stream.set_read_timeout(Some(limit)),
-        }
-    }
-
-    pub(crate) fn descriptor(&self) -> RawFd {
-        match self {
-            Stream::Port(stream) => stream.as_raw_fd(),
-            Stream::Socket(stream) => stream.as_raw_fd(),
         }
     }
 

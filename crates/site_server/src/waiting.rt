@@ -1,29 +1,19 @@
 //! The halves of a connection, whose reads and writes wait for the peer.
 ghost use Rattle.std.specs.Io.{ReadsAtMost, WritesAtMost};
 
-use crate::rest::Rest;
 use crate::stop::Stop;
 use crate::stream::Stream;
-use std::alloc::Global;
 use std::io::{self, Chain, Cursor, ErrorKind, Read, Write};
-use std::net::Net;
 use std::sync::Wait;
 use std::time::{Clock, Duration, Instant};
 
 /// The time limit of a stream's reads and writes where they can be stopped, in milliseconds.
-const STEP: u64 = 20;
+pub(crate) const STEP_MILLISECONDS: u64 = 20;
 
 fn is_over(limit: Option<Duration>, elapsed: Duration) -> bool {
     match limit {
         Some(limit) => elapsed >= limit,
         None => false,
-    }
-}
-
-fn left_of(limit: Option<Duration>, elapsed: Duration) -> Option<Duration> {
-    match limit {
-        Some(limit) => Some(limit.saturating_sub(elapsed)),
-        None => None,
     }
 }
 
@@ -34,7 +24,7 @@ pub(crate) fn limit_waits(
     limit: Option<Duration>,
 ) -> io::Result<()> {
     if has_stop {
-        return stream.limit_waits(Duration::from_millis(STEP));
+        return stream.limit_waits(Duration::from_millis(STEP_MILLISECONDS));
     }
     match limit {
         Some(limit) => stream.limit_waits(limit),
@@ -45,17 +35,15 @@ pub(crate) fn limit_waits(
 /// The reading half of a connection. A read that waits longer than `limit` fails with `WouldBlock`. Where a stop is asked
 /// for, a read doesn't wait, and fails with `Interrupted`.
 #[derive(Drop)]
-pub struct WaitingReader<'a, R: Net + Wait + Clock> {
+pub struct WaitingReader<'a, R: Wait + Clock> {
     pub(crate) rt: &'a R,
-    pub(crate) alloc: Global,
     /// What workers before have read of the connection, and then its stream.
     pub(crate) source: Chain<Cursor<Vec<u8>>, Stream>,
     pub(crate) stop: Option<&'a Stop>,
     pub(crate) limit: Option<Duration>,
-    pub(crate) rest: Option<Rest>,
 }
 
-impl<R: Net + Wait + Clock> WaitingReader<'_, R> {
+impl<R: Wait + Clock> WaitingReader<'_, R> {
     pub(crate) fn stream(&self) -> &Stream {
         self.source.get_ref().1
     }
@@ -67,17 +55,6 @@ impl<R: Net + Wait + Clock> WaitingReader<'_, R> {
             self.stream().limit_reads(limit)?;
         }
         Ok(())
-    }
-
-    /// Waits until there may be something to read. If the system gives nothing to wait with, returns at once.
-    fn wait(&mut self, stop: &Stop, limit: Option<Duration>) {
-        if self.rest.is_none() {
-            let descriptor = self.stream().descriptor();
-            self.rest = Rest::new(self.rt, self.alloc, descriptor, stop).ok();
-        }
-        if let Some(rest) = &mut self.rest {
-            let _ = rest.wait(limit);
-        }
     }
 
     fn read_unless(&mut self, stop: &Stop, buf: &mut [u8]) -> io::Result<usize>
@@ -92,17 +69,15 @@ impl<R: Net + Wait + Clock> WaitingReader<'_, R> {
                 Err(error) if error.kind() == ErrorKind::WouldBlock => {}
                 read => return read,
             }
-            let elapsed = start.elapsed(self.rt)?;
-            if is_over(self.limit, elapsed) {
+            if is_over(self.limit, start.elapsed(self.rt)?) {
                 return Err(io::Error::from(ErrorKind::WouldBlock));
             }
-            self.wait(stop, left_of(self.limit, elapsed));
         }
         unreachable!()
     }
 }
 
-impl<R: Net + Wait + Clock> Read for WaitingReader<'_, R> {
+impl<R: Wait + Clock> Read for WaitingReader<'_, R> {
     fn read(&mut self, buf: &mut [u8]) -> io::Result<usize> {
         match self.stop {
             Some(stop) => self.read_unless(stop, buf),

@@ -15,13 +15,12 @@ use line_session::serving::worker;
 use line_session::{Doors, MachineClock};
 use site_lock::{Forecourt, Journal, Pass, PassDesk, SiteLedger, Straight};
 use std::alloc::Global;
-use std::net::Net;
 use std::sync::Wait;
 use std::time::Clock;
 use till_request::Role;
 
 #[derive(Drop)]
-pub struct Workers<'a, L: SiteLedger, J: Journal, N: Notices, A: Release, R: Net + Wait + Clock> {
+pub struct Workers<'a, L: SiteLedger, J: Journal, N: Notices, A: Release, R: Wait + Clock> {
     pub rt: &'a R,
     pub alloc: Global,
     pub forecourt: Forecourt<L, J>,
@@ -35,7 +34,7 @@ pub struct Workers<'a, L: SiteLedger, J: Journal, N: Notices, A: Release, R: Net
     pub idle_seconds: u32,
 }
 
-impl<L: SiteLedger, J: Journal, N: Notices, A: Release, R: Net + Wait + Clock> Workers<
+impl<L: SiteLedger, J: Journal, N: Notices, A: Release, R: Wait + Clock> Workers<
     '_,
     L,
     J,
