@@ -194,6 +194,7 @@ pub fn serve_days<
         let (Some(day), Some(crew)) = (next.take(), crew_of_day(rt, &mut crews, &serve)?) else {
             break;
         };
+        let number = day.number;
         days.serve(host, &serve, &stop, crew, day, is_first)?;
         is_first = false;
         if stop.is_asked() {
@@ -202,7 +203,7 @@ pub fn serve_days<
                 text = new;
             }
             let day = days.begin_next(host, &text)?;
-            if day.retry.is_none() {
+            if day.number != number {
                 print_message(rt, &format_args!("day {} is served", day.number));
             }
             next = Some(day);
