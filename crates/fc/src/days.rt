@@ -144,6 +144,44 @@ impl Days<'_> {
         };
         serve_on(self.rt, host, kept_by, crew, kept)
     }
+
+    /// Serves a day, and when it ends the next one, until all connections are used up.
+    fn serve_each<
+        H: Files + Net<Listener = TcpListener, Stream = TcpStream> + Threads + Wait + Clock + Sync,
+    >(
+        &self,
+        host: &H,
+        serve: &Serve,
+        stop: &Stop,
+        crew: Crew,
+        first: BegunDay,
+        mut text: Vec<u8>,
+    ) -> Result<(), JobError> {
+        let mut next = Some(first);
+        let mut crews = Some(crew);
+        let mut is_first = true;
+        for _ in host.forever() {
+            let (Some(day), Some(crew)) = (next.take(), crew_of_day(self.rt, &mut crews, serve)?)
+            else {
+                break;
+            };
+            let number = day.number;
+            self.serve(host, serve, stop, crew, day, is_first)?;
+            is_first = false;
+            if stop.is_asked() {
+                stop.withdraw();
+                if let Some(new) = self.reread() {
+                    text = new;
+                }
+                let day = self.begin_next(host, &text)?;
+                if day.number != number {
+                    print_message(self.rt, &format_args!("day {} is served", day.number));
+                }
+                next = Some(day);
+            }
+        }
+        Ok(())
+    }
 }
 
 /// Serves the days of a folder: the newest, and when it ends the next one, until all connections are used up.
@@ -175,11 +213,11 @@ pub fn serve_days<
         config_name,
         after,
     };
-    let mut text = text_of(rt, config_name)?;
+    let text = text_of(rt, config_name)?;
     let Settings { serve, .. } = settings_in(rt, config_name, &text)?;
     // This is checked first, so that no day is closed if the configuration can't be served.
     let serve = served(rt.alloc(), config_name, serve)?;
-    let mut next = Some(days.begin(&text, is_new_day)?);
+    let day = days.begin(&text, is_new_day)?;
     let stop = new_stop(rt)?;
     let OpenDoors { crew, files } = open_site_doors(
         rt,
@@ -188,27 +226,7 @@ pub fn serve_days<
         &serve,
         Some(Arc::try_clone(&stop)?),
     )?;
-    let mut crews = Some(crew);
-    let mut is_first = true;
-    for _ in host.forever() {
-        let (Some(day), Some(crew)) = (next.take(), crew_of_day(rt, &mut crews, &serve)?) else {
-            break;
-        };
-        let number = day.number;
-        days.serve(host, &serve, &stop, crew, day, is_first)?;
-        is_first = false;
-        if stop.is_asked() {
-            stop.withdraw();
-            if let Some(new) = days.reread() {
-                text = new;
-            }
-            let day = days.begin_next(host, &text)?;
-            if day.number != number {
-                print_message(rt, &format_args!("day {} is served", day.number));
-            }
-            next = Some(day);
-        }
-    }
+    days.serve_each(host, &serve, &stop, crew, day, text)?;
     print_end(rt, files);
     Ok(())
 }
