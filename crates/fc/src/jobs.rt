@@ -1,7 +1,8 @@
 //! Does the job that a command line asks for.
-use crate::days::serve_days;
+
 use crate::kept::{AnswerAfter, serve_kept};
 use crate::printed::serve_printed;
+use crate::served_days::serve_days;
 use file_jobs::audits::audit_files;
 use file_jobs::carry::carry_files;
 use file_jobs::chained::audit_folder;

@@ -2,7 +2,6 @@
 #![tactic(auto)]
 
 mod day_end;
-mod days;
 mod doors;
 mod jobs;
 mod journal_file;
@@ -12,6 +11,7 @@ mod looking;
 mod operator;
 mod printed;
 mod serve;
+mod served_days;
 mod sockets;
 mod streams;
 mod unclosed_site;
