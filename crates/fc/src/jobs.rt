@@ -1,5 +1,4 @@
 //! Does the job that a command line asks for.
-
 use crate::kept::{AnswerAfter, serve_kept};
 use crate::printed::serve_printed;
 use crate::served_days::serve_days;
