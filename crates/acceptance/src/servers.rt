@@ -214,10 +214,10 @@ fn serve_on_loopback(rt: HostRuntime) -> Result<(), Fail> {
 }
 
 /// Returns whether the socket of a till's connection sends small answers without delay (`TCP_NODELAY`).
-fn leaves_at_once<R: Net<Listener = TcpListener, Stream = TcpStream> + Wait + Clock>(
-    rt: &R,
+fn leaves_at_once<'x, R: Net<Listener = TcpListener, Stream = TcpStream> + Wait + Clock>(
+    rt: &'x R,
     alloc: Global,
-    door: &SharedDoor,
+    door: &'x SharedDoor,
 ) -> io::Result<bool> {
     let _peer = TcpStream::connect(rt, address_of(&door.listener)?)?;
     let mut doors = SocketDoors::new(rt, alloc, door, &Silent, Role::Till, 1, 0, None);

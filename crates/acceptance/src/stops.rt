@@ -145,7 +145,7 @@ fn lines_sent_together_are_answered_once_each(rt: HostRuntime) -> Result<(), Fai
         till.hear(1)
     })?;
     let second = post.serve(&rt, rt.alloc(), || till.hear(LINES - 1))?;
-    assert!(rt; first + second == LINES as usize);
+    assert!(rt; first.checked_add(second) == Some(LINES as usize));
     Ok(())
 }
 
