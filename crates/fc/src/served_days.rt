@@ -3,16 +3,20 @@ use crate::day_end::{end_of, second};
 use crate::kept::{AnswerAfter, KeptBy, new_stop, open_synced, print_error, serve_on};
 use crate::serve::{OpenDoors, ServedBy, open_site_doors, print_end, served};
 use day_report::Sums;
-use file_jobs::files::text_of;
+use file_jobs::files::{is_input, text_of};
+use file_jobs::job_error::at_file;
 use file_jobs::messages::print_message;
 use file_jobs::newest::{check_newest, newest_day};
 use file_jobs::settings::settings_in;
-use file_jobs::{DayFile, DayToServe, Folder, FoundFile, JobError, OpenJournal, Part};
+use file_jobs::{
+    DayFile, DayFiles, DayToServe, FAILED, Folder, FoundFile, JobError, OpenJournal, Part, Place,
+};
 use site_config::{Serve, Settings};
 use site_core::Watched;
 use site_server::{Crew, Stop};
 use std::alloc::AllocError;
-use std::fs::{File, Files};
+use std::fs::{self, File, Files};
+use std::io;
 use std::net::{Net, TcpListener, TcpStream};
 use std::sync::{Arc, Wait};
 use std::thread::Threads;
@@ -20,6 +24,14 @@ use std::time::Clock;
 
 /// How many seconds after a day couldn't be ended that is tried again.
 const RETRY_SECONDS: u64 = 60;
+
+fn check_regular(rt: &HostRuntime, path: &str) -> io::Result<()> {
+    if fs::metadata(rt, path)?.is_file() {
+        Ok(())
+    } else {
+        Err(io::Error::other("not a regular file"))
+    }
+}
 
 /// The days of a station.
 #[derive(Clone, Copy)]
@@ -73,8 +85,27 @@ impl Days<'_> {
         })
     }
 
-    /// Closes a day, and opens the next one. If that can't be done, prints why, and opens the day again.
-    fn begin_next<H: Clock>(&self, host: &H, text: &[u8]) -> Result<BegunDay, JobError> {
+    /// Returns an error if the folder has got a later day while this one was served.
+    fn check_newest(&self, served: u32) -> Result<(), JobError> {
+        match self.folder.span(self.rt)? {
+            Some(span) if span.newest == served => Ok(()),
+            _ => {
+                let words = format_args!("day {served} isn't the folder's newest any more");
+                let place = Place::of(self.folder.path);
+                Err(JobError::at(self.rt.alloc(), place, &words, FAILED))
+            }
+        }
+    }
+
+    /// Closes the day that was served, and opens the next one. If that can't be done, prints why, and opens the day
+    /// again. The error is that neither can be done, or that somebody else began a day meanwhile.
+    fn begin_next<H: Clock>(
+        &self,
+        host: &H,
+        text: &[u8],
+        served: u32,
+    ) -> Result<BegunDay, JobError> {
+        self.check_newest(served)?;
         let failure = match self.begin(text, true) {
             Ok(day) => return Ok(day),
             Err(job_error) => job_error,
@@ -85,17 +116,29 @@ impl Days<'_> {
         Ok(day)
     }
 
-    /// Reads the text of the configuration again. If it isn't one, prints why.
+    /// Reads the configuration again. The error is also that a start would refuse it.
+    fn given_again(&self) -> Result<Vec<u8>, JobError> {
+        let (alloc, name) = (self.rt.alloc(), self.config_name);
+        // A pipe would keep everybody waiting.
+        at_file(alloc, name, check_regular(self.rt, name))?;
+        let text = text_of(self.rt, name)?;
+        let Settings { serve, .. } = settings_in(self.rt, name, &text)?;
+        served(alloc, name, serve)?;
+        Ok(text)
+    }
+
+    /// Reads the text of the configuration again, unless it came from standard input. If it can't be served, prints why.
     fn reread(&self) -> Option<Vec<u8>> {
-        let read = match text_of(self.rt, self.config_name) {
-            Ok(text) => match settings_in(self.rt, self.config_name, &text) {
-                Ok(_) => return Some(text),
-                Err(job_error) => job_error,
-            },
-            Err(job_error) => job_error,
-        };
-        print_error(self.rt, &read);
-        None
+        if is_input(self.config_name) {
+            return None;
+        }
+        match self.given_again() {
+            Ok(text) => Some(text),
+            Err(job_error) => {
+                print_error(self.rt, &job_error);
+                None
+            }
+        }
     }
 
     /// Serves a day until it ends, or until the connections of its crew are used up.
@@ -173,7 +216,7 @@ impl Days<'_> {
                 if let Some(new) = self.reread() {
                     text = new;
                 }
-                let day = self.begin_next(host, &text)?;
+                let day = self.begin_next(host, &text, number)?;
                 if day.number != number {
                     print_message(self.rt, &format_args!("day {} is served", day.number));
                 }
