@@ -2,10 +2,10 @@
 #![tactic(auto)]
 
 mod dispatch;
-mod frame;
+pub mod frame;
 pub mod rebasing;
 mod running;
 mod words;
 
 pub use bpf_model::context::{Context, Layout};
-pub use running::run;
+pub use running::{run, turn};

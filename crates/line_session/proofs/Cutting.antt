@@ -165,6 +165,7 @@ module _ {C D : Type 0} (step : D → Act → ℕ → Answer → D → Type 0) (
       let e = tells c c' c'' h.0 k.0 h.1 k.1 in
       let f = desk.of_looks d d' d'' look h.0 a b h.2 (subst (λ (moment : ℕ). looks d look moment b d'') (sym e.0) k.2) n m in
       (f.0, e.1, f.1)
+  asked_alike (Ok asks.NextDay) c d a b c' d' c'' d'' h k n m = absurd h
   asked_alike (Err why) c d a b c' d' c'' d'' h k n m = (h.0 ∙ sym k.0, h.1 ∙ sym k.1, h.2 ∙ sym k.2)
 
   desk_determined : (role : Role) → IsDetermined (desk_answers step looks tick role)

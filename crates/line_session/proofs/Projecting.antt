@@ -15,7 +15,7 @@ use Rattle.line_session.specs.declared.line_handler.HandlerError.{HandlerError}
 use Rattle.line_session.specs.declared.line_handler.HandlerError.TheVariants as error
 use Rattle.line_session.specs.declared.answering.SessionFault.{SessionFault}
 use Rattle.line_session.specs.declared.answering.SessionFault.TheVariants as session
-use Rattle.line_session.specs.Session.{AnswersAsked, LineAnswer, desk_answers, desk_drops}
+use Rattle.line_session.specs.Session.{AnswersAsked, LineAnswer, desk_answers, desk_drops, loses_answer}
 use Rattle.line_session.specs.Answering.{AnswersAll, AnswersLines, Ends, DropsFor, DropsNext, Breaks, ReadsOn, StopsAtDoor, StopsFor, RunsOutAtNextLine}
 use Rattle.line_session.specs.Serving.{Outcome, RunsSession, ServesConnection, ServesConnections, Serves}
 
@@ -94,6 +94,7 @@ module _ {S T : Type 0} (f : S → T) (answers_with : S → List ℕ → List �
   cause_seen session.ReadsSpent s s' rest h = reads_seen s s' rest h
   cause_seen session.OutOfMemory s s' rest h = wants_seen s s' rest h
   cause_seen session.Journal s s' rest h = drop_seen error.Journal s s' rest h
+  cause_seen session.NextDay s s' rest h = drop_seen error.NextDay s s' rest h
 
   door_seen : (fault : SessionFault) (s s' : S) (i j o p : Option (List ℕ)) → StopsAtDoor answers_with drops needs_memory fault s s' i j o p
       → StopsAtDoor seen lost needs_memory fault (f s) (f s') i j o p
@@ -162,6 +163,7 @@ module _ {C C' D D' : Type 0} (f : C → C') (g : D → D') (step : D → Act �
   answers_seen (Ok (asks.Act act)) c d (Err a) c' d' h = (h.0, ticks c h.0 c' h.1, steps d act h.0 a d' h.2)
   answers_seen (Ok (asks.Act act)) c d (Ok text) c' d' h = absurd h
   answers_seen (Ok (asks.Look look)) c d a c' d' h = (h.0, ticks c h.0 c' h.1, sees d look h.0 a d' h.2)
+  answers_seen (Ok asks.NextDay) c d a c' d' h = absurd h
   answers_seen (Err fault) c d a c' d' h = (h.0, ap f h.1, ap g h.2)
 
   pub desk_seen : (role : Role) (s : C × D) (line text : List ℕ) (s' : C × D) → desk_answers step looks tick role s line text s'
@@ -173,6 +175,13 @@ module _ {C C' D D' : Type 0} (f : C → C') (g : D → D') (step : D → Act �
     text_is = h.text_is;
   }
 
+  answer_lost : (role : Role) (why : HandlerError) (s : C × D) (line : List ℕ) (s' : C × D) → loses_answer step looks tick role why s line s'
+      → loses_answer step' looks' tick' role why (f s.0, g s.1) line (f s'.0, g s'.1)
+  answer_lost role why s line s' h = (h.0, h.1, h.2, h.3, answers_seen (Ok h.0) s.0 s.1 (Err h.1) s'.0 s'.1 h.4)
+
   pub desk_lost : (role : Role) (why : HandlerError) (s : C × D) (line : List ℕ) (s' : C × D) → desk_drops step looks tick role why s line s'
       → desk_drops step' looks' tick' role why (f s.0, g s.1) line (f s'.0, g s'.1)
-  desk_lost role why s line s' h = (h.0, h.1, h.2, h.3, answers_seen (Ok h.0) s.0 s.1 (Err h.1) s'.0 s'.1 h.4)
+  desk_lost role error.Write s line s' h = answer_lost role error.Write s line s' h
+  desk_lost role error.OutOfMemory s line s' h = answer_lost role error.OutOfMemory s line s' h
+  desk_lost role error.Journal s line s' h = answer_lost role error.Journal s line s' h
+  desk_lost role error.NextDay s line s' h = (h.0, ap (λ t. (f t.0, g t.1)) h.1)

@@ -211,6 +211,8 @@ module _ {C D : Type 0} (answers_with : C × D → List ℕ → List ℕ → C �
         (dropped_next error.OutOfMemory s m s' i j k o p count l t whole taken dropped, refl, refl, inr (l, whole, refl, inr dropped))
     stops_left needs_memory error.Journal s m s' i j k o p count l t whole taken dropped =
         (dropped_next error.Journal s m s' i j k o p count l t whole taken dropped, refl, refl, (l, whole, refl, dropped))
+    stops_left needs_memory error.NextDay s m s' i j k o p count l t whole taken dropped =
+        (dropped_next error.NextDay s m s' i j k o p count l t whole taken dropped, refl, refl, (l, whole, refl, dropped))
 
     module _ {O : Type 0} (out : O → Option (List ℕ)) (s m s' : C × D) (i j k o : Option (List ℕ)) (p q : O) (count : ℕ) (l : List ℕ)
         (t : AnswersLines answers_with s m i j o (out p) count [] []) (whole : IsLine l) (taken : Consumes j k (l ++ 10 ∷ [])) (needs_memory : List ℕ → Type 0) where
@@ -220,8 +222,10 @@ module _ {C D : Type 0} (answers_with : C × D → List ℕ → List ℕ → C �
       stops_line error.OutOfMemory (inl a) other = rw a.output (stops_left needs_memory error.OutOfMemory s m s' i j k o (out p) count l t whole taken (inl (a.needs_it, a.state)))
       stops_line error.OutOfMemory (inr a) other = rw a.output (stops_left needs_memory error.OutOfMemory s m s' i j k o (out p) count l t whole taken (inr a.drops_it))
       stops_line error.Journal a other = rw a.output (stops_left needs_memory error.Journal s m s' i j k o (out p) count l t whole taken a.drops_it)
+      stops_line error.NextDay a other = rw a.output (stops_left needs_memory error.NextDay s m s' i j k o (out p) count l t whole taken a.drops_it)
 
       pub breaks_line : (fault : HandlerError) → HandlerFails answers_with drops needs_memory out fault l m s' p q → Breaks answers_with drops s s' i k o (out q)
       breaks_line error.Write a = breaks_half s m s' i j k o (out p) (out q) count l t whole taken a
       breaks_line error.OutOfMemory a = (stops_line error.OutOfMemory a (λ is. absurd (cc))).0
       breaks_line error.Journal a = (stops_line error.Journal a (λ is. absurd (cc))).0
+      breaks_line error.NextDay a = (stops_line error.NextDay a (λ is. absurd (cc))).0

@@ -58,6 +58,7 @@ pub record RunsOutOfMemory {S O : Type 0} (needs_memory : List ℕ → Type 0) (
 --   (`needs_memory`), and the state stayed the same. Or the state changed from s to s' as `drops` allows for a line
 --   that is left without an answer.
 -- - `Journal`: the journal failed, and nothing was written. The state changed from s to s' as `drops` allows.
+-- - `NextDay`: the line ends the day, and nothing was written. The state changed from s to s' as `drops` allows.
 -- s and s' are the states before and after the line, o and o' the outputs. `out` gives all bytes that were written to
 -- an output.
 abbrev pub HandlerFails : {S O : Type 0} → (S → List ℕ → List ℕ → S → Type 0) → (HandlerError → S → List ℕ → S → Type 0) → (List ℕ → Type 0)
@@ -65,6 +66,7 @@ abbrev pub HandlerFails : {S O : Type 0} → (S → List ℕ → List ℕ → S 
 HandlerFails answers_with drops needs_memory out error.Write line s s' o o' = WritesAnswerFront answers_with line s s' (out o) (out o')
 HandlerFails answers_with drops needs_memory out error.OutOfMemory line s s' o o' = RunsOutOfMemory needs_memory line s s' o o' ⊎ Dropped (drops error.OutOfMemory) line s s' o o'
 HandlerFails answers_with drops needs_memory out error.Journal line s s' o o' = Dropped (drops error.Journal) line s s' o o'
+HandlerFails answers_with drops needs_memory out error.NextDay line s s' o o' = Dropped (drops error.NextDay) line s s' o o'
 
 -- a line with its LF
 abbrev pub with_lf : List ℕ → List ℕ
@@ -190,6 +192,7 @@ RunsOutAtNextLine drops needs_memory s s' rest =
 -- - `ReadsSpent`: the next line needs more reads than the session is allowed to make.
 -- - `OutOfMemory`: memory ran out at the next line (`RunsOutAtNextLine`).
 -- - `Journal`: the journal failed, and the next line was dropped (left without an answer).
+-- - `NextDay`: the next line ends the day, and was dropped.
 -- s is the state after the last answered line, s' the state at the end, and `rest` is what was read after that line.
 abbrev pub StopsFor : {S : Type 0} → (HandlerError → S → List ℕ → S → Type 0) → (List ℕ → Type 0) → SessionFault → S → S → List ℕ → Type 0
 StopsFor drops needs_memory session.Write s s' rest = ⊥
@@ -197,6 +200,7 @@ StopsFor drops needs_memory session.Read s s' rest = ReadsOn s s' rest
 StopsFor drops needs_memory session.ReadsSpent s s' rest = ReadsOn s s' rest
 StopsFor drops needs_memory session.OutOfMemory s s' rest = RunsOutAtNextLine drops needs_memory s s' rest
 StopsFor drops needs_memory session.Journal s s' rest = DropsFor drops error.Journal s s' rest
+StopsFor drops needs_memory session.NextDay s s' rest = DropsFor drops error.NextDay s s' rest
 
 -- The session failed with `fault`, which isn't a failed write. The answers to all answered lines were written whole,
 -- and no fault of a line was answered. The session failed at the line after the last answered one, as `StopsFor` says.
@@ -228,6 +232,7 @@ is_read (Err session.Write) = false
 is_read (Err session.ReadsSpent) = false
 is_read (Err session.OutOfMemory) = false
 is_read (Err session.Journal) = false
+is_read (Err session.NextDay) = false
 
 -- whether the result is that a write failed
 abbrev pub is_write : {T : Type 0} → Result T SessionFault → Bool
@@ -237,12 +242,14 @@ is_write (Err session.Write) = true
 is_write (Err session.ReadsSpent) = false
 is_write (Err session.OutOfMemory) = false
 is_write (Err session.Journal) = false
+is_write (Err session.NextDay) = false
 
 abbrev pub is_write_fault : {T : Type 0} → Result T HandlerError → Bool
 is_write_fault (Ok x) = false
 is_write_fault (Err error.Write) = true
 is_write_fault (Err error.OutOfMemory) = false
 is_write_fault (Err error.Journal) = false
+is_write_fault (Err error.NextDay) = false
 
 -- the most reads that a session makes (source: this project)
 abbrev pub session_reads : ℕ

@@ -42,7 +42,9 @@ Decides step looks tick role line c d answer c' d' = DecidesAsked step looks tic
 -- - `OutOfMemory`: memory ran out. Either the handler needs memory for the line (`needs_memory`), and the state stayed
 --   the same. Or the state changed as `drops` allows.
 -- - `Journal`: the journal failed, and the state changed as `drops` allows.
+-- - `NextDay`: the line ends the day, and the state changed as `drops` allows.
 abbrev pub LeavesLine : {S : Type 0} → (HandlerError → S → List ℕ → S → Type 0) → (List ℕ → Type 0) → HandlerError → S → List ℕ → S → Type 0
 LeavesLine drops needs_memory error.Write s line s' = ⊥
 LeavesLine drops needs_memory error.OutOfMemory s line s' = (needs_memory line × (s' ≡ s)) ⊎ drops error.OutOfMemory s line s'
 LeavesLine drops needs_memory error.Journal s line s' = drops error.Journal s line s'
+LeavesLine drops needs_memory error.NextDay s line s' = drops error.NextDay s line s'

@@ -25,12 +25,13 @@ LineAnswer = Result (List ℕ) Answer
 
 -- What a line gets by what it asks for. An act gets an answer that the desk can give, and a look what the desk can show,
 -- both at a moment that the clock can give. A fault is answered with this fault, and neither the clock nor the desk is
--- asked.
+-- asked. A line that ends the day gets nothing in its session.
 abbrev pub AnswersAsked : {C D : Type 0} → (D → Act → ℕ → Answer → D → Type 0) → (D → LookAt → ℕ → LineAnswer → D → Type 0) → (C → ℕ → C → Type 0)
     → Result Asked LineFault → C → D → LineAnswer → C → D → Type 0
 AnswersAsked step looks tick (Ok (asks.Act act)) c d (Err a) c' d' = (moment : ℕ) × tick c moment c' × step d act moment a d'
 AnswersAsked step looks tick (Ok (asks.Act act)) c d (Ok text) c' d' = ⊥
 AnswersAsked step looks tick (Ok (asks.Look look)) c d a c' d' = (moment : ℕ) × tick c moment c' × looks d look moment a d'
+AnswersAsked step looks tick (Ok asks.NextDay) c d a c' d' = ⊥
 AnswersAsked step looks tick (Err why) c d a c' d' = (a ≡ Err (Line why)) × (c' ≡ c) × (d' ≡ d)
 
 -- whether an answer is one that isn't written and ends the session
@@ -54,6 +55,7 @@ abbrev pub IsUnwritten : HandlerError → Answer → Type 0
 IsUnwritten error.Write answer = ⊥
 IsUnwritten error.OutOfMemory answer = answer ≡ Line fault.OutOfMemory
 IsUnwritten error.Journal answer = answer ≡ JournalFailed
+IsUnwritten error.NextDay answer = ⊥
 
 -- With the clock in the state `c` and the desk in the state `d`, the line `line` from this role can get the answer
 -- `text`, its LF included. The clock and the desk are then in the states `c'` and `d'`.
@@ -70,10 +72,17 @@ abbrev pub desk_answers : {C D : Type 0} → (D → Act → ℕ → Answer → D
 desk_answers step looks tick role s line text s' = IsAnswerLine step looks tick role line text s.0 s.1 s'.0 s'.1
 
 -- the desk's answer to the line isn't written, and the reason is this error: memory ran out, or the journal failed
+abbrev pub loses_answer : {C D : Type 0} → (D → Act → ℕ → Answer → D → Type 0) → (D → LookAt → ℕ → LineAnswer → D → Type 0) → (C → ℕ → C → Type 0)
+    → Role → HandlerError → C × D → List ℕ → C × D → Type 0
+loses_answer step looks tick role why s line s' =
+    (asked : Asked) × (answer : Answer) × IsUnwritten why answer × (line_asked role line ≡ Ok asked) × AnswersAsked step looks tick (Ok asked) s.0 s.1 (Err answer) s'.0 s'.1
+
+-- The line is left without an answer. Either it ends the day, and neither the clock nor the desk is asked, or the desk's
+-- answer isn't written.
 abbrev pub desk_drops : {C D : Type 0} → (D → Act → ℕ → Answer → D → Type 0) → (D → LookAt → ℕ → LineAnswer → D → Type 0) → (C → ℕ → C → Type 0)
     → Role → HandlerError → C × D → List ℕ → C × D → Type 0
-desk_drops step looks tick role why s line s' =
-    (asked : Asked) × (answer : Answer) × IsUnwritten why answer × (line_asked role line ≡ Ok asked) × AnswersAsked step looks tick (Ok asked) s.0 s.1 (Err answer) s'.0 s'.1
+desk_drops step looks tick role error.NextDay s line s' = (line_asked role line ≡ Ok asks.NextDay) × (s' ≡ s)
+desk_drops step looks tick role why s line s' = loses_answer step looks tick role why s line s'
 
 -- the line is a load that the role may send: only such a line needs memory before the desk is asked
 abbrev pub desk_needs_memory : Role → List ℕ → Type 0

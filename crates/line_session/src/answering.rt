@@ -35,6 +35,8 @@ pub enum SessionFault {
     OutOfMemory,
     /// The journal failed, and the site takes no further event. The last lines have no answer, or a beginning of one.
     Journal,
+    /// The line ends the day. It was read whole, and its answer comes once the next day is served.
+    NextDay,
 }
 
 impl fmt::Display for SessionFault {
@@ -50,6 +52,7 @@ impl fmt::Display for SessionFault {
             SessionFault::ReadsSpent => f.write_str("the reads ran out"),
             SessionFault::OutOfMemory => f.write_str("out of memory"),
             SessionFault::Journal => f.write_str("the journal failed"),
+            SessionFault::NextDay => f.write_str("the day ends"),
         }
     }
 }
@@ -78,6 +81,7 @@ impl From<HandlerError> for SessionFault {
             HandlerError::Write => SessionFault::Write,
             HandlerError::OutOfMemory => SessionFault::OutOfMemory,
             HandlerError::Journal => SessionFault::Journal,
+            HandlerError::NextDay => SessionFault::NextDay,
         }
     }
 }

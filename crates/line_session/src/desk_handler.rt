@@ -21,7 +21,8 @@ pub enum ToWrite {
 }
 
 /// The desk's answer to what a line asks for, at the clock's moment, or the line's fault; then clock and desk stay as
-/// they are. `line` is without its LF. `room` is for the line of a look.
+/// they are, as they do at a line that ends the day, for which this is `None`. `line` is without its LF. `room` is for
+/// the line of a look.
 fn answer_to<C: Clock, D: Desk>(
     alloc: Global,
     role: Role,
@@ -29,23 +30,26 @@ fn answer_to<C: Clock, D: Desk>(
     clock: &mut C,
     desk: &mut D,
     room: &mut Vec<u8>,
-) -> ToWrite
-    ensures { Decides D.step D.looks C.tick role line.now clock.old desk.old (with_room result room.new.items)
-        clock.new desk.new }
+) -> Option<ToWrite>
+    ensures some { IfSome result (λ written. Decides D.step D.looks C.tick role line.now clock.old desk.old
+        (with_room written room.new.items) clock.new desk.new) }
+    ensures none { IfNone result (desk_drops D.step D.looks C.tick role HandlerError.NextDay (clock.old, desk.old)
+        line.now (clock.new, desk.new)) }
 {
     match parse_asked(alloc, role, line) {
         Ok(Asked::Act(act)) => {
             let moment = clock.now();
-            ToWrite::Answer(desk.answer(act, moment))
+            Some(ToWrite::Answer(desk.answer(act, moment)))
         }
         Ok(Asked::Look(look)) => {
             let moment = clock.now();
             match desk.look(look, moment, room) {
-                Ok(()) => ToWrite::Room,
-                Err(answer) => ToWrite::Answer(answer),
+                Ok(()) => Some(ToWrite::Room),
+                Err(answer) => Some(ToWrite::Answer(answer)),
             }
         }
-        Err(fault) => ToWrite::Answer(Answer::Line(fault)),
+        Ok(Asked::NextDay) => None,
+        Err(fault) => Some(ToWrite::Answer(Answer::Line(fault))),
     }
 }
 
@@ -84,8 +88,9 @@ pub fn written_answer<C: Clock, D: Desk>(
         fault (clock.old, desk.old) line.now (clock.new, desk.new)) }
 {
     match answer_to(alloc, role, line, clock, desk, room) {
-        ToWrite::Room => Ok(ToWrite::Room),
-        ToWrite::Answer(answer) => match unwritten_error(&answer) {
+        None => Err(HandlerError::NextDay),
+        Some(ToWrite::Room) => Ok(ToWrite::Room),
+        Some(ToWrite::Answer(answer)) => match unwritten_error(&answer) {
             Some(fault) => Err(fault),
             None => Ok(ToWrite::Answer(answer)),
         },

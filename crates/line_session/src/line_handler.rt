@@ -10,6 +10,8 @@ pub enum HandlerError {
     OutOfMemory,
     /// The journal failed: the site takes no further event.
     Journal,
+    /// The line ends the day. Its answer comes once the next day is served.
+    NextDay,
 }
 
 /// Answers each line with a text, and can change a clock and a desk.

@@ -163,7 +163,10 @@ fn device_failed(fault: SessionFault) -> bool
 {
     match fault {
         SessionFault::Read | SessionFault::Write => true,
-        SessionFault::ReadsSpent | SessionFault::OutOfMemory | SessionFault::Journal => false,
+        SessionFault::ReadsSpent
+        | SessionFault::OutOfMemory
+        | SessionFault::Journal
+        | SessionFault::NextDay => false,
     }
 }
 

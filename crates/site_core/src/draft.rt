@@ -123,7 +123,40 @@ impl Station {
 }
 
 impl Draft {
+    ghost use Rattle.bpf_model.specs.Layouts.{bytes_of, layout_of};
     ghost use Rattle.site_core.specs.Asked.{Compares};
+
+    /// Returns the number of the version that answers.
+    pub fn version(&self) -> u32
+        ensures { result ≡ self.now.version.number }
+    {
+        self.version
+    }
+
+    pub fn program(&self) -> &Program
+        ensures { result.now ≡ self.now.version.program }
+    {
+        &self.program
+    }
+
+    pub fn context(&self) -> &Context
+        ensures bytes { bytes_of result.now ≡ self.now.context }
+        ensures layout { layout_of result.now ≡ self.now.version.program.layout }
+    {
+        &self.input.context
+    }
+
+    pub fn view(&self) -> &View
+        ensures { result.now ≡ self.now.view }
+    {
+        &self.input.view
+    }
+
+    pub fn counters(&self) -> &Counters
+        ensures { result.now ≡ self.now.counters }
+    {
+        &self.counters
+    }
 
     /// Allocates no memory.
     pub fn run(self) -> Ready

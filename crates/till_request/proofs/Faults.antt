@@ -108,6 +108,7 @@ IsBad-act_within_role : (role : Role) (parsed_act : Result Act LineFault) → Is
 IsBad-act_within_role roles.Till parsed_act h = h
 IsBad-act_within_role roles.Dispenser parsed_act h = h
 IsBad-act_within_role roles.Owner parsed_act h = h
+IsBad-act_within_role roles.DaysOwner parsed_act h = h
 IsBad-act_within_role roles.All parsed_act h = h
 IsBad-act_within_role (roles.OneTill number stray) parsed_act h = IsBad-bind parsed_act _ h (λ act. IsBad-own (names_till number act) act)
 IsBad-act_within_role (roles.SomePoints points stray) parsed_act h = IsBad-bind parsed_act _ h (λ act. IsBad-own (names_point points act) act)

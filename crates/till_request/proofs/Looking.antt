@@ -15,7 +15,7 @@ use Rattle.till_request.specs.declared.look.LookAt.{LookAt}
 use Rattle.till_request.specs.declared.look.Asked.{Asked}
 use Rattle.till_request.specs.declared.look.Asked.TheVariants as asks
 use Rattle.till_request.specs.Grammar.{◌>>=◌, act_by, act_of_words, act_within_role, all_forms, allows, fits, sender, suits, template, words}
-use Rattle.till_request.specs.Looks.{AsksForActs, asked_or_told, fault_told, has_some_form, is_look, is_some_look, look_asked, look_of_words, look_within}
+use Rattle.till_request.specs.Looks.{AsksForActs, asked_or_told, ends_day, fault_told, has_some_form, is_look, is_some_look, look_asked, look_of_words, look_within}
 use Rattle.till_request.specs.Looks.{tells_stray, words_answered, words_asked}
 use Rattle.till_request.proofs.Fitting.{between, find_none, fits_count, not_true}
 
@@ -29,6 +29,7 @@ within_fault : (role : Role) → act_within_role role (Err BadLine) ≡ Err BadL
 within_fault roles.Till = refl
 within_fault roles.Dispenser = refl
 within_fault roles.Owner = refl
+within_fault roles.DaysOwner = refl
 within_fault roles.All = refl
 within_fault (roles.OneTill number stray) = refl
 within_fault (roles.SomePoints points stray) = refl
@@ -49,13 +50,25 @@ look_too_long : (role : Role) (ws : List (List ℕ)) → 5 < length ws → look_
 look_too_long role (a ∷ b ∷ c ∷ d ∷ ws) l = refl
 look_too_long role ws l = absurd (omega (arith, l))
 
+no_end : (role : Role) (ws : List (List ℕ)) → 5 < length ws → ends_day role ws ≡ false
+no_end roles.DaysOwner (a ∷ b ∷ ws) l = refl
+no_end roles.DaysOwner (a ∷ []) l = absurd (omega (arith, l))
+no_end roles.DaysOwner [] l = refl
+no_end roles.Till ws l = refl
+no_end roles.Dispenser ws l = refl
+no_end roles.Owner ws l = refl
+no_end roles.All ws l = refl
+no_end (roles.OneTill number stray) ws l = refl
+no_end (roles.SomePoints points stray) ws l = refl
+
 asks_nothing : (role : Role) (ws : List (List ℕ)) → 5 < length ws → words_asked role ws ≡ Err BadLine
-asks_nothing role ws l = by_first (is_look ws) _ (look_too_long role ws l) (act_too_long role ws l)
+asks_nothing role ws l = by_first (is_look ws) (ends_day role ws) _ (look_too_long role ws l) (no_end role ws l) (act_too_long role ws l)
   where
-    by_first : (first : Bool) (look : Result Asked LineFault) → look ≡ Err BadLine → act_of_words role ws ≡ Err BadLine
-        → (if first then look else (act_of_words role ws >>= (λ act. Ok (asks.Act act)))) ≡ Err BadLine
-    by_first true look h k = h
-    by_first false look h k = rw k refl
+    by_first : (first ends : Bool) (look : Result Asked LineFault) → look ≡ Err BadLine → ends ≡ false → act_of_words role ws ≡ Err BadLine
+        → (if first then look else if ends then Ok asks.NextDay else (act_of_words role ws >>= (λ act. Ok (asks.Act act)))) ≡ Err BadLine
+    by_first true ends look h e k = h
+    by_first false true look h e k = absurd (cc)
+    by_first false false look h e k = rw k refl
 
 long_look : (ws : List (List ℕ)) → 5 < length ws → look_asked (drop 1 ws) ≡ Err BadLine
 long_look (a ∷ b ∷ c ∷ d ∷ ws) l = refl
@@ -100,6 +113,31 @@ look_is_no_form form (w ∷ ws) h fit =
     let other : fits (template form) (w ∷ ws) ≡ false = subst (λ v. fits (template form) (v ∷ ws) ≡ false) (sym first) (starts_otherwise form ws) in
     let both : true ≡ false = sym fit ∙ other in absurd (cc)
 
+-- no form is the word `day`
+is_no_day : (form : Form) → fits (template form) (codes "day" ∷ []) ≡ false
+is_no_day (forms.Amount verb) = refl
+is_no_day (forms.Point verb) = refl
+is_no_day (forms.Transaction verb) = refl
+is_no_day (forms.Report verb) = refl
+is_no_day forms.Up = refl
+is_no_day forms.Flow = refl
+is_no_day (forms.Load layouts.One) = refl
+is_no_day (forms.Load layouts.Two) = refl
+
+day_is_no_form : (role : Role) (ws : List (List ℕ)) → ends_day role ws ≡ true → act_of_words role ws ≡ Err BadLine
+day_is_no_form roles.DaysOwner (w ∷ []) h = no_form roles.DaysOwner (w ∷ []) (λ form fit.
+    let word : w ≡ codes "day" = (bytes_eq-Decides w (codes "day")).0 h in
+    let other : fits (template form) (w ∷ []) ≡ false = subst (λ v. fits (template form) (v ∷ []) ≡ false) (sym word) (is_no_day form) in
+    let both : true ≡ false = sym fit ∙ other in absurd (cc))
+day_is_no_form roles.DaysOwner [] h = absurd (cc)
+day_is_no_form roles.DaysOwner (a ∷ b ∷ ws) h = absurd (cc)
+day_is_no_form roles.Till ws h = absurd (cc)
+day_is_no_form roles.Dispenser ws h = absurd (cc)
+day_is_no_form roles.Owner ws h = absurd (cc)
+day_is_no_form roles.All ws h = absurd (cc)
+day_is_no_form (roles.OneTill number stray) ws h = absurd (cc)
+day_is_no_form (roles.SomePoints points stray) ws h = absurd (cc)
+
 -- a look asks for no act
 sees_no_act : (look : Result LookAt LineFault) (may : LookAt → Bool) (act : Act) → (look >>= (λ at. if may at then Ok (asks.Look at) else Err BadLine)) ≡ Ok (asks.Act act)
     → ⊥
@@ -110,11 +148,13 @@ sees_no_act (Ok at) may act h = by_test (may at) h
     by_test true e = absurd (cc)
     by_test false e = absurd (cc)
 
-asks_for : (look : Bool) (seen : Result Asked LineFault) (read : Result Act LineFault) (act : Act) → (seen ≡ Ok (asks.Act act) → ⊥) → (look ≡ true → read ≡ Err BadLine)
-    → (if look then seen else (read >>= (λ a. Ok (asks.Act a)))) ≡ Ok (asks.Act act) ↔ read ≡ Ok act
-asks_for true seen read act never bad = (λ h. absurd (never h), λ h. let both : Err BadLine ≡ Ok act = sym (bad refl) ∙ h in absurd (cc))
-asks_for false seen (Ok a) act never bad = (λ h. cc, λ h. cc)
-asks_for false seen (Err fault) act never bad = (λ h. absurd (cc), λ h. absurd (cc))
+asks_for : (look ends : Bool) (seen : Result Asked LineFault) (read : Result Act LineFault) (act : Act) → (seen ≡ Ok (asks.Act act) → ⊥) → (look ≡ true → read ≡ Err BadLine)
+    → (ends ≡ true → read ≡ Err BadLine)
+    → (if look then seen else if ends then Ok asks.NextDay else (read >>= (λ a. Ok (asks.Act a)))) ≡ Ok (asks.Act act) ↔ read ≡ Ok act
+asks_for true ends seen read act never bad none = (λ h. absurd (never h), λ h. let both : Err BadLine ≡ Ok act = sym (bad refl) ∙ h in absurd (cc))
+asks_for false true seen read act never bad none = (λ h. absurd (cc), λ h. let both : Err BadLine ≡ Ok act = sym (none refl) ∙ h in absurd (cc))
+asks_for false false seen (Ok a) act never bad none = (λ h. cc, λ h. cc)
+asks_for false false seen (Err fault) act never bad none = (λ h. absurd (cc), λ h. absurd (cc))
 
 told_acts : (told : LineFault → LineFault) (asked : Result Asked LineFault) (act : Act)
     → asked_or_told told asked ≡ Ok (asks.Act act) ↔ asked ≡ Ok (asks.Act act)
@@ -126,8 +166,9 @@ asks_for_acts role line act = by_length (nat_lt 8400 (length line))
   where
     asked : words_asked role (words line) ≡ Ok (asks.Act act) ↔ act_of_words role (words line) ≡ Ok act
     asked =
-        asks_for (is_look (words line)) (look_of_words role (words line)) (act_of_words role (words line)) act (sees_no_act (look_asked (drop 1 (words line))) (look_within role) act)
+        asks_for (is_look (words line)) (ends_day role (words line)) (look_of_words role (words line)) (act_of_words role (words line)) act (sees_no_act (look_asked (drop 1 (words line))) (look_within role) act)
         (λ first. no_form role (words line) (λ form. look_is_no_form form (words line) first))
+        (day_is_no_form role (words line))
 
     short : words_answered role (words line) ≡ Ok (asks.Act act) ↔ act_of_words role (words line) ≡ Ok act
     short =

@@ -104,6 +104,7 @@ allows roles.All by = true
 allows roles.Till roles.Till = true
 allows roles.Dispenser roles.Dispenser = true
 allows roles.Owner roles.Owner = true
+allows roles.DaysOwner roles.Owner = true
 allows (roles.OneTill number stray) roles.Till = true
 allows (roles.SomePoints points stray) roles.Dispenser = true
 allows role by = false

@@ -1,5 +1,5 @@
--- Definitions: lines that look at the site and enter nothing, and the answers to them (source: this project). Such a
--- line is the word `look`, what it looks at and, for some of these, a point. Everybody may look; but the dispensers of
+-- Definitions: lines that enter nothing, and the answers to them (source: this project). One ends the day: it is the
+-- word `day`. Others look at the site: such a line is the word `look`, what it looks at and, for some of these, a point. Everybody may look; but the dispensers of
 -- some points see only those points. A line that has a form, but that isn't one of its door's own, is a bad line, or is
 -- told that it is of another door. The answer to a look names the number of the entries that the site has.
 use Rattle.std.specs.Prelude.{◌≡◌, ◌↔◌, ◌&&◌, not, nat_lt, ℕ, List, [], ◌∷◌, ◌++◌, length, drop, codes, Bool, true, false, Option, Some, None, Result, Ok, Err, find, is_some, if◌then◌else◌}
@@ -64,9 +64,18 @@ look_within role look = true
 abbrev pub look_of_words : Role → List (List ℕ) → Result Asked LineFault
 look_of_words role ws = look_asked (drop 1 ws) >>= (λ look. if look_within role look then Ok (asks.Look look) else Err BadLine)
 
+-- the words end the day, and a sender of this role may send them: the word `day` alone, of the owner of a station whose
+-- days follow one another
+abbrev pub ends_day : Role → List (List ℕ) → Bool
+ends_day roles.DaysOwner (word ∷ []) = bytes_eq word (codes "day")
+ends_day role words = false
+
 -- what the words of a line that a sender of this role has sent ask for
 abbrev pub words_asked : Role → List (List ℕ) → Result Asked LineFault
-words_asked role ws = if is_look ws then look_of_words role ws else (act_of_words role ws >>= (λ act. Ok (asks.Act act)))
+words_asked role ws =
+    if is_look ws then look_of_words role ws
+    else if ends_day role ws then Ok asks.NextDay
+    else (act_of_words role ws >>= (λ act. Ok (asks.Act act)))
 
 -- the words behind `look` ask to see something, perhaps by a number that can't be read
 abbrev pub is_some_look : Result LookAt LineFault → Bool
@@ -101,7 +110,7 @@ words_answered role ws = asked_or_told (fault_told role ws) (words_asked role ws
 abbrev pub line_asked : Role → List ℕ → Result Asked LineFault
 line_asked role line = if nat_lt 8400 (length line) then Err TooLong else words_answered role (words line)
 
--- A promise: no act is lost or made by looks. A line asks for an act exactly if it is read as that act.
+-- A promise: no act is lost or made by looks, or by the line that ends a day. A line asks for an act exactly if it is read as that act.
 abbrev pub AsksForActs : Type 0
 AsksForActs = (role : Role) (line : List ℕ) (act : Act) → line_asked role line ≡ Ok (asks.Act act) ↔ line_read role line ≡ Ok act
 
@@ -127,6 +136,10 @@ date_behind (Some date) = codes " " ++ date_text date
 -- a day by its number, and by the date of its first moment, where it has one
 abbrev pub day_text : ℕ → ℕ → List ℕ
 day_text number since = codes "day " ++ (decimal number ++ date_behind (date_of since))
+
+-- the line that answers the line that ended a day: the number of the day that is served then, and an LF
+abbrev pub next_day_line : ℕ → List ℕ
+next_day_line number = codes "day " ++ (decimal number ++ 10 ∷ [])
 
 -- what was seen, in words
 abbrev pub seen_text : Seen → List ℕ

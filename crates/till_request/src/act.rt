@@ -164,6 +164,8 @@ pub enum Role {
     Dispenser,
     /// The owner: loads.
     Owner,
+    /// The owner of a station whose days follow one another: loads, and the line that ends a day.
+    DaysOwner,
     /// Everybody: all lines.
     All,
     /// The till of this number: its lines.

@@ -156,7 +156,7 @@ pub fn may_send(role: Role, by: Role) -> bool
         Role::All => true,
         Role::Till | Role::OneTill(..) => matches!(by, Role::Till),
         Role::Dispenser | Role::SomePoints(..) => matches!(by, Role::Dispenser),
-        Role::Owner => matches!(by, Role::Owner),
+        Role::Owner | Role::DaysOwner => matches!(by, Role::Owner),
     }
 }
 

@@ -1,11 +1,11 @@
-//! Parses the lines that look at the site and enter nothing, and writes the answers to them.
+//! Parses the lines that enter nothing, since they look at the site or end its day, and writes the answers to them.
 ghost use Rattle.std.specs.Prelude.{◌≡◌, ◌≢◌, ◌++◌, Err, OnOk, codes, decimal, drop, map};
 ghost use Rattle.std.specs.List.{flat_map};
 ghost use Rattle.till_request.specs.Answer.{reply_text};
 ghost use Rattle.till_request.specs.Dates.{date_of};
 ghost use Rattle.till_request.specs.Gives.{Gives};
 ghost use Rattle.till_request.specs.Grammar.{IsLoad, words as words_of};
-ghost use Rattle.till_request.specs.Looks.{AsksForActs, fault_told, has_some_form, is_look, is_some_look, line_asked};
+ghost use Rattle.till_request.specs.Looks.{AsksForActs, ends_day, fault_told, has_some_form, is_look, is_some_look, line_asked};
 ghost use Rattle.till_request.specs.Looks.{look_asked, look_of_point, look_of_word, look_of_words, look_within};
 ghost use Rattle.till_request.specs.Looks.{tells_stray, words_answered, words_asked};
 ghost use Rattle.till_request.specs.Looks.{date_behind, day_text, numbers_text, rows_text, seen_text, sight_line, spread};
@@ -40,6 +40,8 @@ pub enum LookAt {
 pub enum Asked {
     Act(Act),
     Look(LookAt),
+    /// That the day ends. The answer is the number of the day that is served then.
+    NextDay,
 }
 
 /// What a look answers with.
@@ -77,6 +79,19 @@ fn is_look(words: &[&[u8]]) -> bool
     match words {
         [first, ..] => *first == b"look".as_slice(),
         [] => false,
+    }
+}
+
+/// Whether the words are those of the line that ends a day, and a sender of this role may send it.
+fn ends_day(role: Role, words: &[&[u8]]) -> bool
+    ensures { result ≡ ends_day role (map (λ w. w.now) words.now) }
+{
+    let Role::DaysOwner = role else {
+        return false;
+    };
+    match words {
+        [word] => *word == b"day".as_slice(),
+        _ => false,
     }
 }
 
@@ -161,6 +176,9 @@ pub fn words_asked(alloc: Global, role: Role, words: &[&[u8]]) -> Result<Asked, 
 {
     if is_look(words) {
         return look_of_words(role, words);
+    }
+    if ends_day(role, words) {
+        return Ok(Asked::NextDay);
     }
     match parse_words(alloc, role, words) {
         Ok(act) => Ok(Asked::Act(act)),

@@ -2,6 +2,7 @@
 ghost use Rattle.std.specs.Prelude.{◌≡◌, ◌+◌, ◌≤◌, ◌∷◌, ◌++◌, [], decimal, length, map};
 ghost use Rattle.std.specs.Option.{option_to_list};
 ghost use Rattle.till_request.specs.Answer.{answer_line, answer_text, fault_text, order_words, reply_words};
+ghost use Rattle.till_request.specs.Looks.{next_day_line};
 ghost use Rattle.till_request.specs.Short.{with_words};
 
 use crate::act::{Answer, LineFault, Reply};
@@ -69,6 +70,16 @@ fn put_order(text: &mut ShortText, order: Order)
         Order::Resume => put_word(text, "resume"),
         Order::Stop => put_word(text, "stop"),
     }
+}
+
+/// Puts `day` and a day's number, with an LF, into an empty text.
+pub(crate) fn put_next_day(text: &mut ShortText, number: u32)
+    requires { text.old.bytes ≡ [] }
+    ensures { text.new.bytes ≡ next_day_line number }
+{
+    text.push_str("day ");
+    put_number(text, u64::from(number));
+    text.push_str("\n");
 }
 
 /// Puts a reply's words, each behind a space; needs room for 153 more bytes.

@@ -4,10 +4,11 @@ ghost use Rattle.std.specs.Io.KnownBytes.{Appends};
 ghost use Rattle.till_request.specs.Count.{RoseBy, one_if};
 ghost use Rattle.till_request.specs.Write.{is_write_fault};
 ghost use Rattle.till_request.specs.Answer.{answer_line};
+ghost use Rattle.till_request.specs.Looks.{next_day_line};
 
 use crate::act::Answer;
 use crate::device::{DeviceFault, LineOut};
-use crate::short_text::{ShortText, put_line};
+use crate::short_text::{ShortText, put_line, put_next_day};
 use std::alloc::Global;
 
 /// Why an answer couldn't be written whole.
@@ -54,4 +55,18 @@ pub fn write_answer<O: LineOut>(
         Ok(()) => Ok(()),
         Err(DeviceFault) => Err(WriteFault::Write),
     }
+}
+
+/// Writes the answer to a line that ended a day, with its LF: the number of the day that is served now. Takes no memory.
+/// After an error some of the first bytes may be written.
+pub fn write_next_day<O: LineOut>(output: &mut O, number: u32) -> Result<(), DeviceFault>
+    // proved: The answer to a day's end names the day that follows
+    ensures ok { OnOk result (Appends (O.written output.old) (O.written output.new) (next_day_line number)) }
+    ensures err { IfErr result
+        (λ _. (k : ℕ) × Appends (O.written output.old) (O.written output.new) (take k (next_day_line number))) }
+    ensures failed { RoseBy (one_if (is_err result)) (O.failures output.old) (O.failures output.new) }
+{
+    let mut line = ShortText::new();
+    put_next_day(&mut line, number);
+    write_all(output, line.as_str().as_bytes())
 }
