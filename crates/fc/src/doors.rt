@@ -26,7 +26,7 @@ impl Display for Name {
         match self.0 {
             Role::Till => f.write_str("tills"),
             Role::Dispenser => f.write_str("dispensers"),
-            Role::Owner | Role::All => f.write_str("owner"),
+            Role::Owner | Role::DaysOwner | Role::All => f.write_str("owner"),
             Role::OneTill(number, _) => write!(f, "till {number}"),
             Role::SomePoints(points, _) => write_points(f, points),
         }
@@ -109,7 +109,7 @@ impl Display for DoorListing<'_> {
 /// To a socket for `Owner` or `All` only the program's own user may connect, to the others the user's group too.
 fn mode_of(role: Role) -> u32 {
     match role {
-        Role::Owner | Role::All => 0o600,
+        Role::Owner | Role::DaysOwner | Role::All => 0o600,
         Role::Till | Role::Dispenser | Role::OneTill(..) | Role::SomePoints(..) => 0o660,
     }
 }

@@ -47,7 +47,7 @@ impl Display for Peer {
             Role::Till => f.write_str("a till"),
             Role::OneTill(number, _) => write!(f, "till {number}"),
             Role::Dispenser | Role::SomePoints(..) => f.write_str("a dispenser"),
-            Role::Owner | Role::All => f.write_str("the owner"),
+            Role::Owner | Role::DaysOwner | Role::All => f.write_str("the owner"),
         }
     }
 }
@@ -94,8 +94,9 @@ fn code_of(failure: SessionFailure) -> &'static str {
         SessionFailure::Session(SessionFault::Read) => " (N1)",
         SessionFailure::Session(SessionFault::Write) => " (N2)",
         SessionFailure::Session(SessionFault::ReadsSpent) => " (N3)",
-        SessionFailure::Session(SessionFault::OutOfMemory) => "",
-        SessionFailure::Session(SessionFault::Journal) => "",
+        SessionFailure::Session(
+            SessionFault::OutOfMemory | SessionFault::Journal | SessionFault::NextDay,
+        ) => "",
     }
 }
 

@@ -21,6 +21,7 @@ use std::net::{Net, TcpListener, TcpStream};
 use std::sync::{Arc, Wait};
 use std::thread::Threads;
 use std::time::Clock;
+use till_request::Role;
 
 /// How many seconds after a day couldn't be ended that is tried again.
 const RETRY_SECONDS: u64 = 60;
@@ -227,6 +228,18 @@ impl Days<'_> {
     }
 }
 
+/// Lets the owner end a day, where days follow one another.
+fn let_owner_end_days(serve: &mut Serve) {
+    if serve.connections.is_some() {
+        return;
+    }
+    for door in serve.doors.iter_mut() {
+        if let Role::Owner = door.role {
+            door.role = Role::DaysOwner;
+        }
+    }
+}
+
 /// Serves the days of a folder: the newest, and when it ends the next one, until all connections are used up.
 /// `config_name` names the configuration's file.
 ///
@@ -234,7 +247,8 @@ impl Days<'_> {
 /// - If `is_new_day` is true and the newest day has an entry, closes that day, and serves the next one.
 /// - Otherwise serves the newest day, from the end of its journal.
 ///
-/// If its workers serve connections without end, a day ends at the time that the configuration names, or when it is full.
+/// If its workers serve connections without end, a day ends at the time that the configuration names, when it is full, or
+/// by the owner's line.
 /// The doors and their connections stay open.
 ///
 /// `host` must be the same runtime as `rt`, with a type that can start threads and open sockets. Only `main` can borrow
@@ -259,7 +273,8 @@ pub fn serve_days<
     let text = text_of(rt, config_name)?;
     let Settings { serve, .. } = settings_in(rt, config_name, &text)?;
     // This is checked first, so that no day is closed if the configuration can't be served.
-    let serve = served(rt.alloc(), config_name, serve)?;
+    let mut serve = served(rt.alloc(), config_name, serve)?;
+    let_owner_end_days(&mut serve);
     let day = days.begin(&text, is_new_day)?;
     let stop = new_stop(rt)?;
     let OpenDoors { crew, files } = open_site_doors(

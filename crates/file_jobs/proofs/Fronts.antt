@@ -73,6 +73,7 @@ no_journal (Err session.Read) a m left i j o p h is = absurd (cc)
 no_journal (Err session.Write) a m left i j o p h is = absurd (cc)
 no_journal (Err session.ReadsSpent) a m left i j o p h is = absurd (cc)
 no_journal (Err session.OutOfMemory) a m left i j o p h is = absurd (cc)
+no_journal (Err session.NextDay) a m left i j o p h is = absurd (cc)
 no_journal (Err session.Journal) a m left i j o p h is = (h (λ e. absurd (cc))).3.3
 
 -- If `text` is an answer to `line`, and writing it fails with the error `Write` after a beginning of it was written
@@ -85,3 +86,4 @@ module _ {S O : Type 0} (out : O → Option (List ℕ)) (answers_with : S → Li
   falls_short (Err error.Write) w is = record { text = text; is_answer = all_answered; kept = w.0; written = w.1 }
   falls_short (Err error.OutOfMemory) w is = absurd (cc)
   falls_short (Err error.Journal) w is = absurd (cc)
+  falls_short (Err error.NextDay) w is = absurd (cc)

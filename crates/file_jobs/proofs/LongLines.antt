@@ -29,5 +29,5 @@ untold ws (Err OutOfMemory) told = told
 pub too_many : (ws : List (List ℕ)) → 5 < length ws → words_line ws ≡ Err BadLine
 too_many ws many =
     let asked : words_asked All ws ≡ Err BadLine = untold ws (words_asked All ws) (looking.too_many All ws many) in
-    let asking : asking_line ws ≡ Err BadLine = ap (λ r. r >>= (λ a. Ok (line_for a))) asked in
+    let asking : asking_line ws ≡ Err BadLine = ap (λ r. r >>= line_for) asked in
     subst (λ (own : Option (Result ScriptLine LineFault)). line_or own (asking_line ws) ≡ Err BadLine) (sym (not_own ws many)) asking

@@ -26,6 +26,7 @@ BreaksOff session.Read error = Ends 3 [] error
 BreaksOff session.ReadsSpent error = Ends 3 [] error
 BreaksOff session.Write error = Ends 3 [] error
 BreaksOff session.Journal error = Ends 3 [] error
+BreaksOff session.NextDay error = Ends 3 [] error
 BreaksOff session.OutOfMemory error = error ≡ job_error.OutOfMemory
 
 -- A script that is read to its end is done; one that a line stops is refused.

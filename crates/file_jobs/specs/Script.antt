@@ -4,7 +4,7 @@
 use Rattle.std.specs.Prelude.{ℕ, List, [], ◌∷◌, codes, length, nat_lt, Bool, ◌&&◌, Option, Some, None, Result, Ok, Err, if◌then◌else◌}
 use Rattle.std.specs.Str.{bytes_eq}
 use Rattle.till_request.specs.declared.act.LineFault.{LineFault}
-use Rattle.till_request.specs.declared.act.LineFault.TheVariants.{TooLong}
+use Rattle.till_request.specs.declared.act.LineFault.TheVariants.{TooLong, BadLine}
 use Rattle.till_request.specs.declared.act.Role.TheVariants.{All}
 use Rattle.till_request.specs.declared.look.Asked.{Asked}
 use Rattle.till_request.specs.declared.look.Asked.TheVariants as asks
@@ -13,16 +13,17 @@ use Rattle.till_request.specs.Looks.{words_asked}
 use Rattle.file_jobs.specs.declared.script.ScriptLine.{ScriptLine}
 use Rattle.file_jobs.specs.declared.script.ScriptLine.TheVariants as lines
 
--- The line that asks for this.
-abbrev pub line_for : Asked → ScriptLine
-line_for (asks.Act act) = lines.Act act
-line_for (asks.Look look) = lines.Look look
+-- The line that asks for this. No line of a script ends a day.
+abbrev pub line_for : Asked → Result ScriptLine LineFault
+line_for (asks.Act act) = Ok (lines.Act act)
+line_for (asks.Look look) = Ok (lines.Look look)
+line_for asks.NextDay = Err BadLine
 
 -- Parses the words of a line as an act of any role, or as a look.
 abbrev pub asking_line : List (List ℕ) → Result ScriptLine LineFault
 asking_line ws = do
   asked ← words_asked All ws
-  Ok (line_for asked)
+  line_for asked
 
 -- The word is this name, and the value after it isn't empty.
 abbrev pub is_named : List ℕ → List ℕ → List ℕ → Bool

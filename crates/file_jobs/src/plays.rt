@@ -79,8 +79,10 @@ fn broken_off(
         (SessionFault::Read, None) => JobError::fault(alloc, place, &fault, "N1", FAILED),
         (SessionFault::ReadsSpent, _) => JobError::fault(alloc, place, &fault, "N3", FAILED),
         (SessionFault::OutOfMemory, _) => JobError::OutOfMemory,
-        // A play writes no journal.
-        (SessionFault::Write | SessionFault::Journal, _) => answers.failure(alloc),
+        // A play writes no journal, and no line of it ends a day.
+        (SessionFault::Write | SessionFault::Journal | SessionFault::NextDay, _) => {
+            answers.failure(alloc)
+        }
     }
 }
 

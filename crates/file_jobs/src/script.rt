@@ -1,5 +1,5 @@
 //! Parses the lines of a script: the acts of all roles, looks, and the lines that only scripts have.
-ghost use Rattle.std.specs.Prelude.{◌≡◌, Err, map};
+ghost use Rattle.std.specs.Prelude.{◌≡◌, ◌≢◌, Err, map};
 ghost use Rattle.std.specs.Str.{bytes_eq};
 ghost use Rattle.till_request.specs.Gives.{Gives};
 ghost use Rattle.till_request.specs.Grammar.{IsLoad, words as words_of};
@@ -32,12 +32,15 @@ fn is_pair(word: &[u8], name: &[u8], value: &[u8]) -> bool
     word == name && !value.is_empty()
 }
 
-fn line_for(asked: Asked) -> ScriptLine
-    ensures { result ≡ line_for asked }
+/// The line that asks for this. No line of a script ends a day.
+fn line_for(asked: Asked) -> Result<ScriptLine, LineFault>
+    ensures value { result ≡ line_for asked }
+    ensures memory { result ≢ Err LineFault.OutOfMemory }
 {
     match asked {
-        Asked::Act(act) => ScriptLine::Act(act),
-        Asked::Look(look) => ScriptLine::Look(look),
+        Asked::Act(act) => Ok(ScriptLine::Act(act)),
+        Asked::Look(look) => Ok(ScriptLine::Look(look)),
+        Asked::NextDay => Err(LineFault::BadLine),
     }
 }
 
@@ -46,7 +49,7 @@ fn read_asking(alloc: Global, words: &[&[u8]]) -> Result<ScriptLine, LineFault>
     ensures given { Gives result (asking_line (map (λ w. w.now) words.now)) }
     ensures memory { result ≡ Err LineFault.OutOfMemory → IsLoad Role.All (map (λ w. w.now) words.now) }
 {
-    Ok(line_for(words_asked(alloc, Role::All, words)?))
+    line_for(words_asked(alloc, Role::All, words)?)
 }
 
 fn moment_of(value: &[u8]) -> Result<ScriptLine, LineFault>

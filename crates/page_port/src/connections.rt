@@ -170,7 +170,7 @@ impl ConnectionCounts {
         match role {
             Role::Till | Role::OneTill(..) => &self.tills,
             Role::Dispenser | Role::SomePoints(..) => &self.dispensers,
-            Role::Owner | Role::All => &self.owner,
+            Role::Owner | Role::DaysOwner | Role::All => &self.owner,
         }
     }
 
@@ -181,7 +181,7 @@ impl ConnectionCounts {
         match role {
             Role::Till | Role::OneTill(..) => self.tills.add_workers(workers),
             Role::Dispenser | Role::SomePoints(..) => self.dispensers.add_workers(workers),
-            Role::Owner | Role::All => self.owner.add_workers(workers),
+            Role::Owner | Role::DaysOwner | Role::All => self.owner.add_workers(workers),
         }
     }
 

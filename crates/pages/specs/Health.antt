@@ -1,7 +1,7 @@
 -- Definitions: the health of a station, which says whether all is well, or what isn't.
 use Rattle.std.specs.Prelude.{ℕ, ◌==◌, nat_le, codes, if◌then◌else◌, List, [], ◌∷◌, Option, Some, None, Bool}
 use Rattle.till_request.specs.declared.act.Role.{Role}
-use Rattle.till_request.specs.declared.act.Role.TheVariants.{Till, Dispenser, Owner, All, OneTill, SomePoints}
+use Rattle.till_request.specs.declared.act.Role.TheVariants.{Till, Dispenser, Owner, DaysOwner, All, OneTill, SomePoints}
 use Rattle.pages.specs.declared.station.Health.{Health}
 use Rattle.pages.specs.declared.station.Health.TheVariants.{Healthy, JournalFailed, NearlyFull, NoWorker}
 use Rattle.pages.specs.declared.station.RoleCounts.{RoleCounts}
@@ -35,4 +35,5 @@ health_text (NoWorker (OneTill till stray)) = codes "no worker is left for tills
 health_text (NoWorker Dispenser) = codes "no worker is left for dispensers"
 health_text (NoWorker (SomePoints points stray)) = codes "no worker is left for dispensers"
 health_text (NoWorker Owner) = codes "no worker is left for the owner"
+health_text (NoWorker DaysOwner) = codes "no worker is left for the owner"
 health_text (NoWorker All) = codes "no worker is left for the owner"

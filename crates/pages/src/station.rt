@@ -94,7 +94,9 @@ impl Health {
             Health::NoWorker(Role::Till | Role::OneTill(..)) => "no worker is left for tills",
             Health::NoWorker(Role::Dispenser | Role::SomePoints(..)) =>
                 "no worker is left for dispensers",
-            Health::NoWorker(Role::Owner | Role::All) => "no worker is left for the owner",
+            Health::NoWorker(Role::Owner | Role::DaysOwner | Role::All) => {
+                "no worker is left for the owner"
+            }
         }
     }
 }

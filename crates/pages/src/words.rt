@@ -38,7 +38,7 @@ pub(crate) fn role_name(role: Role) -> &'static str {
     match role {
         Role::Till | Role::OneTill(..) => "till",
         Role::Dispenser | Role::SomePoints(..) => "dispenser",
-        Role::Owner | Role::All => "owner",
+        Role::Owner | Role::DaysOwner | Role::All => "owner",
     }
 }
 

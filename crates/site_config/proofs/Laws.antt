@@ -123,6 +123,7 @@ told_lines : (stray : Stray) (raw : RawRole) (role : Role) → TakesOwnLines raw
 told_lines stray raw roles.Till h = h
 told_lines stray raw roles.Dispenser h = h
 told_lines stray raw roles.Owner h = h
+told_lines stray raw roles.DaysOwner h = h
 told_lines stray raw roles.All h = h
 told_lines stray raw (roles.OneTill n other) h = record { of_tills = h.of_tills; of_points = h.of_points }
 told_lines stray raw (roles.SomePoints bits other) h = record { of_tills = h.of_tills; of_points = h.of_points }

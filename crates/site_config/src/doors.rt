@@ -176,7 +176,7 @@ fn telling(stray: Stray, role: Role) -> Role
     match role {
         Role::OneTill(number, _) => Role::OneTill(number, stray),
         Role::SomePoints(points, _) => Role::SomePoints(points, stray),
-        Role::Till | Role::Dispenser | Role::Owner | Role::All => role,
+        Role::Till | Role::Dispenser | Role::Owner | Role::DaysOwner | Role::All => role,
     }
 }
 

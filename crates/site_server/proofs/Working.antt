@@ -16,7 +16,7 @@ use Rattle.line_session.specs.declared.answering.SessionFault.{SessionFault}
 use Rattle.line_session.specs.declared.answering.SessionFault.TheVariants as session
 use Rattle.line_session.specs.declared.line_handler.HandlerError.{HandlerError}
 use Rattle.line_session.specs.declared.line_handler.HandlerError.TheVariants as error
-use Rattle.line_session.specs.Session.{AnswersAsked, LineAnswer, desk_answers, desk_drops, desk_needs_memory}
+use Rattle.line_session.specs.Session.{AnswersAsked, LineAnswer, desk_answers, desk_drops, desk_needs_memory, loses_answer}
 use Rattle.line_session.specs.Serving.{Outcome, RunsDeskSession, ServesConnection, ServesConnections, Serves}
 use Rattle.line_session.specs.Answering.{AnswersAll, DropsFor, DropsNext, StopsAtDoor}
 use Rattle.site_lock.specs.Desks.{DeskAnswers, DeskLooks}
@@ -45,6 +45,7 @@ module _ {C P : Type 0} (last : C → ℕ) (pass : P → PassView) (told : P →
   asked_seen (Ok (asks.Look look)) c d a e r on h =
       let made = sees d look h.0 a r h.2 in
       ((h.0, ticks c h.0 e h.1, subst (λ n. DeskLooks f may_fail n (pass d) (pass r) look a) on made.0), made.1 ∙ on)
+  asked_seen (Ok asks.NextDay) c d a e r on h = absurd h
   asked_seen (Err fault) c d a e r on h = ((h.0, ap last h.1, ap pass h.2), ap told h.2 ∙ on)
 
   line_seen : (s : C × P) (line text : List ℕ) (t : C × P) → told_by s ≡ day → desk_answers step looks tick role s line text t
@@ -53,9 +54,16 @@ module _ {C P : Type 0} (last : C → ℕ) (pass : P → PassView) (told : P →
       let made = asked_seen (line_asked role line) s.0 s.1 h.answer t.0 t.1 on h.answers in
       (record { answer = h.answer; answers = made.0; has_line = h.has_line; text_is = h.text_is }, made.1)
 
+  loss_seen : (why : HandlerError) (s : C × P) (line : List ℕ) (t : C × P) → told_by s ≡ day → loses_answer step looks tick role why s line t
+      → loses_answer (pass_answers f.config may_fail) (pass_looks f may_fail day) gives_any_moment role why (see s) line (see t) × (told_by t ≡ day)
+  loss_seen why s line t on h = let made = asked_seen (Ok h.0) s.0 s.1 (Err h.1) t.0 t.1 on h.4 in ((h.0, h.1, h.2, h.3, made.0), made.1)
+
   drop_seen : (why : HandlerError) (s : C × P) (line : List ℕ) (t : C × P) → told_by s ≡ day → desk_drops step looks tick role why s line t
       → pass_drops_line f may_fail day role why (see s) line (see t) × (told_by t ≡ day)
-  drop_seen why s line t on h = let made = asked_seen (Ok h.0) s.0 s.1 (Err h.1) t.0 t.1 on h.4 in ((h.0, h.1, h.2, h.3, made.0), made.1)
+  drop_seen error.Write s line t on h = loss_seen error.Write s line t on h
+  drop_seen error.OutOfMemory s line t on h = loss_seen error.OutOfMemory s line t on h
+  drop_seen error.Journal s line t on h = loss_seen error.Journal s line t on h
+  drop_seen error.NextDay s line t on h = ((h.0, ap see h.1), ap told_by h.1 ∙ on)
 
   all_seen : (lines : List (List ℕ)) (s : C × P) (texts : List (List ℕ)) (t : C × P) → told_by s ≡ day → AnswersAll (desk_answers step looks tick role) lines s texts t
       → AnswersAll (pass_answers_line f may_fail day role) lines (see s) texts (see t) × (told_by t ≡ day)
@@ -75,6 +83,7 @@ module _ {C P : Type 0} (last : C → ℕ) (pass : P → PassView) (told : P →
   failing_at : (asked : Asked) (c : C) (d : P) (e : C) (r : P) → AnswersAsked step looks tick (Ok asked) c d (Err JournalFailed) e r → may_fail
   failing_at (asks.Act act) c d e r h = (steps d act h.0 JournalFailed r h.2).0.1
   failing_at (asks.Look look) c d e r h = (sees d look h.0 (Err JournalFailed) r h.2).0.1
+  failing_at asks.NextDay c d e r h = absurd h
 
   failing : (s t : C × P) (rest : List ℕ) → DropsFor (desk_drops step looks tick role) error.Journal s t rest → may_fail
   failing s t rest d =
@@ -88,6 +97,7 @@ module _ {C P : Type 0} (last : C → ℕ) (pass : P → PassView) (told : P →
   may_fail_at session.Write s t i j o p h e = absurd (cc)
   may_fail_at session.ReadsSpent s t i j o p h e = absurd (cc)
   may_fail_at session.OutOfMemory s t i j o p h e = absurd (cc)
+  may_fail_at session.NextDay s t i j o p h e = absurd (cc)
 
   module _ {I O D : Type 0} (remaining : I → Option (List ℕ)) (reads read_failures : I → ℕ) (written : O → Option (List ℕ)) (write_failures : O → ℕ)
       (opens : D → I → O → D → Type 0) (fails : D → D → Type 0) (reported : D → I → O → Result Ended SessionFault → D → Type 0) where

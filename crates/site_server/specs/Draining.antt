@@ -25,6 +25,7 @@ is_spent session.Read = false
 is_spent session.Write = false
 is_spent session.OutOfMemory = false
 is_spent session.Journal = false
+is_spent session.NextDay = false
 
 -- the session ended while its peer may still be sending
 abbrev pub is_drained : Result Ended SessionFault → Bool

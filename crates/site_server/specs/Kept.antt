@@ -1,10 +1,10 @@
--- Definitions: which connections a stop leaves open, and what of their input is left for the workers that follow (source:
--- this project).
+-- Definitions: which connections the end of a day, or another stop, leaves open, and what of their input is left for the
+-- workers that follow (source: this project).
 use Rattle.std.specs.Prelude.{◌≡◌, ℕ, Bool, true, false, List, [], ◌∷◌, ◌++◌, ◌&&◌, if◌then◌else◌, is_none, IfSome, Result, Ok, Err}
 use Rattle.till_request.specs.declared.act.Role.{Role}
 use Rattle.line_session.specs.declared.answering.Ended.{Ended}
 use Rattle.line_session.specs.declared.answering.SessionFault.{SessionFault}
-use Rattle.line_session.specs.declared.answering.SessionFault.TheVariants.{Read, Write, ReadsSpent, OutOfMemory, Journal}
+use Rattle.line_session.specs.declared.answering.SessionFault.TheVariants.{Read, Write, ReadsSpent, OutOfMemory, Journal, NextDay}
 use Rattle.site_server.specs.declared.notices.SessionFailure.{SessionFailure}
 use Rattle.site_server.specs.declared.judging.Verdict.TheVariants.{Client, Unclear}
 use Rattle.site_server.specs.Guarding.{BeginningValue}
@@ -18,10 +18,27 @@ has_more (Err Write) = false
 has_more (Err ReadsSpent) = false
 has_more (Err OutOfMemory) = false
 has_more (Err Journal) = false
+has_more (Err NextDay) = false
 
--- A connection is kept if a stop interrupted its input (`is_paused`), and its session didn't end for another reason.
+-- the session ended by the line that ends a day
+abbrev pub ends_day : Result Ended SessionFault → Bool
+ends_day (Ok ended) = false
+ends_day (Err Read) = false
+ends_day (Err Write) = false
+ends_day (Err ReadsSpent) = false
+ends_day (Err OutOfMemory) = false
+ends_day (Err Journal) = false
+ends_day (Err NextDay) = true
+
+-- A connection is kept if a stop interrupted its input (`is_paused`), and its session didn't end for another reason. So
+-- is one whose session ended by the line that ends a day.
 abbrev pub is_kept : Bool → Result Ended SessionFault → Bool
-is_kept is_paused outcome = is_paused && has_more outcome
+is_kept is_paused outcome = if ends_day outcome then true else (is_paused && has_more outcome)
+
+-- What is left of a line so far: all of it, but nothing of the line that ends a day, which was read whole.
+abbrev pub begun_behind : Bool → List ℕ → List ℕ
+begun_behind false begun = begun
+begun_behind true begun = []
 
 -- What is noted of a line so far: nothing while more of it is ahead, since it is then not waited for.
 abbrev pub begun_line : List ℕ → List ℕ → List ℕ

@@ -1,7 +1,7 @@
 -- Definitions: how many of a site's workers have a thread when the site begins to be served (source: this project).
 use Rattle.std.specs.Prelude.{◌+◌, ◌==◌, ◌&&◌, nat_lt, not, min, if◌then◌else◌, Bool}
 use Rattle.till_request.specs.declared.act.Role.{Role}
-use Rattle.till_request.specs.declared.act.Role.TheVariants.{Till, Dispenser, Owner, All, OneTill, SomePoints}
+use Rattle.till_request.specs.declared.act.Role.TheVariants.{Till, Dispenser, Owner, DaysOwner, All, OneTill, SomePoints}
 use Rattle.site_server.specs.declared.starting.RoleThreads.{RoleThreads}
 use Rattle.site_server.specs.declared.starting.ThreadCounts.{ThreadCounts}
 
@@ -23,6 +23,7 @@ counted counts (OneTill till stray) has_thread = record { tills = one_more count
 counted counts Dispenser has_thread = record { tills = counts.tills; dispensers = one_more counts.dispensers has_thread; owner = counts.owner }
 counted counts (SomePoints points stray) has_thread = record { tills = counts.tills; dispensers = one_more counts.dispensers has_thread; owner = counts.owner }
 counted counts Owner has_thread = record { tills = counts.tills; dispensers = counts.dispensers; owner = one_more counts.owner has_thread }
+counted counts DaysOwner has_thread = record { tills = counts.tills; dispensers = counts.dispensers; owner = one_more counts.owner has_thread }
 counted counts All has_thread = record { tills = counts.tills; dispensers = counts.dispensers; owner = one_more counts.owner has_thread }
 
 abbrev pub plus : RoleThreads → RoleThreads → RoleThreads

@@ -1,5 +1,7 @@
 //! The connections of a listener, which a worker opens one after another.
-ghost use Rattle.std.specs.Prelude.{◌≡◌, [], false, IfOk, IfSome, IsSome, is_some};
+ghost use Rattle.std.specs.Prelude.{◌≡◌, [], false, true, ℕ, take, IfOk, IfSome, IsSome, is_some};
+ghost use Rattle.std.specs.Io.KnownBytes.{Appends};
+ghost use Rattle.till_request.specs.Looks.{next_day_line};
 ghost use Rattle.till_request.specs.Count.{RoseBy};
 ghost use Rattle.site_server.specs.Kept.{BeginsJudged, EndsConnection, ReportsUnkept};
 ghost use Rattle.std.specs.Io.Chain.{chain_first, chain_second};
@@ -9,7 +11,7 @@ ghost use Rattle.site_server.specs.Pauses.{IsNextPause, longer_pause, reported_f
 use crate::accepting::accept;
 use crate::draining::{drain, is_drained};
 use crate::guard::GuardedReader;
-use crate::kept::{KeptConnection, is_kept, kept_of};
+use crate::kept::{KeptConnection, ends_day, is_kept, kept_of};
 use crate::notices::{Notices, SessionFailure};
 use crate::paced::PacedIn;
 use crate::paused::PausedIn;
@@ -24,7 +26,8 @@ use std::io::{self, Cursor, Read};
 use std::sync::Wait;
 use std::time::{Clock, Duration};
 use till_request::devices::{Ahead, StreamIn, StreamOut};
-use till_request::{DeviceFault, Role};
+use till_request::write::write_next_day;
+use till_request::{DeviceFault, LineOut, Role};
 
 /// From the socket on: what is kept of it, its end if the peer is silent, and the guard.
 pub(crate) type Source<'a, R, N> = StreamIn<GuardedReader<'a, N, IdleLimitedReader<'a, R, N>>>;
@@ -44,6 +47,7 @@ type Output<'a, R> = StreamOut<WaitingWriter<'a, R>>;
 ///   time, at most 1 second. Of several failures in a row only the first is reported.
 /// - Where a stop is asked for, no connection is opened. The one that is open is kept, if its session ended by that, and
 ///   the first to be opened next is one that was kept.
+/// - A line that ends the day asks for a stop. It is answered when its connection, which is kept, is opened next.
 #[derive(Drop)]
 pub struct SocketDoors<'a, R: Wait + Clock, N: Notices> {
     rt: &'a R,
@@ -53,6 +57,8 @@ pub struct SocketDoors<'a, R: Wait + Clock, N: Notices> {
     role: Role,
     pass: u32,
     idle_seconds: u32,
+    /// The number of the day, from 1.
+    day: u32,
     stop: Option<&'a Stop>,
     asked: u64,
     /// How many milliseconds the worker waited after the last failure; 0 if a connection was opened since then.
@@ -90,6 +96,7 @@ impl<'a, R: Wait + Clock, N: Notices> SocketDoors<'a, R, N> {
         role: Role,
         pass: u32,
         idle_seconds: u32,
+        day: u32,
         stop: Option<&'a Stop>,
     ) -> SocketDoors<'a, R, N>
         // proved door, role, pass, idle: It keeps the door, role, pass and limit
@@ -97,6 +104,7 @@ impl<'a, R: Wait + Clock, N: Notices> SocketDoors<'a, R, N> {
         ensures role { result.role ≡ role }
         ensures pass { result.pass ≡ pass }
         ensures idle { result.idle_seconds ≡ idle_seconds }
+        ensures day { result.day ≡ day }
         ensures stop { result.stop ≡ stop.entry }
         // proved asked, pause: No door is asked for yet
         ensures asked { result.asked ≡ 0 }
@@ -110,6 +118,7 @@ impl<'a, R: Wait + Clock, N: Notices> SocketDoors<'a, R, N> {
             role,
             pass,
             idle_seconds,
+            day,
             stop,
             asked: 0,
             pause: 0,
@@ -174,6 +183,7 @@ impl<'a, R: Wait + Clock, N: Notices> SocketDoors<'a, R, N> {
             writer,
             ahead,
             is_known,
+            is_owed: _,
         } = opened;
         let source = Ahead::new(StreamIn {
             reader: self.guarded(reader, ahead, is_known),
@@ -225,6 +235,7 @@ impl<'a, R: Wait + Clock, N: Notices> SocketDoors<'a, R, N> {
             writer,
             ahead: Vec::new(self.alloc),
             is_known: false,
+            is_owed: false,
         })
     }
 
@@ -264,9 +275,20 @@ impl<'a, R: Wait + Clock, N: Notices> SocketDoors<'a, R, N> {
         }
     }
 
-    /// Keeps a connection whose input a stop has interrupted.
-    fn keep(&self, input: Input<'a, R, N>, writer: Stream) -> Result<(), AllocError> {
-        self.door.keep(self.rt, kept_of(input.input, writer)?)
+    fn keep(
+        &self,
+        input: Input<'a, R, N>,
+        writer: Stream,
+        is_owed: bool,
+    ) -> Result<(), AllocError> {
+        self.door
+            .keep(self.rt, kept_of(input.input, writer, is_owed)?)
+    }
+
+    fn ask_stop(&self) {
+        if let Some(stop) = self.stop {
+            stop.ask();
+        }
     }
 
     fn end(
@@ -283,9 +305,26 @@ impl<'a, R: Wait + Clock, N: Notices> SocketDoors<'a, R, N> {
             self.drain_if_needed(&mut input, outcome);
             return;
         }
-        if self.keep(input, output.writer.stream).is_err() {
+        let is_owed = ends_day(outcome);
+        if self.keep(input, output.writer.stream, is_owed).is_err() {
             self.report(&Err(SessionFault::Read));
         }
+        if is_owed {
+            self.ask_stop();
+        }
+    }
+}
+
+/// Answers the line that ended the day before, if the peer waits for that. A failure isn't told: the next write fails too.
+fn answer_owed<O: LineOut>(output: &mut O, is_owed: bool, day: u32)
+    ensures owed { is_owed ≡ true → ((k : ℕ)
+        × Appends (O.written output.old) (O.written output.new) (take k (next_day_line day))) }
+    ensures whole { is_owed ≡ true → O.failures output.new ≡ O.failures output.old
+        → Appends (O.written output.old) (O.written output.new) (next_day_line day) }
+    ensures none { is_owed ≡ false → output.new ≡ output.old }
+{
+    if is_owed {
+        let _ = write_next_day(output, day);
     }
 }
 
@@ -322,7 +361,10 @@ impl<'a, R: Wait + Clock, N: Notices> Doors for SocketDoors<'a, R, N> {
             Ok(opened) => {
                 self.pause = 0;
                 self.notices.connected(self.role, self.pass);
-                Ok(self.connection_of(opened))
+                let is_owed = opened.is_owed;
+                let (input, mut output) = self.connection_of(opened);
+                answer_owed(&mut output, is_owed, self.day);
+                Ok((input, output))
             }
             Err(error) => {
                 self.wait_after_failure(&error);

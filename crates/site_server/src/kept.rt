@@ -2,7 +2,7 @@
 ghost use Rattle.std.specs.Prelude.{◌≡◌, ◌↔◌, IfOk, drop, true};
 ghost use Rattle.std.specs.Io.Chain.{chain_first, chain_second};
 ghost use Rattle.std.specs.Io.Cursor.{cursor_inner, cursor_position};
-ghost use Rattle.site_server.specs.Kept.{has_more, is_kept, left_ahead};
+ghost use Rattle.site_server.specs.Kept.{begun_behind, ends_day, has_more, is_kept, left_ahead};
 
 use crate::guard::GuardedReader;
 use crate::judging::Verdict;
@@ -26,6 +26,8 @@ pub struct KeptConnection {
     pub(crate) ahead: Vec<u8>,
     /// Whether its peer was judged, and is no stranger.
     pub(crate) is_known: bool,
+    /// Whether its peer ended the day, and waits for the number of the day that is served then.
+    pub(crate) is_owed: bool,
 }
 
 fn has_more(outcome: &Result<Ended, SessionFault>) -> bool
@@ -37,10 +39,20 @@ fn has_more(outcome: &Result<Ended, SessionFault>) -> bool
     }
 }
 
+/// Whether the session ended by the line that ends a day.
+pub(crate) fn ends_day(outcome: &Result<Ended, SessionFault>) -> bool
+    ensures { result ≡ ends_day outcome.now }
+{
+    matches!(outcome, Err(SessionFault::NextDay))
+}
+
 /// Whether a connection is kept, by whether a stop interrupted its input.
 pub(crate) fn is_kept(is_paused: bool, outcome: &Result<Ended, SessionFault>) -> bool
     ensures { result ≡ is_kept is_paused outcome.now }
 {
+    if ends_day(outcome) {
+        return true;
+    }
     is_paused && has_more(outcome)
 }
 
@@ -53,6 +65,16 @@ fn unread(cursor: &Cursor<Vec<u8>>) -> &[u8]
     &bytes[start..]
 }
 
+/// What is left of a line so far.
+fn begun_behind(is_owed: bool, mut begun: Vec<u8>) -> Vec<u8>
+    ensures { result.items ≡ begun_behind is_owed begun.items }
+{
+    if is_owed {
+        begun.clear();
+    }
+    begun
+}
+
 fn gather(begun: Vec<u8>, block: &[u8], judged: &[u8], kept: &[u8]) -> Result<Vec<u8>, AllocError>
     ensures { IfOk result (λ ahead. ahead.items ≡ left_ahead begun.items block.now judged.now kept.now) }
 {
@@ -63,13 +85,15 @@ fn gather(begun: Vec<u8>, block: &[u8], judged: &[u8], kept: &[u8]) -> Result<Ve
     Ok(ahead)
 }
 
-/// What is left of a connection whose input a stop has interrupted.
+/// What is left of a connection whose input a stop has interrupted, or whose session ended the day (`is_owed`).
 pub(crate) fn kept_of<R: Wait + Clock, N: Notices>(
     input: PausedIn<'_, StreamIn<GuardedReader<'_, N, IdleLimitedReader<'_, R, N>>>>,
     writer: Stream,
+    is_owed: bool,
 ) -> Result<KeptConnection, AllocError>
     // proved ahead, known: Nothing is lost of a kept connection
-    ensures ahead { IfOk result (λ kept. kept.ahead.items ≡ left_ahead input.entry.begun.items input.entry.input.block
+    ensures ahead { IfOk result (λ kept. kept.ahead.items ≡ left_ahead
+        (begun_behind is_owed input.entry.begun.items) input.entry.input.block
         input.entry.input.input.reader.beginning.kept
         (drop (cursor_position (chain_first input.entry.input.input.reader.reader.stream.source))
         (cursor_inner (chain_first input.entry.input.input.reader.reader.stream.source)).items)) }
@@ -78,6 +102,7 @@ pub(crate) fn kept_of<R: Wait + Clock, N: Notices>(
     ensures writer { IfOk result (λ kept. kept.writer ≡ writer) }
     ensures known { IfOk result (λ kept. kept.is_known ≡ true
         ↔ (input.entry.input.input.reader.beginning.verdict ≡ Verdict.Client)) }
+    ensures owed { IfOk result (λ kept. kept.is_owed ≡ is_owed) }
 {
     let PausedIn {
         input: source,
@@ -88,7 +113,7 @@ pub(crate) fn kept_of<R: Wait + Clock, N: Notices>(
     let before = guard.reader.stream.source.get_ref().0;
     let is_known = matches!(guard.beginning.verdict(), Verdict::Client);
     let ahead = gather(
-        begun,
+        begun_behind(is_owed, begun),
         source.ahead(),
         guard.beginning.kept(),
         unread(before),
@@ -99,5 +124,6 @@ pub(crate) fn kept_of<R: Wait + Clock, N: Notices>(
         writer,
         ahead,
         is_known,
+        is_owed,
     })
 }

@@ -92,7 +92,7 @@ impl ThreadCounts {
                 dispensers: dispensers.one_more(has_thread),
                 owner,
             },
-            Role::Owner | Role::All => ThreadCounts {
+            Role::Owner | Role::DaysOwner | Role::All => ThreadCounts {
                 tills,
                 dispensers,
                 owner: owner.one_more(has_thread),

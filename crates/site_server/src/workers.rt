@@ -80,6 +80,7 @@ impl<L: SiteLedger, J: Journal, N: Notices, A: Release, R: Wait + Clock> Workers
             role,
             number,
             self.idle_seconds,
+            self.day,
             self.stop_at(&worker.door),
         );
         let done = self.serve(pass, role, doors);

@@ -33,6 +33,7 @@ fn outcome_to_report<A: Release>(
         Err(SessionFault::ReadsSpent) => Err(SessionFault::ReadsSpent),
         Err(SessionFault::OutOfMemory) => Err(SessionFault::OutOfMemory),
         Err(SessionFault::Journal) => Err(SessionFault::Journal),
+        Err(SessionFault::NextDay) => Err(SessionFault::NextDay),
     }
 }
 
