@@ -17,11 +17,11 @@ DOCUMENT = "docs/use/messages.md"
 OTHERS = "acceptance day_export till_request".split()
 # Texts of the live page but for its health, of HTTP's head, and of --help.
 PAGES = re.compile(r"pages/src/(?!station)|page_port/src/page_answer|file_jobs/src/subcommands")
-# Texts that stand within a message alone, what the reader of TOML says that fc says otherwise, and texts of openings
-# that no text can be read as.
+# Texts that stand within a message alone, what the reader of TOML says that fc says otherwise, texts of openings that no
+# text can be read as, and the end of a day, which is no failure.
 PARTS = """a number|a constant counter|a place of the stack for 16 bytes|a till|a dispenser|the owner|till ..|, page
 a whole number|a whole number or "unlimited"|a string|an array|a table|standard input|past its end|duplicate key
-..fc: .. lines read|..fc: .. lines read, the last of them|out of memory (S31)|the opening hasn't 16 slots
+the day ends|..fc: .. lines read|..fc: .. lines read, the last of them|out of memory (S31)|the opening hasn't 16 slots
 a slot of the opening has a version that was never loaded|two slots of the opening have one version
 a price of the opening is over 9,999,999
 the opening has another number of points than the configuration"""
