@@ -9,13 +9,15 @@ use Rattle.till_request.specs.declared.look.Asked.{Asked}
 use Rattle.till_request.specs.declared.look.Asked.TheVariants as asks
 use Rattle.till_request.specs.declared.look.LookAt.{LookAt}
 use Rattle.till_request.specs.Looks.{line_asked}
+use Rattle.line_session.specs.declared.line_handler.HandlerError.{HandlerError}
+use Rattle.line_session.specs.declared.line_handler.HandlerError.TheVariants as error
 use Rattle.line_session.specs.Session.{AnswersAsked, LineAnswer}
 use Rattle.line_session.specs.Answering.{AnswersAll}
 use Rattle.line_session.specs.Serving.{Outcome}
 use Rattle.site_lock.specs.Passes.{PassView, Opened}
 use Rattle.site_lock.specs.Desks.{DeskAnswers, DeskLooks}
 use Rattle.site_server.specs.declared.shift.Shift.{Shift}
-use Rattle.site_server.specs.Tasks.{pass_answers, pass_looks, gives_any_moment, pass_answers_line, DropsOne, AnswersConnection, AnswersConnections, Worked}
+use Rattle.site_server.specs.Tasks.{pass_answers, pass_looks, gives_any_moment, pass_answers_line, pass_drops_line, DropsOne, AnswersConnection, AnswersConnections, Worked}
 
 abbrev id_in : ℕ × PassView → ℕ
 id_in s = s.1.id
@@ -43,6 +45,7 @@ module _ (f : Opened) (may_fail : Type 0) (day : ℕ) where
   asked_keeps (Ok (asks.Act act)) c p (Err a) d q h = answer_keeps a p q act h.0 h.2
   asked_keeps (Ok (asks.Act act)) c p (Ok text) d q h = absurd h
   asked_keeps (Ok (asks.Look look)) c p a d q h = look_keeps a p q look h.2
+  asked_keeps (Ok asks.NextDay) c p a d q h = absurd h
   asked_keeps (Err fault) c p a d q h = ap (λ (x : PassView). x.id) h.2
 
   module _ (role : Role) where
@@ -54,9 +57,15 @@ module _ (f : Opened) (may_fail : Type 0) (day : ℕ) where
     all_keep [] s (text ∷ texts) t h = absurd h
     all_keep (line ∷ lines) s [] t h = absurd h
 
+    loss_keeps : (why : HandlerError) (s : ℕ × PassView) (line : List ℕ) (t : ℕ × PassView) → pass_drops_line f may_fail day role why s line t → id_in t ≡ id_in s
+    loss_keeps error.Write s line t h = asked_keeps (Ok h.0) s.0 s.1 (Err h.1) t.0 t.1 h.4
+    loss_keeps error.OutOfMemory s line t h = asked_keeps (Ok h.0) s.0 s.1 (Err h.1) t.0 t.1 h.4
+    loss_keeps error.Journal s line t h = asked_keeps (Ok h.0) s.0 s.1 (Err h.1) t.0 t.1 h.4
+    loss_keeps error.NextDay s line t h = ap id_in h.1
+
     drop_keeps : (s t : ℕ × PassView) → DropsOne f may_fail day role s t → id_in t ≡ id_in s
     drop_keeps s t (inl same) = ap id_in same
-    drop_keeps s t (inr d) = asked_keeps (Ok d.3.0) s.0 s.1 (Err d.3.1) t.0 t.1 d.3.4
+    drop_keeps s t (inr d) = loss_keeps d.0 s d.1 t d.3
 
     visit_keeps : (outcome : Outcome) (s t : ℕ × PassView) → AnswersConnection f may_fail day role outcome s t → id_in t ≡ id_in s
     visit_keeps None s t h = ap id_in h

@@ -1,5 +1,5 @@
 //! The connections of a listener, which a worker opens one after another.
-ghost use Rattle.std.specs.Prelude.{◌≡◌, [], false, true, ℕ, take, IfOk, IfSome, IsSome, is_some};
+ghost use Rattle.std.specs.Prelude.{◌≡◌, [], false, true, ℕ, take, IfOk, IfSome, IsSome, OnErr, OnOk, is_some};
 ghost use Rattle.std.specs.Io.KnownBytes.{Appends};
 ghost use Rattle.till_request.specs.Looks.{next_day_line};
 ghost use Rattle.till_request.specs.Count.{RoseBy};
@@ -315,16 +315,18 @@ impl<'a, R: Wait + Clock, N: Notices> SocketDoors<'a, R, N> {
     }
 }
 
-/// Answers the line that ended the day before, if the peer waits for that. A failure isn't told: the next write fails too.
-fn answer_owed<O: LineOut>(output: &mut O, is_owed: bool, day: u32)
-    ensures owed { is_owed ≡ true → ((k : ℕ)
+/// Answers the line that ended the day before, if the peer waits for that.
+fn answer_owed<O: LineOut>(output: &mut O, is_owed: bool, day: u32) -> Result<(), DeviceFault>
+    ensures owed { OnOk result (is_owed ≡ true
+        → Appends (O.written output.old) (O.written output.new) (next_day_line day)) }
+    ensures err { OnErr result ((k : ℕ)
         × Appends (O.written output.old) (O.written output.new) (take k (next_day_line day))) }
-    ensures whole { is_owed ≡ true → O.failures output.new ≡ O.failures output.old
-        → Appends (O.written output.old) (O.written output.new) (next_day_line day) }
     ensures none { is_owed ≡ false → output.new ≡ output.old }
 {
     if is_owed {
-        let _ = write_next_day(output, day);
+        write_next_day(output, day)
+    } else {
+        Ok(())
     }
 }
 
@@ -363,7 +365,8 @@ impl<'a, R: Wait + Clock, N: Notices> Doors for SocketDoors<'a, R, N> {
                 self.notices.connected(self.role, self.pass);
                 let is_owed = opened.is_owed;
                 let (input, mut output) = self.connection_of(opened);
-                answer_owed(&mut output, is_owed, self.day);
+                // Where it fails, the session's next write fails too.
+                let _ = answer_owed(&mut output, is_owed, self.day);
                 Ok((input, output))
             }
             Err(error) => {
