@@ -1,7 +1,7 @@
 -- Definitions: the doors of a served site, and what their values must be. If a value is out of its range, a list has a
 -- wrong length, or another condition isn't met, the fault is K3.
 use Rattle.std.specs.Prelude.{◌==◌, not, ◌+◌, ◌-◌, ◌/◌, ◌%◌, ◌^◌, nat_le, bit_or, ℕ, zero, suc, ℤ, pos, List, [], ◌∷◌, length, map, Bool, true, false}
-use Rattle.std.specs.Prelude.{Option, Some, None, Result, Ok, string_bytes, if◌then◌else◌}
+use Rattle.std.specs.Prelude.{Option, Some, None, option_map, Result, Ok, string_bytes, if◌then◌else◌}
 use Rattle.std.specs.Ordering.{int_eq}
 use Rattle.std.specs.List.{list_any}
 use Rattle.std.specs.Str.{bytes_eq}
@@ -31,7 +31,9 @@ use Rattle.site_config.specs.declared.settings.Serve.{Serve}
 use Rattle.site_config.specs.Document.{◌>>=◌, demand, without, first_of}
 use Rattle.site_config.specs.Demands.{ranged}
 use Rattle.site_config.specs.Typed.{TypedServe}
-use Rattle.site_config.specs.DayEnds.{day_ends_of}
+use Rattle.site_config.specs.declared.day_ends.TimeOfDay.{TimeOfDay}
+use Rattle.arrayvec.specs.ArrayString.{ArrayString as Name}
+use Rattle.site_config.specs.DayEnds.{day_ends_of, zone_of}
 
 -- Where connections come in: a port of 127.0.0.1, or the text of a local socket's path.
 pub data AddressValue : Type 0 where
@@ -54,13 +56,15 @@ pub record DoorValue : Type 0 where
 
 -- Where and how to serve: the doors in their order, how many connections each worker serves (None for connections
 -- without end), after how many seconds without a byte a connection ends (0 for never), the port of the page on which
--- the site is shown, if there is one, and the minute of the day in UTC at which a day ends, if it ends at a time.
+-- the site is shown, if there is one, the minute of the day at which a day ends, if it ends at a time, and the zone in
+-- which that is, if one is named.
 pub record ServeValue : Type 0 where
   pub doors : List DoorValue
   pub connections : Option ℕ
   pub idle_seconds : ℕ
   pub page_port : Option ℕ
   pub day_ends : Option ℕ
+  pub zone : Option (List ℕ)
 
 -- The place of `key` in the same table as the key at `place`. If `place` isn't the place of a key, the result is
 -- `place` itself.
@@ -281,7 +285,7 @@ each_door one (d ∷ ds) = do
 -- - clashes among the doors
 -- - the numbers of `[serve]`
 -- - the page's port
--- - the time at which a day ends
+-- - the time at which a day ends, and its zone
 -- - the doors of tills: how many workers they have in all, and whether each till has a door
 -- - the doors of dispensers: how many workers they have in all, and whether each point has a door
 unfoldable pub serve_of : ℕ → ℕ → TypedServe → Result ServeValue ConfigFlaw
@@ -295,11 +299,12 @@ serve_of tills points s = do
   l ← ranged (At OfServe key.LinesPerSecond) 0 1000000 s.lines_per_second
   p ← page_of s.doors s.page_port
   e ← day_ends_of s.day_ends
+  zone ← zone_of s.zone
   of_tills ← side_fits sides.Tills t 64 tills s.doors
   of_dispensers ← side_fits sides.Dispensers w 31 points s.doors
   doors ← each_door
       (door_of (record { tills = tills; points = points; till_workers = t; dispenser_workers = w; lines_per_second = l; own_lines = s.own_lines })) s.doors
-  Ok (record { doors = doors; connections = n; idle_seconds = i; page_port = p; day_ends = e })
+  Ok (record { doors = doors; connections = n; idle_seconds = i; page_port = p; day_ends = e; zone = zone })
 
 -- The code's `Address` as an `AddressValue`. Below: the code's `Door` as a `DoorValue`, and the code's `Serve` as a
 -- `ServeValue`.
@@ -322,5 +327,6 @@ serve_seen s = record {
   connections = s.connections;
   idle_seconds = s.idle_seconds;
   page_port = s.page_port;
-  day_ends = s.day_ends;
+  day_ends = option_map (λ (t : TimeOfDay). t.minute) s.day_ends;
+  zone = option_map (λ (name : Name). name.bytes) s.zone;
 }

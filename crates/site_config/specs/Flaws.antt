@@ -6,7 +6,7 @@ use Rattle.site_config.specs.declared.fault.ConfigFault.TheVariants as fault
 use Rattle.site_config.specs.declared.flaw.ConfigFlaw.{ConfigFlaw}
 use Rattle.site_config.specs.declared.flaw.ConfigFlaw.TheVariants.{NotUtf8, NotToml, UnknownKey, Missing, WrongType, OutOfRange, WrongCount, OverBound}
 use Rattle.site_config.specs.declared.flaw.ConfigFlaw.TheVariants.{BothThere, Needless, Empty, SamePort, SameSocket, SameTill, PointTwice}
-use Rattle.site_config.specs.declared.flaw.ConfigFlaw.TheVariants.{TooManyWorkers, WithoutDoor, NotTimeOfDay, OutOfMemory}
+use Rattle.site_config.specs.declared.flaw.ConfigFlaw.TheVariants.{TooManyWorkers, WithoutDoor, NotTimeOfDay, NotZoneName, OutOfMemory}
 use Rattle.std.specs.Str.{is_utf8}
 use Rattle.std.specs.Str.Lossy.{utf8_valid_len}
 use Rattle.toml.specs.Errors.{IsMemory, IsWithin, span_start}
@@ -32,6 +32,7 @@ fault_of (PointTwice place point) = fault.K3
 fault_of (TooManyWorkers side count most) = fault.K3
 fault_of (WithoutDoor side number) = fault.K3
 fault_of (NotTimeOfDay place) = fault.K3
+fault_of (NotZoneName place) = fault.K3
 fault_of OutOfMemory = fault.OutOfMemory
 
 -- The line and the column of a flaw with the fault K1, which is that the text isn't UTF-8 or isn't TOML. Other flaws

@@ -26,7 +26,9 @@ use Rattle.site_config.specs.declared.raw.RawAddress.TheVariants.{Port, Socket}
 use Rattle.site_config.specs.declared.raw.RawRole.{RawRole}
 use Rattle.site_config.specs.declared.raw.RawRole.TheVariants.{Tills, OneTill, Dispensers, SomePoints, Owner}
 use Rattle.site_config.specs.Document.{or_flaw, demand, ◌>>=◌, with_front}
-use Rattle.site_config.specs.DayEnds.{minute_of}
+use Rattle.site_config.specs.declared.day_ends.TimeOfDay.{TimeOfDay}
+use Rattle.arrayvec.specs.ArrayString.{ArrayString as Name}
+use Rattle.site_config.specs.DayEnds.{minute_of, zone_in}
 use Rattle.site_config.specs.Keys.{name_of}
 
 -- Whether the top table of a document is allowed to have a key of this name. Below is the same for each other kind of
@@ -62,7 +64,7 @@ unfoldable pub is_serve_key : List ℕ → Bool
 is_serve_key k =
     is_port_key k
     || (is_socket_key k
-    || (is_number_key k || (bytes_eq k (codes "till") || (bytes_eq k (codes "dispenser") || (bytes_eq k (codes "own_lines") || bytes_eq k (codes "day_ends"))))))
+    || (is_number_key k || (bytes_eq k (codes "till") || (bytes_eq k (codes "dispenser") || (bytes_eq k (codes "own_lines") || (bytes_eq k (codes "day_ends") || bytes_eq k (codes "zone")))))))
 
 unfoldable pub is_till_key : List ℕ → Bool
 is_till_key k =
@@ -316,20 +318,26 @@ abbrev pub own_lines_from : Option Data → Result Stray ConfigFlaw
 own_lines_from None = Ok strays.BadLine
 own_lines_from (Some d) = stray_by (At Serve key.OwnLines) (as_str d)
 
--- The minute of the day that a value is, or None if it isn't a text that is a time.
-abbrev pub minute_in : Option (List ℕ) → Option ℕ
-minute_in None = None
-minute_in (Some text) = minute_of text
+-- The minute of the day at which a day ends, or None if the key is left out. If its text is no time, this is Some None.
+abbrev pub day_ends_from : Option Data → Result (Option (Option ℕ)) ConfigFlaw
+day_ends_from None = Ok None
+day_ends_from (Some d) = do
+  text ← text_of (At Serve key.DayEnds) d
+  Ok (Some (minute_of text))
 
--- The minute of the day at which a day ends, or None if the key is left out. If its value is no time, this is Some None.
-abbrev pub day_ends_from : Option Data → Option (Option ℕ)
-day_ends_from value = option_map (λ d. minute_in (as_str d)) value
+-- The zone in which a day ends at its time, or None if the key is left out. If its text can't be a zone's name, this is
+-- Some None.
+abbrev pub zone_from : Option Data → Result (Option (Option (List ℕ))) ConfigFlaw
+zone_from None = Ok None
+zone_from (Some d) = do
+  text ← text_of (At Serve key.Zone) d
+  Ok (Some (zone_in text))
 
 -- The values of the keys of `[serve]`. `till_workers` is None if there is no shared door of all tills, and
 -- `dispenser_workers` is None if there is no shared door of all dispensers. `connections` is None if it is "unlimited".
 -- `page_port` is None if there is no page on which the site is shown. `lines_per_second` is for the doors without a table
 -- of their own, and `own_lines` for those of one till or of some points. `day_ends` is None if days end at no time, and
--- Some None if its value is no time.
+-- Some None if its text is no time; `zone` is None if none is named, and Some None if its text can't be a zone's name.
 pub record TypedServe : Type 0 where
   pub doors : List RawDoor
   pub till_workers : Option ℤ
@@ -340,6 +348,7 @@ pub record TypedServe : Type 0 where
   pub lines_per_second : ℤ
   pub own_lines : Stray
   pub day_ends : Option (Option ℕ)
+  pub zone : Option (Option (List ℕ))
 
 unfoldable pub served_in : Data → Result TypedServe ConfigFlaw
 served_in d = do
@@ -353,6 +362,8 @@ served_in d = do
   p ← page_from (get_member (codes "page_port") ms)
   lines ← optional_at Serve key.LinesPerSecond ms
   own ← own_lines_from (get_member (codes "own_lines") ms)
+  ends ← day_ends_from (get_member (codes "day_ends") ms)
+  zone ← zone_from (get_member (codes "zone") ms)
   Ok (record {
     doors = doors;
     till_workers = t;
@@ -362,7 +373,8 @@ served_in d = do
     page_port = p;
     lines_per_second = lines;
     own_lines = own;
-    day_ends = day_ends_from (get_member (codes "day_ends") ms);
+    day_ends = ends;
+    zone = zone;
   })
 
 abbrev pub served_from : Option Data → Result (Option TypedServe) ConfigFlaw
@@ -406,7 +418,8 @@ seen_serve s = record {
   page_port = s.page_port;
   lines_per_second = s.lines_per_second;
   own_lines = s.own_lines;
-  day_ends = s.day_ends;
+  day_ends = option_map (option_map (λ (t : TimeOfDay). t.minute)) s.day_ends;
+  zone = option_map (option_map (λ (name : Name). name.bytes)) s.zone;
 }
 
 abbrev pub seen : Raw → Typed

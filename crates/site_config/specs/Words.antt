@@ -10,7 +10,7 @@ use Rattle.site_config.specs.declared.flaw.Side.TheVariants as sides
 use Rattle.site_config.specs.declared.flaw.ConfigFlaw.{ConfigFlaw}
 use Rattle.site_config.specs.declared.flaw.ConfigFlaw.TheVariants.{NotUtf8, NotToml, UnknownKey, Missing, WrongType, OutOfRange, WrongCount, OverBound}
 use Rattle.site_config.specs.declared.flaw.ConfigFlaw.TheVariants.{BothThere, Needless, Empty, SamePort, SameSocket, SameTill, PointTwice}
-use Rattle.site_config.specs.declared.flaw.ConfigFlaw.TheVariants.{TooManyWorkers, WithoutDoor, NotTimeOfDay, OutOfMemory}
+use Rattle.site_config.specs.declared.flaw.ConfigFlaw.TheVariants.{TooManyWorkers, WithoutDoor, NotTimeOfDay, NotZoneName, OutOfMemory}
 use Rattle.site_config.specs.Keys.{section_text, place_text}
 
 abbrev pub type_text : ValueType → List ℕ
@@ -58,6 +58,7 @@ doors_text (TooManyWorkers side count most) =
     plural_of side ++ (codes " have " ++ (decimal count ++ (codes " workers, and not 1 to " ++ decimal most)))
 doors_text (WithoutDoor side number) = singular_of side ++ (codes " " ++ (decimal number ++ codes " has no door"))
 doors_text (NotTimeOfDay place) = place_text place ++ codes " is not \"00:00\" to \"23:59\""
+doors_text (NotZoneName place) = place_text place ++ codes " is not a zone's name, such as \"Europe/Berlin\""
 doors_text flaw = []
 
 -- a text without the `[` at its front, if it has one

@@ -14,7 +14,7 @@ ghost use Rattle.site_config.specs.Memory.{HasPath, HasDoors};
 ghost use Rattle.site_config.specs.Laws.{DoorsTakeOwnLines};
 ghost use Rattle.bpf_model.specs.declared.limits.TheConstants.{POINTS};
 
-use crate::day_ends::day_ends_of;
+use crate::day_ends::{day_ends_of, zone_of};
 use crate::flaw::{ConfigFlaw, Key, Place, Section, Side};
 use crate::number::in_range;
 use crate::raw::{RawAddress, RawDoor, RawRole, Served};
@@ -519,6 +519,7 @@ pub(crate) fn make_serve(
     let doors = &served.doors;
     let page_port = value_of!(page_of(doors, served.page_port));
     let day_ends = value_of!(day_ends_of(served.day_ends));
+    let zone = value_of!(zone_of(served.zone));
     value_of!(check_side(Side::Tills, till_workers, MOST_OF_TILLS, tills, doors));
     value_of!(check_side(Side::Dispensers, dispenser_workers, most, points, doors));
     let counts = DoorCounts {
@@ -535,5 +536,6 @@ pub(crate) fn make_serve(
         idle_seconds,
         page_port,
         day_ends,
+        zone,
     })
 }

@@ -31,6 +31,7 @@ pub enum Key {
     PagePort,
     OwnLines,
     DayEnds,
+    Zone,
     TillSocket,
     DispenserSocket,
     OwnerSocket,
@@ -72,6 +73,7 @@ impl Key {
             Key::PagePort => "page_port",
             Key::OwnLines => "own_lines",
             Key::DayEnds => "day_ends",
+            Key::Zone => "zone",
             Key::TillSocket => "till_socket",
             Key::DispenserSocket => "dispenser_socket",
             Key::OwnerSocket => "owner_socket",
@@ -284,6 +286,8 @@ pub enum ConfigFlaw {
     WithoutDoor(Side, u32),
     /// K3: a value isn't the text of a time from 00:00 to 23:59.
     NotTimeOfDay(Place),
+    /// K3: a value can't be the name of a time zone.
+    NotZoneName(Place),
     OutOfMemory,
 }
 
@@ -368,6 +372,9 @@ impl fmt::Display for ServeFlawText<'_> {
             ConfigFlaw::NotTimeOfDay(place) => {
                 write!(f, "{place} is not \"00:00\" to \"23:59\"")
             }
+            ConfigFlaw::NotZoneName(place) => {
+                write!(f, "{place} is not a zone's name, such as \"Europe/Berlin\"")
+            }
             ConfigFlaw::NotUtf8 { .. }
             | ConfigFlaw::NotToml { .. }
             | ConfigFlaw::UnknownKey(..)
@@ -413,7 +420,8 @@ impl fmt::Display for ConfigFlaw {
             | ConfigFlaw::PointTwice(..)
             | ConfigFlaw::TooManyWorkers(..)
             | ConfigFlaw::WithoutDoor(..)
-            | ConfigFlaw::NotTimeOfDay(..) => write!(f, "{}", ServeFlawText(self)),
+            | ConfigFlaw::NotTimeOfDay(..)
+            | ConfigFlaw::NotZoneName(..) => write!(f, "{}", ServeFlawText(self)),
         }
     }
 }
@@ -443,7 +451,8 @@ impl ConfigFlaw {
             | ConfigFlaw::PointTwice(..)
             | ConfigFlaw::TooManyWorkers(..)
             | ConfigFlaw::WithoutDoor(..)
-            | ConfigFlaw::NotTimeOfDay(..) => ConfigFault::K3,
+            | ConfigFlaw::NotTimeOfDay(..)
+            | ConfigFlaw::NotZoneName(..) => ConfigFault::K3,
             ConfigFlaw::OutOfMemory => ConfigFault::OutOfMemory,
         }
     }

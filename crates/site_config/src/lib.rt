@@ -36,6 +36,7 @@ mod text;
 mod typed;
 mod values;
 
+pub use day_ends::{TimeOfDay, ZoneName};
 pub use fault::ConfigFault;
 pub use flaw::{ConfigFlaw, Key, Place, Section, Side, Type};
 pub use head::MOST_BYTES;

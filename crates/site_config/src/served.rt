@@ -1,17 +1,18 @@
 //! Reads the table `[serve]` and its tables of doors, and checks their keys and types (K2).
 ghost use Rattle.std.specs.Prelude.{◌≡◌, ◌≢◌, ◌<◌, Err, IsOkAnd, IsSomeAnd, length, option_map};
+ghost use Rattle.arrayvec.specs.ArrayString.{ArrayString as Name};
 ghost use Rattle.toml.specs.View.{view, table_view, items_view};
 ghost use Rattle.toml.specs.Data.{as_str, get_member};
 ghost use Rattle.site_config.specs.Document.{Finds, with_front};
 ghost use Rattle.site_config.specs.Keys.{name_of};
 ghost use Rattle.site_config.specs.Typed.{text_of, has_shared, door_at, shared_at, workers_at, till_in};
 ghost use Rattle.site_config.specs.Typed.{dispenser_in, single_in, each_in, tables_from, owner_at, doors_at};
-ghost use Rattle.site_config.specs.Typed.{own_door_at, own_lines_from, page_from, minute_in, day_ends_from};
+ghost use Rattle.site_config.specs.Typed.{own_door_at, own_lines_from, page_from, day_ends_from, zone_from};
 ghost use Rattle.site_config.specs.Typed.{served_in, served_at, seen_serve};
 ghost use Rattle.site_config.specs.Memory.{KeepsFirst, TakesDoor, TakesShared, TakesTill, TakesDispenser};
 ghost use Rattle.site_config.specs.Memory.{TakesSingle, TakesTables, TakesDoors, TakesServed};
 
-use crate::day_ends::minute_of;
+use crate::day_ends::{TimeOfDay, ZoneName, time_of, zone_in};
 use crate::flaw::{ConfigFlaw, Key, Place, Section, Side};
 use crate::raw::{Numbers, RawAddress, RawDoor, RawRole, Served};
 use crate::text::Text;
@@ -297,21 +298,34 @@ fn read_own_lines(table: &Table) -> Result<Stray, ConfigFlaw>
     }
 }
 
-/// The minute of the day that a value is; `None` if it isn't a text that is a time.
-fn read_minute(value: &Value) -> Option<u32>
-    ensures { result ≡ minute_in (as_str (view value.now)) }
+/// When a day ends; `None` if the key isn't given, `Some(None)` if its text is no time.
+fn read_day_ends(table: &Table) -> Result<Option<Option<TimeOfDay>>, ConfigFlaw>
+    ensures read { Finds (option_map (option_map (λ (t : TimeOfDay). t.minute))) result
+        (day_ends_from (get_member (name_of Key.DayEnds) (table_view table.now))) }
+    ensures memory { result ≢ Err ConfigFlaw.OutOfMemory }
 {
-    match value.as_str() {
-        Some(text) => minute_of(text),
-        None => None,
+    match find_value(table, Key::DayEnds.name()) {
+        Some(value) => {
+            let place = Place::At(Section::Serve, Key::DayEnds);
+            Ok(Some(time_of(value_of!(text_of(value, place)))))
+        }
+        None => Ok(None),
     }
 }
 
-/// The minute of the day at which a day ends; `None` if the key isn't given, `Some(None)` if its value is no time.
-fn read_day_ends(table: &Table) -> Option<Option<u32>>
-    ensures { result ≡ day_ends_from (get_member (name_of Key.DayEnds) (table_view table.now)) }
+/// The zone of that time; `None` if the key isn't given, `Some(None)` if its text can't be a zone's name.
+fn read_zone(table: &Table) -> Result<Option<Option<ZoneName>>, ConfigFlaw>
+    ensures read { Finds (option_map (option_map (λ (name : Name). name.bytes))) result
+        (zone_from (get_member (name_of Key.Zone) (table_view table.now))) }
+    ensures memory { result ≢ Err ConfigFlaw.OutOfMemory }
 {
-    find_value(table, Key::DayEnds.name()).map(read_minute)
+    match find_value(table, Key::Zone.name()) {
+        Some(value) => {
+            let place = Place::At(Section::Serve, Key::Zone);
+            Ok(Some(zone_in(value_of!(text_of(value, place)))))
+        }
+        None => Ok(None),
+    }
 }
 
 #[tactic(auto, unfolding(crate::specs::Typed::served_in, crate::specs::Memory::TakesServed))]
@@ -329,6 +343,8 @@ fn read_served(alloc: Global, value: &Value) -> Result<Served, ConfigFlaw>
     let page_port = value_of!(read_page(table));
     let lines_per_second = value_of!(read_optional(table, Section::Serve, Key::LinesPerSecond));
     let own_lines = value_of!(read_own_lines(table));
+    let day_ends = value_of!(read_day_ends(table));
+    let zone = value_of!(read_zone(table));
     Ok(Served {
         doors,
         till_workers,
@@ -338,7 +354,8 @@ fn read_served(alloc: Global, value: &Value) -> Result<Served, ConfigFlaw>
         page_port,
         lines_per_second,
         own_lines,
-        day_ends: read_day_ends(table),
+        day_ends,
+        zone,
     })
 }
 

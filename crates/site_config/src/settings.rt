@@ -1,4 +1,5 @@
 //! The settings that a configuration gives.
+use crate::day_ends::{TimeOfDay, ZoneName};
 use crate::flaw::Place;
 use site_core::Config;
 use till_request::Role;
@@ -32,14 +33,16 @@ pub struct Door {
 /// - `connections`: how many each worker serves, one after another, 1 to 1,000,000, or `None` without end.
 /// - `idle_seconds`: after how many seconds without a byte a connection ends, at most 86,400; 0 for never.
 /// - `page_port`: the page's port, 1 to 65,535, which no door has; `None` without a page.
-/// - `day_ends`: the minute of the day, 0 to 1,439 in UTC, at which a day ends; `None` if days end at no time.
+/// - `day_ends`: the minute of the day at which a day ends; `None` if days end at no time.
+/// - `zone`: the zone in which it is that minute then; `None` for UTC.
 #[derive(Drop)]
 pub struct Serve {
     pub doors: Vec<Door>,
     pub connections: Option<u32>,
     pub idle_seconds: u32,
     pub page_port: Option<u32>,
-    pub day_ends: Option<u32>,
+    pub day_ends: Option<TimeOfDay>,
+    pub zone: Option<ZoneName>,
 }
 
 /// The site, and where and how to serve it, if `[serve]` is given.

@@ -223,6 +223,7 @@ fn is_serve(key: &str) -> bool
         || key == "dispenser"
         || key == "own_lines"
         || key == "day_ends"
+        || key == "zone"
 }
 
 #[tactic(auto, unfolding(crate::specs::Typed::is_till_key))]

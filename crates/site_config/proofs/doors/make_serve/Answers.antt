@@ -24,6 +24,7 @@ returns-in-Err-make_doors-clause-memory c = λ is.
       rw (to_z-of_z w64 lines few) at c.in-Ok-number_of-2.ensures.read,
       rw c.deref-3.ensures.value at c.in-Ok-page_of.ensures.read,
       c.in-Ok-day_ends_of.ensures.read,
+      c.in-Ok-zone_of.ensures.read,
       rw c.deref-4.ensures.value at c.in-Ok-check_side.ensures.read,
       rw c.deref-5.ensures.value at c.in-Ok-check_side-2.ensures.read,
     )
