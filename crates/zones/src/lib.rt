@@ -1,0 +1,8 @@
+//! When it is a minute of the day in a time zone.
+#![tactic(auto)]
+
+mod ends;
+#[cfg(test)]
+mod tests;
+
+pub use ends::{next_end, time_zone};
