@@ -220,7 +220,7 @@ fn leaves_at_once<'x, R: Net<Listener = TcpListener, Stream = TcpStream> + Wait 
     door: &'x SharedDoor,
 ) -> io::Result<bool> {
     let _peer = TcpStream::connect(rt, address_of(&door.listener)?)?;
-    let mut doors = SocketDoors::new(rt, alloc, door, &Silent, Role::Till, 1, 0, None);
+    let mut doors = SocketDoors::new(rt, alloc, door, &Silent, Role::Till, 1, 0, 1, None);
     match doors.next() {
         Ok((_input, output)) => match output.writer.stream {
             Stream::Port(stream) => stream.nodelay(),

@@ -223,7 +223,7 @@ fn is_hung_up<R: Net<Listener = TcpListener, Stream = TcpStream> + Wait + Clock>
     let stop = Arc::new(alloc, Stop::new())?;
     let door = SharedDoor::new(alloc, port(rt)?, 0, Some(Arc::try_clone(&stop)?));
     let _peer = TcpStream::connect(rt, address_of(&door.listener)?)?;
-    let mut doors = SocketDoors::new(rt, alloc, &door, &Silent, Role::Till, 1, 0, Some(&stop));
+    let mut doors = SocketDoors::new(rt, alloc, &door, &Silent, Role::Till, 1, 0, 1, Some(&stop));
     let Ok((_input, mut output)) = doors.next() else {
         return Ok(false);
     };
