@@ -46,7 +46,7 @@ till_none config o at t tills is there fits =
     (subst (λ n. All (HasTill n) (slice_index_or o.points at fresh_point).unpaid) (sym is) (fits.tills at fresh_point there.within)) in
     let e : ◌≡◌ {A = Option Transaction} None (Some t) = sym none ∙ found in absurd (cc)
 
-misfit_none : (config : ConfigValue) (o : OpeningValue) (m : Misfit) → Misfits config o m → Fits config o → ⊥
+pub misfit_none : (config : ConfigValue) (o : OpeningValue) (m : Misfit) → Misfits config o m → Fits config o → ⊥
 misfit_none config o (misfit.Points points there) h fits = h.2 (h.0 ∙ fits.points ∙ sym h.1)
 misfit_none config o (misfit.Till at t tills) h fits = till_none config o at t tills h.1 h.2 fits
 misfit_none config o (misfit.Counter c value bound) h fits =
