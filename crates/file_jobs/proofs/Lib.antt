@@ -2,6 +2,7 @@ pub mod Lengths
 pub mod Padded
 pub mod Named
 pub mod Opened
+pub mod Compared
 pub mod ActAnswers
 pub mod Alike
 pub mod Fronts

@@ -143,10 +143,14 @@ IsUnfitting folder config day =
     × ((misfit : Misfit) × IsUnbegun day config (file_of folder day part.Opening) (unbegun.Unfit (unfit.Misfit misfit)))
 
 -- A day takes the configuration `config`. If `own` is None, it is the one that the day keeps, or `given` if it keeps
--- none. Else it is the one that the folder has for the day, since the day keeps none and `given` doesn't fit the day's
--- opening; `own` is its text.
+-- none; `given` may then only fail to fit the day's opening if the folder's for the day doesn't fit it either. Else it
+-- is the one that the folder has for the day, since the day keeps none and `given` doesn't fit the day's opening; `own`
+-- is its text.
 abbrev pub Takes : FolderText → ConfigValue → ℕ → Option (List ℕ) → ConfigValue → Type 0
-Takes folder given day None config = IsConfigOf given (kept_config folder day) config
+Takes folder given day None config =
+    IsConfigOf given (kept_config folder day) config
+    × (kept_config folder day ≡ None → IsUnfitting folder given day → (other : ConfigValue)
+    → own_config (file_of folder day part.Config) ≡ Some (Ok other) → IsUnfitting folder other day)
 Takes folder given day (Some own) config =
     (kept_config folder day ≡ None) × IsUnfitting folder given day × (file_of folder day part.Config ≡ Some own)
     × (own_config (file_of folder day part.Config) ≡ Some (Ok config))

@@ -91,6 +91,20 @@ struct Taken {
     own: Option<Vec<u8>>,
 }
 
+impl Taken {
+    fn given(config: Config) -> Taken
+        ensures config { result.config ≡ config }
+        ensures kept { result.is_kept ≡ false }
+        ensures own { result.own ≡ None }
+    {
+        Taken {
+            config,
+            is_kept: false,
+            own: None,
+        }
+    }
+}
+
 /// Returns the configuration that a day with an entry keeps in the folder, or else `given`, or, if that doesn't fit the
 /// day's opening, the folder's.
 fn config_for<F: DayFiles>(
@@ -136,20 +150,17 @@ fn config_for_unkept<F: DayFiles>(
     ensures first { IfOk result (λ taken. day ≡ 1 → taken.own ≡ None) }
     ensures refused { IfErr result (Refuses 1) }
 {
-    if let Some(misfit) = misfit_of(rt, folder, day, &given)? {
-        if let Some(own) = own_that_fits(rt, folder, day)? {
-            print_misfit(rt, folder.as_folder(), day, word, misfit)?;
-            return Ok(Taken {
-                config: own.config,
-                is_kept: false,
-                own: Some(own.text),
-            });
-        }
-    }
+    let Some(misfit) = misfit_of(rt, folder, day, &given)? else {
+        return Ok(Taken::given(given));
+    };
+    let Some(own) = own_that_fits(rt, folder, day)? else {
+        return Ok(Taken::given(given));
+    };
+    print_misfit(rt, folder.as_folder(), day, word, misfit)?;
     Ok(Taken {
-        config: given,
+        config: own.config,
         is_kept: false,
-        own: None,
+        own: Some(own.text),
     })
 }
 
@@ -161,8 +172,8 @@ fn misfit_of<F: DayFiles>(
     day: u32,
     config: &Config,
 ) -> Result<Option<Misfit>, JobError>
-    ensures misfit { (texts : FolderText) → F.files folder.now ≡ Some texts
-        → IfOk result (λ misfit. IfSome misfit (λ _. IsUnfitting texts config.now day)) }
+    ensures misfit { (texts : FolderText) → F.files folder.now ≡ Some texts → IfOk result (λ misfit.
+        MatchOption misfit (¬ IsUnfitting texts config.now day) (λ _. IsUnfitting texts config.now day)) }
     ensures first { day ≡ 1 → result ≡ Ok None }
     ensures refused { IfErr result (Refuses 1) }
 {

@@ -5,6 +5,7 @@ ghost use Rattle.file_jobs.specs.AuditOutput.{program_text};
 ghost use Rattle.days.specs.Chain.{BeginsBy};
 ghost use Rattle.days.specs.File.{IsOpeningFile};
 ghost use Rattle.days.specs.Fitting.{BeginsWith};
+ghost use Rattle.days.specs.Flaws.{IsOnly};
 ghost use Rattle.days.specs.Ranges.{FileFits};
 ghost use Rattle.days.specs.Text.{opening_text};
 ghost use Rattle.days.specs.Words.{unfit_text};
@@ -86,6 +87,7 @@ pub(crate) fn opening_in<R: Read + Drop>(
     ensures good { IfOk result IsOpeningFile }
     ensures fits { IfOk result FileFits }
     ensures text { (text : List ℕ) → R.remaining source ≡ Some text → IfOk result (λ file. opening_text file ≡ text) }
+    ensures only { (text : List ℕ) → R.remaining source ≡ Some text → IfOk result (IsOnly text) }
     ensures refused { IfErr result (Refuses 1) }
 {
     let bytes = opening_bytes(rt, word, source)?;

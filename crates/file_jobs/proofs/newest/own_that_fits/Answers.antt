@@ -1,4 +1,4 @@
-use Rattle.std.proofs.Common.{◌≡◌, ◌∙◌, Ok, Option, None, Some, IfSome, MatchOption, Result, sym, subst}
+use Rattle.std.proofs.Common.{◌≡◌, ◌∙◌, Ok, Option, None, Some, MatchOption, Result, sym, subst}
 use Rattle.site_core.specs.Limits.{ConfigValue}
 use Rattle.site_config.specs.declared.fault.ConfigFault.{ConfigFault}
 use Rattle.file_jobs.specs.Days.{IsOwn, IsUnfitting, file_of}
@@ -14,4 +14,4 @@ returns-in-Some-2-clause-none g c = λ texts known none config is.
     let file = file_of texts c.args.day part.Config in
     let own = subst (λ o. MatchOption o (file ≡ None) (IsOwn file)) c.in-Some.is (c.in_ok-own.ensures.own texts known) in
     subst (λ k. IsUnfitting texts k c.args.day) (one c.in-Some.own.config config _ own.1 is)
-    (subst (λ m. IfSome m (λ _. IsUnfitting texts c.in-Some.own.config c.args.day)) c.in-Some-2.is (c.in_ok-misfit_of.ensures.misfit texts known))
+    (subst (λ m. MatchOption m (¬ IsUnfitting texts c.in-Some.own.config c.args.day) (λ _. IsUnfitting texts c.in-Some.own.config c.args.day)) c.in-Some-2.is (c.in_ok-misfit_of.ensures.misfit texts known))
