@@ -10,11 +10,13 @@ pub mod closing;
 mod day;
 mod file;
 pub mod fitting;
+mod hashed;
 mod line;
 mod parsing;
 mod ranges;
 pub mod reading;
 mod step;
+mod unkept_text;
 pub mod writing;
 
 pub use beginning::Unfit;
@@ -23,3 +25,4 @@ pub use closed::Closed;
 pub use day::{Chained, DayIn, DaysIn, NoDay};
 pub use file::{OpeningFile, OpeningFlaw, Uncarried};
 pub use fitting::Misfit;
+pub use hashed::{HashedOut, HashedText};
