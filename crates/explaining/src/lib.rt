@@ -1,0 +1,4 @@
+// What a rule's run did, instruction by instruction.
+#![tactic(auto)]
+
+pub mod tracing;
