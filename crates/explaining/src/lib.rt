@@ -2,7 +2,15 @@
 // instruction.
 #![tactic(auto)]
 
+mod acts;
+mod calls;
 pub mod explained;
+mod fields;
+mod instructions;
+mod kinds;
 pub mod tracing;
+mod values;
+mod why;
+pub mod writing;
 
 pub use explained::{Decision, ExplainFault, Explained};
