@@ -13,8 +13,8 @@ import re
 from shared import HERE, Count, text_of
 
 DOCUMENT = "docs/use/messages.md"
-# Crates whose texts are pages, rows, tests, or answers, which the reference has.
-OTHERS = "acceptance day_export till_request".split()
+# Crates whose texts are pages, rows, explanations, tests, or answers, which the reference has.
+OTHERS = "acceptance day_export explaining till_request".split()
 # Texts of the live page but for its health, of HTTP's head, and of --help.
 PAGES = re.compile(r"pages/src/(?!station)|page_port/src/page_answer|file_jobs/src/subcommands")
 # Texts that stand within a message alone, what the reader of TOML says that fc says otherwise, texts of openings that no

@@ -13,6 +13,7 @@ _fc_command() {
         play | carry | report) takes=2 options='--opening' ;;
         audit) takes=2 options='--opening --days' ;;
         export) takes=3 kinds='sales decisions events' options='--json --opening' ;;
+        explain) takes=3 options='--opening' ;;
         serve) takes=1 options='--journal --sync --opening --days --new-day' ;;
     esac
 }
@@ -47,7 +48,7 @@ _fc_value() {
 }
 
 _fc() {
-    local commands='asm dis verify play audit carry report export serve help' takes kinds options
+    local commands='asm dis verify play audit carry report export explain serve help' takes kinds options
     local word before name='' files=0 at
     COMPREPLY=()
     word=${COMP_WORDS[COMP_CWORD]}

@@ -6,6 +6,7 @@ use file_jobs::audits::audit_files;
 use file_jobs::carry::carry_files;
 use file_jobs::chained::audit_folder;
 use file_jobs::command_line::help;
+use file_jobs::explain::explain_files;
 use file_jobs::export::export_files;
 use file_jobs::job_error::print_text;
 use file_jobs::plays::{play_files, play_input};
@@ -63,6 +64,12 @@ pub fn do_job<
             config,
             journal,
         } => export_files(rt, *rows, *format, site_files(config, opening), journal),
+        Job::Explain {
+            opening,
+            config,
+            journal,
+            number,
+        } => explain_files(rt, site_files(config, opening), journal, *number),
         Job::Serve(job) => serve(rt, host, job),
     }
 }

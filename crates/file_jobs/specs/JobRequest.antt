@@ -16,7 +16,7 @@ use Rattle.day_export.specs.declared.cells.Rows.{Rows}
 use Rattle.day_export.specs.declared.cells.Rows.TheVariants as kinds
 use Rattle.day_export.specs.declared.cells.Format.{Format}
 use Rattle.day_export.specs.declared.cells.Format.TheVariants as formats
-use Rattle.file_jobs.specs.Mask.{mask_named}
+use Rattle.file_jobs.specs.Mask.{mask_named, number_of}
 use Rattle.file_jobs.specs.declared.job.Job.{Job}
 use Rattle.file_jobs.specs.declared.job.Job.TheVariants as job
 use Rattle.file_jobs.specs.declared.job.ServeJob.{ServeJob}
@@ -94,6 +94,10 @@ export_app =
     with_rule (with_rule (with_rule (with_rule (with_rule (new_app (codes "export")) kind_rule) (file_rule (codes "config")))
     (file_rule (codes "journal"))) (flag_rule (codes "json"))) (option_rule (codes "opening"))
 
+abbrev pub explain_app : App
+explain_app =
+    with_rule (with_rule (of_files (codes "explain") (codes "config") (codes "journal")) (file_rule (codes "entry"))) (option_rule (codes "opening"))
+
 abbrev pub serve_app : App
 serve_app =
     with_rule (with_rule (with_rule (with_rule (with_rule (of_file (codes "serve") (codes "config")) (option_rule (codes "journal")))
@@ -112,13 +116,14 @@ top_app = record (new_app (codes "fc")) { top = record (new_app (codes "fc")).to
 -- - carry [--opening FILE] CONFIG JOURNAL
 -- - report [--opening FILE] CONFIG JOURNAL
 -- - export [--json] [--opening FILE] KIND CONFIG JOURNAL
+-- - explain [--opening FILE] CONFIG JOURNAL ENTRY
 -- - serve [--journal FILE [--sync]] [--opening FILE] CONFIG
 -- - serve --days FOLDER [--sync] [--new-day] CONFIG
 abbrev pub fc_app : App
 fc_app =
     with_subcommand (with_subcommand (with_subcommand (with_subcommand (with_subcommand (with_subcommand (with_subcommand (with_subcommand
-    (with_subcommand top_app asm_app.top) dis_app.top) verify_app.top) play_app.top) audit_app.top) carry_app.top) report_app.top) export_app.top)
-    serve_app.top
+    (with_subcommand (with_subcommand top_app asm_app.top) dis_app.top) verify_app.top) play_app.top) audit_app.top) carry_app.top) report_app.top) export_app.top)
+    explain_app.top) serve_app.top
 
 -- ---- These definitions say which job a command line asks for.
 
@@ -131,6 +136,7 @@ fc_app =
 -- - `audit`, `carry`, `report`, `serve_kept` and `serve_synced`: the opening, the configuration and the journal
 -- - `audit_days`: the folder and the configuration
 -- - `export`: the kind and the form of the rows, the opening, the configuration and the journal
+-- - `explain`: the opening, the configuration, the journal and the entry's number
 -- - `serve`: the opening and the configuration
 -- - `serve_days`: whether answers wait for syncs, whether a new day begins, the folder and the configuration
 pub data JobRequest : Type 0 where
@@ -145,6 +151,7 @@ pub data JobRequest : Type 0 where
   carry : Option Text → Text → Text → JobRequest
   report : Option Text → Text → Text → JobRequest
   export : Rows → Format → Option Text → Text → Text → JobRequest
+  explain : Option Text → Text → Text → ℕ → JobRequest
   serve : Option Text → Text → JobRequest
   serve_kept : Option Text → Text → Text → JobRequest
   serve_synced : Option Text → Text → Text → JobRequest
@@ -208,6 +215,14 @@ abbrev pub export_in : List Row → Option JobRequest
 export_in rows =
     option_and_then (λ (kind : Rows). files_in (codes "config") (codes "journal") (export kind (format_in rows) (opening_in rows)) rows) (kind_in rows)
 
+-- the number that ENTRY gives; None if it isn't one of 32 bits in decimal digits
+abbrev pub entry_in : List Row → Option ℕ
+entry_in rows = option_and_then (number_of false) (first_of (codes "entry") rows)
+
+abbrev pub explain_in : List Row → Option JobRequest
+explain_in rows =
+    option_and_then (λ (n : ℕ). files_in (codes "config") (codes "journal") (λ config journal. explain (opening_in rows) config journal n) rows) (entry_in rows)
+
 -- What `audit` asks for, given the folder of --days, the file of --opening, JOURNAL and CONFIG. None in two cases:
 -- --days is given together with --opening or JOURNAL, or neither --days nor JOURNAL is given.
 abbrev pub audit_by : Option Text → Option Text → Option Text → Text → Option JobRequest
@@ -262,6 +277,7 @@ subcommand_request name rows =
     else if bytes_eq name (codes "carry") then files_in (codes "config") (codes "journal") (carry (opening_in rows)) rows
     else if bytes_eq name (codes "report") then files_in (codes "config") (codes "journal") (report (opening_in rows)) rows
     else if bytes_eq name (codes "export") then export_in rows
+    else if bytes_eq name (codes "explain") then explain_in rows
     else if bytes_eq name (codes "serve") then serve_in rows
     else None
 
@@ -293,6 +309,7 @@ requested (job.Carry opening config journal) = Some (carry (named opening) (stri
 requested (job.AuditDays folder config) = Some (audit_days (string_bytes folder) (string_bytes config))
 requested (job.Report opening config journal) = Some (report (named opening) (string_bytes config) (string_bytes journal))
 requested (job.Export rows format opening config journal) = Some (export rows format (named opening) (string_bytes config) (string_bytes journal))
+requested (job.Explain opening config journal number) = Some (explain (named opening) (string_bytes config) (string_bytes journal) number)
 requested (job.Serve served) = Some (serve_request served)
 requested (job.Show text) = None
 
@@ -355,6 +372,7 @@ unasked_by name rows =
     if bytes_eq name (codes "serve") then serve_message rows
     else if bytes_eq name (codes "audit") then audit_message rows
     else if bytes_eq name (codes "export") then codes "error: export takes sales, decisions or events"
+    else if bytes_eq name (codes "explain") then codes "error: ENTRY is the number of an entry, such as 412"
     else verify_message rows
 
 -- the first line of the error message for a command line that `clap` accepts, but whose values are wrong, contradictory

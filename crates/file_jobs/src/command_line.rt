@@ -4,13 +4,13 @@ ghost use Rattle.std.specs.Prelude.{◌≡◌, IsTrue, IsSome, None, false, [], 
 ghost use Rattle.std.specs.Prelude.{map, codes, is_some, option_map, string_bytes, ◌↔◌};
 ghost use Rattle.clap.specs.Words.{first_of, rows_of, found_of, subcommand_of, subcommand_rows_of, takes, fault_of};
 ghost use Rattle.file_jobs.specs.JobRequest.{fc_app, requested, parsed_request, is_set, layout_in, layout_named, mask_in, IsHelpOrVersion, MayShow};
-ghost use Rattle.file_jobs.specs.JobRequest.{RefusesBy, audit_by, days_in, format_in, kind_in, named, opening_in};
+ghost use Rattle.file_jobs.specs.JobRequest.{RefusesBy, audit_by, days_in, entry_in, format_in, kind_in, named, opening_in};
 ghost use Rattle.file_jobs.specs.JobRequest.{rows_named, serve_by, serve_days_by, unasked_by, unasked_text, unasked_words};
 ghost use Rattle.file_jobs.specs.JobRequest.{audit_message, serve_message, verify_message};
 ghost use Rattle.file_jobs.specs.Refusing.{Asks, Finds, FindsFiles, IsJobOfLine, IsNoJobMessage, IsRefusalOf};
 
 use crate::job::{CommandFault, Job, ServeJob};
-use crate::mask::mask_named;
+use crate::mask::{decimal_named, mask_named};
 use crate::subcommands::fc;
 use bpf_model::context::Layout;
 use clap::ArgMatches;
@@ -282,6 +282,35 @@ fn export_of(alloc: Global, matches: &ArgMatches) -> Result<Option<Job>, AllocEr
     }
 }
 
+/// The number of the entry that is to be explained.
+fn number_of(matches: &ArgMatches) -> Option<u32>
+    ensures { result ≡ entry_in (rows_of (found_of matches.now)) }
+{
+    match matches.get_str("entry") {
+        Some(text) => decimal_named(text),
+        None => None,
+    }
+}
+
+fn explain_of(alloc: Global, matches: &ArgMatches) -> Result<Option<Job>, AllocError>
+    ensures job { IfOk result (Finds (codes "explain") (rows_of (found_of matches.now))) }
+    ensures number { entry_in (rows_of (found_of matches.now)) ≡ None → IsOk result }
+{
+    let Some(number) = number_of(matches) else {
+        return Ok(None);
+    };
+    let opening = opening_of(alloc, matches)?;
+    match files_of(alloc, matches, "config", "journal")? {
+        Some((config, journal)) => Ok(Some(Job::Explain {
+            opening,
+            config,
+            journal,
+            number,
+        })),
+        None => Ok(None),
+    }
+}
+
 fn serve_by(
     opening: Option<String>,
     is_synced: bool,
@@ -361,6 +390,7 @@ fn named_job(alloc: Global, name: &str, matches: &ArgMatches) -> Result<Option<J
         "carry" => carry_of(alloc, matches),
         "report" => report_of(alloc, matches),
         "export" => export_of(alloc, matches),
+        "explain" => explain_of(alloc, matches),
         "serve" => serve_of(alloc, matches),
         _ => Ok(None),
     }
@@ -424,6 +454,7 @@ fn unasked_by(name: &str, matches: &ArgMatches) -> &'static str
         "serve" => serve_message(matches),
         "audit" => audit_message(matches),
         "export" => "error: export takes sales, decisions or events",
+        "explain" => "error: ENTRY is the number of an entry, such as 412",
         _ => verify_message(matches),
     }
 }

@@ -54,6 +54,13 @@ pub enum Job {
         config: String,
         journal: String,
     },
+    /// Print why entry `number` of a journal was answered so.
+    Explain {
+        opening: Option<String>,
+        config: String,
+        journal: String,
+        number: u32,
+    },
     Serve(ServeJob),
     /// Print the help or the version.
     Show(String),

@@ -11,6 +11,7 @@ pub mod chained;
 pub mod command_line;
 mod cut_line;
 pub mod entering;
+pub mod explain;
 pub mod export;
 pub mod file_flaws;
 pub mod files;

@@ -94,6 +94,13 @@ fn without_plus(text: &[u8]) -> &[u8]
     }
 }
 
+/// Returns the number of 32 bits that decimal digits write.
+pub fn decimal_named(text: &str) -> Option<u32>
+    ensures { result ≡ number_of false text.now }
+{
+    number_of(false, text.as_bytes())
+}
+
 /// Returns the mask that a text gives: hexadecimal digits behind `0x`, or decimal ones.
 pub fn mask_named(text: &str) -> Option<u32>
     // proved: A mask is decimal, or hexadecimal behind 0x

@@ -109,7 +109,7 @@ const OPENING: Argument = Argument::FileOption(
     "begin with the opening in this file, as carry prints it",
 );
 
-const SUBCOMMANDS: [SubcommandDescription; 9] = [
+const SUBCOMMANDS: [SubcommandDescription; 10] = [
     SubcommandDescription {
         name: "asm",
         about: "Prints the units of a rule",
@@ -185,6 +185,17 @@ const SUBCOMMANDS: [SubcommandDescription; 9] = [
             Argument::File("config", CONFIG),
             Argument::File("journal", JOURNAL),
             Argument::Flag("json", "print a line of JSON for each row, in place of CSV"),
+            OPENING,
+        ],
+    },
+    SubcommandDescription {
+        name: "explain",
+        about: "Tells why an entry of a journal was answered so, with the run of its rule",
+        example: "Example: fc explain site.toml day.journal 412",
+        arguments: &[
+            Argument::File("config", CONFIG),
+            Argument::File("journal", JOURNAL),
+            Argument::File("entry", "the entry's number, with which its line begins"),
             OPENING,
         ],
     },

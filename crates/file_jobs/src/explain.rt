@@ -1,0 +1,51 @@
+//! What `fc explain` does.
+ghost use Rattle.std.specs.Prelude.{[], IfErr, IsErrAnd, IsTrue, option_map};
+ghost use Rattle.file_jobs.specs.StandardInput.{reads_twice};
+ghost use Rattle.file_jobs.specs.JobErrors.{Ends};
+
+use crate::audited::audited_site;
+use crate::job_error::print_text;
+use crate::messages::Place;
+use crate::statuses::{FAILED, REFUSED};
+use crate::{JobError, SiteFiles};
+use explaining::ExplainFault;
+use explaining::explained::explain;
+use explaining::writing::explanation;
+use site_core::Unwatched;
+use std::alloc::Global;
+
+/// Audits the journal in the file that `journal` names, and prints why its entry `number` was answered so.
+pub fn explain_files(
+    rt: &HostRuntime,
+    site: SiteFiles<'_>,
+    journal: &str,
+    number: u32,
+) -> Result<(), JobError>
+    ensures { IsTrue (reads_twice site.entry.config.now (option_map (λ w. w.now) site.entry.opening) journal.now)
+        → IsErrAnd result (Ends 2 []) }
+{
+    let day = audited_site(rt, site, journal, Unwatched)?;
+    match explain(rt.alloc(), day.site(), number) {
+        Ok(explained) => print_text(rt, &explanation(rt.alloc(), &explained)?),
+        Err(fault) => Err(unexplained(rt.alloc(), journal, number, fault)),
+    }
+}
+
+fn unexplained(alloc: Global, journal: &str, number: u32, fault: ExplainFault) -> JobError {
+    let place = Place::of(journal);
+    match fault {
+        ExplainFault::NoEntry => {
+            JobError::at(
+                alloc,
+                place,
+                &format_args!("there is no entry {number}"),
+                REFUSED,
+            )
+        }
+        ExplainFault::NotMadeAgain => {
+            let words = format_args!("the site doesn't decide entry {number} so again");
+            JobError::at(alloc, place, &words, FAILED)
+        }
+        ExplainFault::OutOfMemory => JobError::OutOfMemory,
+    }
+}
