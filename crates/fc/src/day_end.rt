@@ -1,4 +1,5 @@
 //! When a day that is served ends: at a time of the day, or when it is full.
+use crate::day_times::DayTimes;
 use site_core::Site;
 use std::sync::atomic::{AtomicU64, Ordering};
 use std::time::{Clock, SystemTime, UNIX_EPOCH};
@@ -9,8 +10,6 @@ const FULL_ENTRIES: u64 = 1_040_000;
 
 /// A day ends by itself with so many loads, of 4,096 versions that it can have.
 const FULL_LOADS: u64 = 4_000;
-
-const DAY_SECONDS: u64 = 86_400;
 
 /// Returns the seconds since the start of 1970, or 0 if the clock can't tell.
 pub fn second<H: Clock>(host: &H) -> u64 {
@@ -23,20 +22,9 @@ pub fn second<H: Clock>(host: &H) -> u64 {
     }
 }
 
-/// The first moment behind `moment` at which it is this minute of a day, in UTC.
-fn next_at(moment: u64, minute: u32) -> u64 {
-    let midnight = moment - moment % DAY_SECONDS;
-    let end = midnight.saturating_add(60 * u64::from(minute));
-    if end > moment {
-        end
-    } else {
-        end.saturating_add(DAY_SECONDS)
-    }
-}
-
-/// When a day ends that begins with this site at `now`: at the given minute of a day, the first time since the day's
-/// first moment, or at once if it is full. `None` is never by itself.
-pub fn end_of(site: &Site, minute: Option<u32>, now: u64) -> Option<u64> {
+/// When a day ends that begins with this site at `now`: at its time, the first one since the day's first moment, or at
+/// once if it is full. `None` is never by itself.
+pub fn end_of(site: &Site, times: &DayTimes, now: u64) -> Option<u64> {
     if is_full(site.history().len() as u64, loads_in(site)) {
         return Some(now);
     }
@@ -45,10 +33,7 @@ pub fn end_of(site: &Site, minute: Option<u32>, now: u64) -> Option<u64> {
         .iter()
         .map(|entry| entry.moment)
         .find(|moment| *moment > 0);
-    match minute {
-        Some(minute) => Some(next_at(first.unwrap_or(now), minute)),
-        None => None,
-    }
+    times.end_behind(first.unwrap_or(now))
 }
 
 fn loads_in(site: &Site) -> u64 {

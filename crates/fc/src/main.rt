@@ -2,6 +2,7 @@
 #![tactic(auto)]
 
 mod day_end;
+mod day_times;
 mod doors;
 mod jobs;
 mod journal_file;

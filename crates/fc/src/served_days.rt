@@ -1,5 +1,6 @@
 //! Serves the days of a folder, one after another, behind the same doors.
 use crate::day_end::{end_of, second};
+use crate::day_times::DayTimes;
 use crate::kept::{AnswerAfter, KeptBy, new_stop, open_synced, print_error, serve_on};
 use crate::serve::{OpenDoors, ServedBy, open_site_doors, print_end, served};
 use day_report::Sums;
@@ -41,6 +42,20 @@ struct Days<'a> {
     folder: Folder<'a>,
     config_name: &'a str,
     after: AnswerAfter,
+}
+
+/// What the configuration says that can change from day to day: its text, and when days end.
+#[derive(Drop)]
+struct Given {
+    text: Vec<u8>,
+    times: DayTimes,
+}
+
+/// Where and how days are served, and when they end.
+#[derive(Clone, Copy)]
+struct DaysBy<'a> {
+    serve: &'a Serve,
+    times: &'a DayTimes,
 }
 
 /// A day that is to be served.
@@ -118,23 +133,24 @@ impl Days<'_> {
     }
 
     /// Reads the configuration again. The error is also that a start would refuse it.
-    fn given_again(&self) -> Result<Vec<u8>, JobError> {
+    fn given_again(&self) -> Result<Given, JobError> {
         let (alloc, name) = (self.rt.alloc(), self.config_name);
         // A pipe would keep everybody waiting.
         at_file(alloc, name, check_regular(self.rt, name))?;
         let text = text_of(self.rt, name)?;
         let Settings { serve, .. } = settings_in(self.rt, name, &text)?;
-        served(alloc, name, serve)?;
-        Ok(text)
+        let serve = served(alloc, name, serve)?;
+        let times = DayTimes::read(self.rt, name, &serve)?;
+        Ok(Given { text, times })
     }
 
-    /// Reads the text of the configuration again, unless it came from standard input. If it can't be served, prints why.
-    fn reread(&self) -> Option<Vec<u8>> {
+    /// Reads the configuration again, unless it came from standard input. If it can't be served, prints why.
+    fn reread(&self) -> Option<Given> {
         if is_input(self.config_name) {
             return None;
         }
         match self.given_again() {
-            Ok(text) => Some(text),
+            Ok(given) => Some(given),
             Err(job_error) => {
                 print_error(self.rt, &job_error);
                 None
@@ -148,7 +164,7 @@ impl Days<'_> {
     >(
         &self,
         host: &H,
-        serve: &Serve,
+        by: DaysBy<'_>,
         stop: &Stop,
         crew: Crew,
         day: BegunDay,
@@ -162,10 +178,11 @@ impl Days<'_> {
             found,
             retry,
         } = day;
+        let DaysBy { serve, times } = by;
         let goes_on = serve.connections.is_none();
         let ends = match retry {
             Some(retry) => Some(retry),
-            None if goes_on => end_of(audited.site(), serve.day_ends, second(host)),
+            None if goes_on => end_of(audited.site(), times, second(host)),
             None => None,
         };
         let kept_by = KeptBy {
@@ -199,7 +216,7 @@ impl Days<'_> {
         stop: &Stop,
         crew: Crew,
         first: BegunDay,
-        mut text: Vec<u8>,
+        mut given: Given,
     ) -> Result<(), JobError> {
         let mut next = Some(first);
         let mut crews = Some(crew);
@@ -210,14 +227,15 @@ impl Days<'_> {
                 break;
             };
             let number = day.number;
-            self.serve(host, serve, stop, crew, day, is_first)?;
+            let times = &given.times;
+            self.serve(host, DaysBy { serve, times }, stop, crew, day, is_first)?;
             is_first = false;
             if stop.is_asked() {
                 stop.withdraw();
                 if let Some(new) = self.reread() {
-                    text = new;
+                    given = new;
                 }
-                let day = self.begin_next(host, &text, number)?;
+                let day = self.begin_next(host, &given.text, number)?;
                 if day.number != number {
                     print_message(self.rt, &format_args!("day {} is served", day.number));
                 }
@@ -275,6 +293,7 @@ pub fn serve_days<
     // This is checked first, so that no day is closed if the configuration can't be served.
     let mut serve = served(rt.alloc(), config_name, serve)?;
     let_owner_end_days(&mut serve);
+    let times = DayTimes::read(rt, config_name, &serve)?;
     let day = days.begin(&text, is_new_day)?;
     let stop = new_stop(rt)?;
     let OpenDoors { crew, files } = open_site_doors(
@@ -284,7 +303,8 @@ pub fn serve_days<
         &serve,
         Some(Arc::try_clone(&stop)?),
     )?;
-    days.serve_each(host, &serve, &stop, crew, day, text)?;
+    let given = Given { text, times };
+    days.serve_each(host, &serve, &stop, crew, day, given)?;
     print_end(rt, files);
     Ok(())
 }
