@@ -3,9 +3,10 @@ ghost use Rattle.std.specs.Prelude.{◌≡◌, is_some};
 
 use crate::day_end::second;
 use crate::doors::{DoorAddress, DoorListing};
+use crate::serve::ServedBy;
 use file_jobs::messages::print_message;
 use page_port::ConnectionCounts;
-use site_config::{Door, Serve};
+use site_config::Door;
 use site_server::{Limiter, Notices, SessionFailure, SessionFault, ThreadCounts};
 use std::fmt::{self, Display};
 use std::io;
@@ -31,10 +32,8 @@ pub struct OperatorReports<'a, H: Wait + Clock> {
     strays: AtomicU64,
     /// The last minute in which a line of another door was reported.
     stray_minute: AtomicU64,
-    serve: &'a Serve,
+    by: ServedBy<'a>,
     connections: Option<&'a ConnectionCounts>,
-    /// Whether the doors are printed as they open.
-    prints_doors: bool,
 }
 
 /// A peer's name, such as `till 3` or `a dispenser`.
@@ -126,9 +125,8 @@ impl<'a, H: Wait + Clock> OperatorReports<'a, H> {
     pub fn new(
         rt: &'a HostRuntime,
         host: &'a H,
-        serve: &'a Serve,
+        by: ServedBy<'a>,
         connections: Option<&'a ConnectionCounts>,
-        prints_doors: bool,
     ) -> OperatorReports<'a, H> {
         OperatorReports {
             rt,
@@ -137,9 +135,8 @@ impl<'a, H: Wait + Clock> OperatorReports<'a, H> {
             strangers: Mutex::new(Limiter::new(MOST_STRANGERS_IN_MINUTE)),
             strays: AtomicU64::new(0),
             stray_minute: AtomicU64::new(u64::MAX),
-            serve,
+            by,
             connections,
-            prints_doors,
         }
     }
 
@@ -159,6 +156,30 @@ impl<'a, H: Wait + Clock> OperatorReports<'a, H> {
         let minute = self.second() / 60;
         let admitted = self.strangers.lock(self.host).admit(minute);
         self.print_held(admitted)
+    }
+
+    /// Counts workers without a thread as gone, if all were counted before.
+    fn count_lacking(&self, threads: ThreadCounts) {
+        let Some(connections) = self.connections else {
+            return;
+        };
+        if self.by.is_first {
+            return;
+        }
+        let ThreadCounts {
+            tills,
+            dispensers,
+            owner,
+        } = threads;
+        for (role, counts) in [
+            (Role::Till, tills),
+            (Role::Dispenser, dispensers),
+            (Role::Owner, owner),
+        ] {
+            for _ in counts.threads..counts.workers {
+                connections.left(role);
+            }
+        }
     }
 
     /// Prints how many reports were left out, if `admitted` is over 0. Returns whether it is a number.
@@ -218,7 +239,7 @@ impl<H: Wait + Clock> Notices for OperatorReports<'_, H> {
         if let Some(connections) = self.connections {
             connections.turned_away(role, pass);
         }
-        let Some(door) = door_at(&self.serve.doors, pass) else {
+        let Some(door) = door_at(&self.by.serve.doors, pass) else {
             return;
         };
         if self.is_stranger_admitted() {
@@ -253,8 +274,10 @@ impl<H: Wait + Clock> Notices for OperatorReports<'_, H> {
     }
 
     fn began(&self, role: Role, _pass: u32) {
-        if let Some(connections) = self.connections {
-            connections.began(role);
+        match self.connections {
+            Some(connections) if self.by.is_first => connections.began(role),
+            // All workers are counted already.
+            Some(_) | None => {}
         }
     }
 
@@ -262,11 +285,12 @@ impl<H: Wait + Clock> Notices for OperatorReports<'_, H> {
         let all = threads.all();
         if all.threads < all.workers {
             print_message(self.rt, &ThreadsFound(threads));
+            self.count_lacking(threads);
         }
-        if self.prints_doors && threads.serves_each_role() {
+        if self.by.is_first && threads.serves_each_role() {
             let listing = DoorListing {
-                doors: &self.serve.doors,
-                page_port: self.serve.page_port,
+                doors: &self.by.serve.doors,
+                page_port: self.by.serve.page_port,
             };
             print_message(self.rt, &listing);
         }
@@ -285,8 +309,11 @@ impl<H: Wait + Clock> Notices for OperatorReports<'_, H> {
     }
 
     fn left(&self, role: Role, _pass: u32) {
-        if let Some(connections) = self.connections {
-            connections.left(role);
+        match (self.connections, self.by.stop) {
+            // A worker of the next day goes on in its place.
+            (Some(_), Some(stop)) if stop.is_asked() => {}
+            (Some(connections), _) => connections.left(role),
+            (None, _) => {}
         }
     }
 }

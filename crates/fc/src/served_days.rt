@@ -2,7 +2,7 @@
 use crate::day_end::{end_of, second};
 use crate::day_times::DayTimes;
 use crate::kept::{AnswerAfter, KeptBy, new_stop, open_synced, print_error, serve_on};
-use crate::serve::{OpenDoors, ServedBy, open_site_doors, print_end, served};
+use crate::serve::{OpenDoors, ServedBy, open_page, open_site_doors, print_end, served};
 use day_report::Sums;
 use file_jobs::files::{is_input, text_of};
 use file_jobs::job_error::at_file;
@@ -12,6 +12,7 @@ use file_jobs::settings::settings_in;
 use file_jobs::{
     DayFile, DayFiles, DayToServe, FAILED, Folder, FoundFile, JobError, OpenJournal, Part, Place,
 };
+use page_port::PageListener;
 use site_config::{Serve, Settings};
 use site_core::Watched;
 use site_server::{Crew, Stop};
@@ -51,11 +52,12 @@ struct Given {
     times: DayTimes,
 }
 
-/// Where and how days are served, and when they end.
+/// By what one day after another is served.
 #[derive(Clone, Copy)]
-struct DaysBy<'a> {
+struct ServedAt<'a> {
     serve: &'a Serve,
-    times: &'a DayTimes,
+    page: Option<&'a PageListener>,
+    stop: &'a Stop,
 }
 
 /// A day that is to be served.
@@ -164,8 +166,8 @@ impl Days<'_> {
     >(
         &self,
         host: &H,
-        by: DaysBy<'_>,
-        stop: &Stop,
+        at: ServedAt<'_>,
+        times: &DayTimes,
         crew: Crew,
         day: BegunDay,
         is_first: bool,
@@ -178,7 +180,7 @@ impl Days<'_> {
             found,
             retry,
         } = day;
-        let DaysBy { serve, times } = by;
+        let ServedAt { serve, page, stop } = at;
         let goes_on = serve.connections.is_none();
         let ends = match retry {
             Some(retry) => Some(retry),
@@ -190,10 +192,12 @@ impl Days<'_> {
                 config_name: self.config_name,
                 serve,
                 day: number,
+                is_first,
+                stop: Some(stop),
             },
             stop,
             after: self.after,
-            is_first,
+            page,
             is_day: goes_on,
             ends,
         };
@@ -212,8 +216,7 @@ impl Days<'_> {
     >(
         &self,
         host: &H,
-        serve: &Serve,
-        stop: &Stop,
+        at: ServedAt<'_>,
         crew: Crew,
         first: BegunDay,
         mut given: Given,
@@ -222,16 +225,15 @@ impl Days<'_> {
         let mut crews = Some(crew);
         let mut is_first = true;
         for _ in host.forever() {
-            let (Some(day), Some(crew)) = (next.take(), crew_of_day(self.rt, &mut crews, serve)?)
+            let (Some(day), Some(crew)) = (next.take(), crew_of_day(self.rt, &mut crews, at.serve)?)
             else {
                 break;
             };
             let number = day.number;
-            let times = &given.times;
-            self.serve(host, DaysBy { serve, times }, stop, crew, day, is_first)?;
+            self.serve(host, at, &given.times, crew, day, is_first)?;
             is_first = false;
-            if stop.is_asked() {
-                stop.withdraw();
+            if at.stop.is_asked() {
+                at.stop.withdraw();
                 if let Some(new) = self.reread() {
                     given = new;
                 }
@@ -303,8 +305,14 @@ pub fn serve_days<
         &serve,
         Some(Arc::try_clone(&stop)?),
     )?;
-    let given = Given { text, times };
-    days.serve_each(host, &serve, &stop, crew, day, given)?;
+    let page = open_page(rt, host, &serve)?;
+    let at = ServedAt {
+        serve: &serve,
+        page: page.as_ref(),
+        stop: &stop,
+    };
+    days.serve_each(host, at, crew, day, Given { text, times })?;
+    drop(page);
     print_end(rt, files);
     Ok(())
 }

@@ -1,5 +1,7 @@
 -- Definitions: the answers to requests on the page port, a port on which a browser looks at the site.
-use Rattle.std.specs.Prelude.{◌≡◌, ◌⊎◌, ℕ, List, [], ◌∷◌, ◌++◌, length, map, codes, Bool, true, Result, Ok, Err}
+use Rattle.std.specs.Prelude.{◌≡◌, ◌⊎◌, ◌==◌, nat_lt, ℕ, List, [], ◌∷◌, ◌++◌, length, map, codes, Bool, true, Option, Some, None, Result, Ok, Err}
+use Rattle.std.specs.Prelude.{if◌then◌else◌, false, unwrap_or}
+use Rattle.std.specs.Fmt.{decimal}
 use Rattle.http1.specs.Fields.{Header}
 use Rattle.http_server.specs.Response.{fields_of}
 use Rattle.http_server.specs.declared.response.Response.{Response}
@@ -49,6 +51,11 @@ fields kind =
     ∷ (codes "connection", codes "close")
     ∷ []
 
+-- the header field that names the served day, in an answer that does
+abbrev pub day_field : Option ℕ → List Header
+day_field None = []
+day_field (Some day) = (codes "x-fc-day", decimal day) ∷ []
+
 -- the header fields of the answer to a request that is refused for this reason
 abbrev pub fields_refusing : Refusal → List Header
 fields_refusing refusals.OtherMethod = fields kinds.Plain ++ (codes "allow", codes "GET, HEAD") ∷ []
@@ -61,9 +68,10 @@ fields_refusing refusals.BadQuery = fields kinds.Plain
 abbrev pub text_refusing : Refusal → List ℕ
 text_refusing refusals.OtherHost = codes "this page is for localhost, 127.0.0.1 and [::1] alone\n"
 text_refusing refusals.OtherScheme = codes "only http is answered here\n"
-text_refusing refusals.NoSuchPath = codes "nothing is here: try /, /metrics, /healthz or /journal?after=N\n"
+text_refusing refusals.NoSuchPath = codes "nothing is here: try /, /metrics, /healthz or /journal?day=D&after=N\n"
 text_refusing refusals.OtherMethod = codes "only GET and HEAD are answered here\n"
-text_refusing refusals.BadQuery = codes "write after=N, with N from 0 to 4294967295 in plain digits\n"
+text_refusing refusals.BadQuery =
+    codes "write after=N, day=D or day=D&after=N, with N from 0 and D from 1 to 4294967295 in plain digits\n"
 
 -- the HTTP status of the answer that reports this health
 abbrev pub status_of_health : Health → ℕ
@@ -91,17 +99,51 @@ IsHealthOf f may_fail connections page_answer =
     × (map (λ (counts : RoleCounts). counts.role) role_counts ≡ roles_with_doors connections)
     × ReportsHealth (health_of has_failed (length held.site.history) role_counts) page_answer
 
--- The answer fits this endpoint, of a site under a lock and the counts of its connections:
+-- the status where another day is asked for than the one that is served: a day that is over, or one that hasn't begun
+abbrev pub status_of_other : ℕ → ℕ → ℕ
+status_of_other day asked = if nat_lt asked day then 409 else 404
+
+-- the text of that answer
+abbrev pub text_of_other : ℕ → ℕ → List ℕ
+text_of_other day asked =
+    if nat_lt asked day
+    then codes "day " ++ (decimal asked ++ (codes " is over: day " ++ (decimal day ++ codes " is served\n")))
+    else codes "day " ++ (decimal asked ++ (codes " hasn't begun: day " ++ (decimal day ++ codes " is served\n")))
+
+-- The answer says that another day than this one is asked for.
+abbrev pub IsOfOtherDay : ℕ → ℕ → PageAnswer → Type 0
+IsOfOtherDay day asked page_answer =
+    (page_answer.kind ≡ kinds.Plain) × (page_answer.status ≡ status_of_other day asked) × (page_answer.text ≡ text_of_other day asked)
+
+-- no day is asked for, or this one
+abbrev pub asks_for : ℕ → Option ℕ → Bool
+asks_for day None = true
+asks_for day (Some asked) = asked == day
+
+-- The answer has the journal's lines behind this entry. (The first argument: of this day.) Or it says that another day is
+-- asked for.
+abbrev pub AnswersDay : Bool → Opened → Type 0 → ℕ → ℕ → ℕ → PageAnswer → Type 0
+AnswersDay true f may_fail day asked after page_answer =
+    IsOkOfKind kinds.Plain page_answer × AreLinesBehind f may_fail after page_answer.text
+AnswersDay false f may_fail day asked after page_answer = IsOfOtherDay day asked page_answer
+
+-- The answer names this day, which is served. It has the lines of the day's journal behind an entry, if no other day is
+-- asked for.
+abbrev pub AnswersJournal : Opened → Type 0 → ℕ → Option ℕ → ℕ → PageAnswer → Type 0
+AnswersJournal f may_fail day asked after page_answer =
+    (page_answer.day ≡ Some day) × AnswersDay (asks_for day asked) f may_fail day (unwrap_or asked day) after page_answer
+
+-- The answer fits this endpoint, of a site under a lock, the number of its day, and the counts of its connections:
 -- - `Page`: the status is 200, and the text is of the kind `Html`
 -- - `Metrics`: the status is 200, and the text is of the kind `Metrics`
 -- - `Health`: the answer reports the health of one moment
--- - `Journal`: the status is 200, the text is of the kind `Plain`, and it is the lines behind this entry
-abbrev pub FitsEndpoint : Opened → Type 0 → ConnectionCounts → Endpoint → PageAnswer → Type 0
-FitsEndpoint f may_fail connections endpoints.Page page_answer = IsOkOfKind kinds.Html page_answer
-FitsEndpoint f may_fail connections endpoints.Metrics page_answer = IsOkOfKind kinds.Metrics page_answer
-FitsEndpoint f may_fail connections endpoints.Health page_answer = IsHealthOf f may_fail connections page_answer
-FitsEndpoint f may_fail connections (endpoints.Journal after) page_answer =
-    IsOkOfKind kinds.Plain page_answer × AreLinesBehind f may_fail after page_answer.text
+-- - `Journal`: the status is 200, the text is of the kind `Plain`, and it is the lines behind this entry; or another day
+--   is asked for, and the answer says so
+abbrev pub FitsEndpoint : Opened → Type 0 → ℕ → ConnectionCounts → Endpoint → PageAnswer → Type 0
+FitsEndpoint f may_fail day connections endpoints.Page page_answer = IsOkOfKind kinds.Html page_answer
+FitsEndpoint f may_fail day connections endpoints.Metrics page_answer = IsOkOfKind kinds.Metrics page_answer
+FitsEndpoint f may_fail day connections endpoints.Health page_answer = IsHealthOf f may_fail connections page_answer
+FitsEndpoint f may_fail day connections (endpoints.Journal asked after) page_answer = AnswersJournal f may_fail day asked after page_answer
 
 -- The answer reports that memory ran out: it has the status 503 and the plain text "out of memory", with an LF.
 abbrev pub ReportsOutOfMemory : PageAnswer → Type 0
@@ -113,17 +155,17 @@ pub record Refuses (refusal : Refusal) (response : Response) : Type 0 where
   pub fields : fields_of response ≡ fields_refusing refusal
   pub text : response.body.items ≡ text_refusing refusal
 
--- The response has the status and the text of `page_answer`, and the header fields for its kind of text.
+-- The response has the status and the text of `page_answer`, and the header fields for its kind of text and its day.
 pub record HasAnswer (page_answer : PageAnswer) (response : Response) : Type 0 where
   pub status : response.status ≡ page_answer.status
-  pub fields : fields_of response ≡ fields page_answer.kind
+  pub fields : fields_of response ≡ fields page_answer.kind ++ day_field page_answer.day
   pub text : response.body.items ≡ page_answer.text
 
 -- The response answers a request for which `requested_endpoint` gives this result:
 -- - a refusal: the response refuses the request for this reason
 -- - an endpoint: the response has an answer that fits the endpoint, or reports that memory ran out
-abbrev pub IsAnswer : Opened → Type 0 → ConnectionCounts → Result Endpoint Refusal → Response → Type 0
-IsAnswer f may_fail connections (Err refusal) response = Refuses refusal response
-IsAnswer f may_fail connections (Ok endpoint) response =
+abbrev pub IsAnswer : Opened → Type 0 → ℕ → ConnectionCounts → Result Endpoint Refusal → Response → Type 0
+IsAnswer f may_fail day connections (Err refusal) response = Refuses refusal response
+IsAnswer f may_fail day connections (Ok endpoint) response =
     (page_answer : PageAnswer) × HasAnswer page_answer response
-    × (FitsEndpoint f may_fail connections endpoint page_answer ⊎ ReportsOutOfMemory page_answer)
+    × (FitsEndpoint f may_fail day connections endpoint page_answer ⊎ ReportsOutOfMemory page_answer)

@@ -2,7 +2,7 @@
 use Rattle.std.specs.Prelude.{◌==◌, nat_lt, ℕ, List, [], ◌∷◌, length, take, drop, map, codes, Bool, true, false}
 use Rattle.std.specs.Prelude.{Option, Some, None, option_map, Result, Ok, Err, if◌then◌else◌, ◌&&◌, ◌||◌, not}
 use Rattle.std.specs.Char.{to_ascii_lowercase, is_ascii_digit}
-use Rattle.std.specs.List.{list_all}
+use Rattle.std.specs.List.{list_all, before_first, after_first, position_or_len}
 use Rattle.std.specs.Str.{bytes_eq}
 use Rattle.http.specs.declared.request.Parts.{Parts}
 use Rattle.http_header.specs.HeaderMap.{get}
@@ -57,19 +57,38 @@ is_of_http head = is_allowed_scheme (uri_scheme head.uri)
 abbrev pub is_get_or_head : List ℕ → Bool
 is_get_or_head method = bytes_eq method (codes "GET") || bytes_eq method (codes "HEAD")
 
--- the endpoint `Journal` for the lines after the entry with this number, or, for a fault, the refusal `BadQuery`
-abbrev pub lines_after : Result ℕ LineFault → Result Endpoint Refusal
-lines_after (Ok n) = Ok (endpoints.Journal n)
-lines_after (Err _) = Err refusals.BadQuery
+-- the endpoint `Journal` for this day's lines after the entry with this number, or, for a fault, the refusal `BadQuery`
+abbrev pub lines_after : Option ℕ → Result ℕ LineFault → Result Endpoint Refusal
+lines_after day (Ok n) = Ok (endpoints.Journal day n)
+lines_after day (Err _) = Err refusals.BadQuery
 
--- What this query of the path "/journal" asks for:
+-- What this query asks for, of this day or, if it is None, of the day that is served:
 -- - None: the journal's lines from the first entry on
 -- - "after=" and a number below 2^32, in decimal without leading zeros: the lines after the entry with this number
 -- - any other query: it is refused
+abbrev pub lines_in : Option ℕ → Option (List ℕ) → Result Endpoint Refusal
+lines_in day None = Ok (endpoints.Journal day 0)
+lines_in day (Some query) =
+    if bytes_eq (take 6 query) (codes "after=") then lines_after day (number 32 (drop 6 query)) else Err refusals.BadQuery
+
+-- What the rest of a query asks for, of the day with this number, which is from 1.
+abbrev pub lines_of_day : Result ℕ LineFault → Option (List ℕ) → Result Endpoint Refusal
+lines_of_day (Ok day) rest = if day == 0 then Err refusals.BadQuery else lines_in (Some day) rest
+lines_of_day (Err _) rest = Err refusals.BadQuery
+
+-- what is behind the first "&" (38) of a query, if it has one
+abbrev pub behind_and : List ℕ → Option (List ℕ)
+behind_and query =
+    if nat_lt (position_or_len (λ byte. byte == 38) query) (length query) then Some (after_first (λ byte. byte == 38) query) else None
+
+-- What this query of the path "/journal" asks for. Before the first "&", or the end, it can have "day=" and the day's
+-- number, in decimal without leading zeros; then the rest, if there is one, says which lines of this day.
 abbrev pub journal_at : Option (List ℕ) → Result Endpoint Refusal
-journal_at None = Ok (endpoints.Journal 0)
+journal_at None = lines_in None None
 journal_at (Some query) =
-    if bytes_eq (take 6 query) (codes "after=") then lines_after (number 32 (drop 6 query)) else Err refusals.BadQuery
+    if bytes_eq (take 4 (before_first (λ byte. byte == 38) query)) (codes "day=")
+    then lines_of_day (number 32 (drop 4 (before_first (λ byte. byte == 38) query))) (behind_and query)
+    else lines_in None (Some query)
 
 -- the endpoint at a path with this query, or why the request is refused
 abbrev pub endpoint_at : List ℕ → Option (List ℕ) → Result Endpoint Refusal

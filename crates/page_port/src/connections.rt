@@ -239,6 +239,13 @@ impl ConnectionCounts {
         Ok(door_counts)
     }
 
+    /// Counts all workers as those that have a thread.
+    pub fn all_began(&self) {
+        for counters in [&self.tills, &self.dispensers, &self.owner] {
+            counters.began.store(counters.workers, Ordering::SeqCst);
+        }
+    }
+
     /// Counts that a worker with this role has a thread.
     pub fn began(&self, role: Role) {
         self.counted(role).began.fetch_add(1, Ordering::SeqCst);

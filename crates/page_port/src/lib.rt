@@ -12,4 +12,4 @@ mod timings;
 
 pub use connections::ConnectionCounts;
 pub use journal_counts::JournalCounts;
-pub use port::PagePort;
+pub use port::{PageListener, PagePort};

@@ -1,14 +1,15 @@
 //! The answer to a request on the page port.
-ghost use Rattle.std.specs.Prelude.{◌≡◌, ◌++◌, ◌∷◌, [], codes, OnOk};
+ghost use Rattle.std.specs.Prelude.{◌≡◌, ◌++◌, ◌∷◌, [], None, codes, OnOk};
+ghost use Rattle.std.specs.Fmt.{decimal};
 ghost use Rattle.http_server.specs.Response.{IsBlank, fields_of};
 ghost use Rattle.page_port.specs.Answering.{HasAnswer, Refuses, fields, fields_refusing, type_of};
 ghost use Rattle.page_port.specs.declared.page_answer.MediaType.TheVariants.{Plain};
 
 use crate::routing::Refusal;
 use bytes::Bytes;
-use http::{HeaderValue, StatusCode, header};
+use http::{HeaderName, HeaderValue, StatusCode, header};
 use http_server::Response;
-use std::alloc::AllocError;
+use std::alloc::{AllocError, Global};
 
 #[derive(Clone, Copy)]
 pub enum MediaType {
@@ -35,6 +36,8 @@ impl MediaType {
 pub struct PageAnswer {
     pub status: StatusCode,
     pub kind: MediaType,
+    /// The served day, if the answer names it.
+    pub day: Option<u32>,
     pub text: Bytes,
 }
 
@@ -42,25 +45,36 @@ impl PageAnswer {
     pub fn plain_answer(status: StatusCode, text: &'static str) -> PageAnswer
         ensures status { result.status ≡ status }
         ensures kind { result.kind ≡ Plain }
+        ensures day { result.day ≡ None }
         ensures text { result.text ≡ text.now }
     {
         PageAnswer {
             status,
             kind: MediaType::Plain,
+            day: None,
             text: Bytes::from_static(text.as_bytes()),
         }
     }
 
     /// Fills `response`, which must be blank. One header field ends the connection after the answer, so that a waiting
     /// client can be served.
-    pub fn fill_response(self, response: &mut Response) -> Result<(), AllocError>
+    pub fn fill_response(self, alloc: Global, response: &mut Response) -> Result<(), AllocError>
         requires { IsBlank response.old }
         ensures { OnOk result (HasAnswer self response.new) }
     {
-        let PageAnswer { status, kind, text } = self;
+        let PageAnswer {
+            status,
+            kind,
+            day,
+            text,
+        } = self;
         response.status = status;
         response.body.push(text)?;
-        add_fields(kind, response)
+        add_fields(kind, response)?;
+        match day {
+            Some(day) => add_day(alloc, day, response),
+            None => Ok(()),
+        }
     }
 }
 
@@ -83,6 +97,19 @@ fn add_fields(kind: MediaType, response: &mut Response) -> Result<(), AllocError
     response.add_header(header::CONNECTION, HeaderValue::from_static("close"))
 }
 
+/// Names the day that is served.
+fn add_day(alloc: Global, day: u32, response: &mut Response) -> Result<(), AllocError>
+    ensures fields { OnOk result (fields_of response.new
+        ≡ fields_of response.old ++ (codes "x-fc-day", decimal day) ∷ []) }
+    ensures status { response.new.status ≡ response.old.status }
+    ensures body { response.new.body ≡ response.old.body }
+{
+    match HeaderValue::from_string(format!(in alloc; "{day}")?) {
+        Ok(value) => response.add_header(HeaderName::from_static("x-fc-day"), value),
+        Err(_) => Err(AllocError),
+    }
+}
+
 /// Names GET and HEAD where the method is another. `response` must have exactly the fields of a plain answer.
 fn add_allowed(refusal: Refusal, response: &mut Response) -> Result<(), AllocError>
     requires { fields_of response.old ≡ fields Plain }
@@ -101,10 +128,10 @@ fn add_allowed(refusal: Refusal, response: &mut Response) -> Result<(), AllocErr
     }
 }
 
-pub fn refuse(refusal: Refusal, response: &mut Response) -> Result<(), AllocError>
+pub fn refuse(alloc: Global, refusal: Refusal, response: &mut Response) -> Result<(), AllocError>
     requires { IsBlank response.old }
     ensures { OnOk result (Refuses refusal response.new) }
 {
-    PageAnswer::plain_answer(refusal.status(), refusal.text()).fill_response(response)?;
+    PageAnswer::plain_answer(refusal.status(), refusal.text()).fill_response(alloc, response)?;
     add_allowed(refusal, response)
 }

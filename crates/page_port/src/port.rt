@@ -12,7 +12,7 @@ use site_lock::{Forecourt, Journal, SiteLedger};
 use std::alloc::Global;
 use std::hash::RandomState;
 use std::io::{self, ErrorKind};
-use std::net::{Net, Shutdown, SocketAddr, TcpListener, TcpStream};
+use std::net::{Net, SocketAddr, TcpListener, TcpStream};
 use std::os::fd::OwnedFd;
 use std::sync::Wait;
 use std::sync::atomic::{AtomicBool, Ordering};
@@ -28,9 +28,42 @@ const REST_MILLISECONDS: u64 = 5;
 /// How long it waits, in milliseconds, after a connection couldn't be accepted.
 const PAUSE_MILLISECONDS: u64 = 100;
 
+/// How long it waits, in milliseconds, for a connection, before it looks whether it has to return.
+const ACCEPT_MILLISECONDS: u64 = 20;
+
+/// How many rounds of turns its last clients get before it returns.
+const LAST_ROUNDS: u32 = 10;
+
 const MEMORY_PAGE: u64 = 4096;
 
-/// A port of 127.0.0.1 on which a browser or a script looks at a site while it is served.
+/// A port of 127.0.0.1, which stays open while one day after another is shown on it.
+#[derive(Drop)]
+pub struct PageListener {
+    listener: TcpListener,
+    keys: RandomState,
+}
+
+impl PageListener {
+    /// Opens a port of 127.0.0.1. `host` must be the same runtime as `rt`. The error is `InvalidInput` for a port above
+    /// 65,535.
+    pub fn open<H: Net<Listener = TcpListener, Stream = TcpStream>>(
+        rt: &HostRuntime,
+        host: &H,
+        port: u32,
+    ) -> io::Result<PageListener> {
+        let Ok(number) = u16::try_from(port) else {
+            return Err(io::Error::from(ErrorKind::InvalidInput));
+        };
+        let keys = RandomState::new(rt)?;
+        let listener = TcpListener::bind(host, SocketAddr::from(([127, 0, 0, 1], number)))?;
+        // The limit is the socket's, also for what waits to accept.
+        let again = TcpStream::from(OwnedFd::from(listener.try_clone()?));
+        again.set_read_timeout(Some(Duration::from_millis(ACCEPT_MILLISECONDS)))?;
+        Ok(PageListener { listener, keys })
+    }
+}
+
+/// A port of 127.0.0.1 on which a browser or a script looks at a site while a day of it is served.
 ///
 /// One thread serves up to 32 connections at once, and answers one request on each, so that a peer that hangs keeps
 /// nobody waiting. A request must come within 5 seconds (1 while 32 connections are served), and its answer be taken
@@ -38,31 +71,15 @@ const MEMORY_PAGE: u64 = 4096;
 #[derive(Drop)]
 pub struct PagePort<'a> {
     rt: &'a HostRuntime,
+    listener: &'a PageListener,
+    /// The number of the day, from 1.
+    pub(crate) day: u32,
     pub(crate) tills: u32,
-    listener: TcpListener,
-    /// A second handle of the listener's socket, by which `leave` shuts it down.
-    handle: TcpStream,
-    keys: RandomState,
     pub(crate) connections: ConnectionCounts,
     pub(crate) journal: Option<&'a JournalCounts>,
     /// How often answers took the site's lock, and how long they waited for it.
     pub(crate) waits: Timings,
     is_leaving: AtomicBool,
-}
-
-/// Opens a port of 127.0.0.1, with a second handle of its socket. The error is `InvalidInput` for a port above 65,535.
-fn listen<H: Net<Listener = TcpListener, Stream = TcpStream>>(
-    host: &H,
-    port: u32,
-) -> io::Result<(TcpListener, TcpStream)> {
-    let Ok(number) = u16::try_from(port) else {
-        return Err(io::Error::from(ErrorKind::InvalidInput));
-    };
-    let listener = TcpListener::bind(host, SocketAddr::from(([127, 0, 0, 1], number)))?;
-    match listener.try_clone() {
-        Ok(again) => Ok((listener, TcpStream::from(OwnedFd::from(again)))),
-        Err(error) => Err(error),
-    }
 }
 
 /// Gives each client a turn, and drops those that are over. The last client takes the place of one, and then has no
@@ -89,31 +106,41 @@ fn take_turns<S: Service, R: Clock>(rt: &R, clients: &mut Vec<Client>, service: 
     has_progressed
 }
 
+/// Gives the last clients some turns, those that do nothing for 50 milliseconds.
+fn take_last_turns<S: Service, R: Clock>(rt: &R, clients: &mut Vec<Client>, service: &mut S) {
+    for _ in 0..LAST_ROUNDS {
+        if clients.is_empty() {
+            return;
+        }
+        if !take_turns(rt, clients, service) {
+            thread::sleep(rt, Duration::from_millis(REST_MILLISECONDS));
+        }
+    }
+}
+
 impl<'a> PagePort<'a> {
-    /// Opens a port of 127.0.0.1. `journal` has the counts of the site's journal file, if there is one. `host` must be
-    /// the same runtime as `rt`.
-    pub fn open<H: Net<Listener = TcpListener, Stream = TcpStream>>(
+    /// Shows day `day` of a site. `journal` has the counts of its journal file, if there is one.
+    pub fn new(
         rt: &'a HostRuntime,
-        host: &H,
-        port: u32,
+        listener: &'a PageListener,
+        day: u32,
         tills: u32,
         connections: ConnectionCounts,
         journal: Option<&'a JournalCounts>,
-    ) -> io::Result<PagePort<'a>> {
-        let keys = RandomState::new(rt)?;
-        match listen(host, port) {
-            Ok((listener, handle)) => Ok(PagePort {
-                rt,
-                tills,
-                listener,
-                handle,
-                keys,
-                connections,
-                journal,
-                waits: Timings::new(),
-                is_leaving: AtomicBool::new(false),
-            }),
-            Err(error) => Err(error),
+    ) -> PagePort<'a>
+        ensures day { result.day ≡ day }
+        ensures tills { result.tills ≡ tills }
+        ensures connections { result.connections ≡ connections }
+    {
+        PagePort {
+            rt,
+            listener,
+            day,
+            tills,
+            connections,
+            journal,
+            waits: Timings::new(),
+            is_leaving: AtomicBool::new(false),
         }
     }
 
@@ -160,12 +187,12 @@ impl<'a> PagePort<'a> {
         pages.parse::<u64>().ok()?.checked_mul(MEMORY_PAGE)
     }
 
-    /// Accepts the next connection. Waits for it if there is no client; else the error is `WouldBlock` if none has
-    /// come. A connection that can't be set up, as its peer has gone already, is closed.
+    /// Accepts the next connection. The error is `WouldBlock` if none has come, for a moment if there is no client. A connection that can't be set up, as its peer has gone already, is closed.
     fn accept<R: Clock>(&self, rt: &R, clients: &mut Vec<Client>) -> io::Result<()> {
-        self.listener.set_nonblocking(!clients.is_empty())?;
-        let (stream, _) = self.listener.accept()?;
-        match Client::new(rt, self.alloc(), self.keys, stream) {
+        let PageListener { listener, keys } = self.listener;
+        listener.set_nonblocking(!clients.is_empty())?;
+        let (stream, _) = listener.accept()?;
+        match Client::new(rt, self.alloc(), *keys, stream) {
             Ok(client) => Ok(clients.push(client)?),
             Err(_) => Ok(()),
         }
@@ -179,8 +206,7 @@ impl<'a> PagePort<'a> {
         thread::sleep(self.rt, Duration::from_millis(PAUSE_MILLISECONDS));
     }
 
-    /// Accepts the next connection if there are fewer than 32 clients, and returns whether there was one. Waits for it
-    /// if there is no client. `has_failed` says whether accepting failed since the last connection came.
+    /// Accepts the next connection if there are fewer than 32 clients, and returns whether there was one. `has_failed` says whether accepting failed since the last connection came.
     fn accept_next<R: Clock>(
         &self,
         rt: &R,
@@ -196,7 +222,7 @@ impl<'a> PagePort<'a> {
                 true
             }
             Err(error) => {
-                if error.kind() != ErrorKind::WouldBlock && !self.is_leaving() {
+                if error.kind() != ErrorKind::WouldBlock {
                     self.pause(*has_failed, &error);
                     *has_failed = true;
                 }
@@ -209,7 +235,8 @@ impl<'a> PagePort<'a> {
         self.is_leaving.load(Ordering::SeqCst)
     }
 
-    /// Answers requests until `leave` is called.
+    /// Answers requests until `leave` is called. Then no answer is cut off that can be made and taken at once; who comes
+    /// later waits for the next day.
     pub fn watch<L: SiteLedger, J: Journal, R: Wait + Clock>(
         &self,
         rt: &R,
@@ -225,20 +252,20 @@ impl<'a> PagePort<'a> {
         let mut clients = Vec::new(self.alloc());
         let mut has_failed = false;
         for _ in rt.forever() {
-            let has_come = self.accept_next(rt, &mut clients, &mut has_failed);
             if self.is_leaving() {
                 break;
             }
+            let has_come = self.accept_next(rt, &mut clients, &mut has_failed);
             let has_progressed = take_turns(rt, &mut clients, &mut answers);
             if !has_come && !has_progressed {
                 thread::sleep(rt, Duration::from_millis(REST_MILLISECONDS));
             }
         }
+        take_last_turns(rt, &mut clients, &mut answers);
     }
 
-    /// Asks `watch` to return soon. Its wait for a connection ends, since this shuts the socket down.
+    /// Asks `watch` to return soon.
     pub fn leave(&self) {
         self.is_leaving.store(true, Ordering::SeqCst);
-        let _ = self.handle.shutdown(Shutdown::Both);
     }
 }

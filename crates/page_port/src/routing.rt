@@ -1,13 +1,13 @@
 //! What a request on the page port asks for, or why it is refused.
-ghost use Rattle.std.specs.Prelude.{◌≡◌, option_copied};
+ghost use Rattle.std.specs.Prelude.{◌≡◌, ◌==◌, option_copied};
 ghost use Rattle.std.specs.Char.{is_ascii_digit};
-ghost use Rattle.std.specs.List.{list_all};
+ghost use Rattle.std.specs.List.{before_first, list_all};
 ghost use Rattle.http.specs.Request.{head_of};
 ghost use Rattle.http_uri.specs.Uri.{uri_authority, uri_query};
 ghost use Rattle.till_request.specs.Grammar.{number};
 ghost use Rattle.page_port.specs.Answering.{status_of, text_refusing};
 ghost use Rattle.page_port.specs.Asking.{requested_endpoint, field_host, is_for_this_machine, is_of_http, is_allowed_host, is_loopback_host, is_named, is_empty_or_port, is_get_or_head};
-ghost use Rattle.page_port.specs.Asking.{lines_after, journal_at, endpoint_at};
+ghost use Rattle.page_port.specs.Asking.{lines_after, lines_in, lines_of_day, behind_and, journal_at, endpoint_at};
 
 use bytes::Bytes;
 use http::{Request, StatusCode, header};
@@ -19,8 +19,8 @@ pub enum Endpoint {
     /// For Prometheus.
     Metrics,
     Health,
-    /// The journal's lines behind the entry with this number.
-    Journal(u32),
+    /// The lines of a day's journal, of the served one where none is named, behind the entry with the number `after`.
+    Journal { day: Option<u32>, after: u32 },
 }
 
 #[derive(Clone, Copy)]
@@ -31,7 +31,7 @@ pub enum Refusal {
     OtherScheme,
     NoSuchPath,
     OtherMethod,
-    /// The query of `/journal` isn't `after=` and a number below 2^32 in plain digits.
+    /// The query of `/journal` isn't made of a day, 1 to 2^32 - 1, and `after`, a number below 2^32, in plain digits.
     BadQuery,
 }
 
@@ -55,9 +55,10 @@ impl Refusal {
             Refusal::OtherHost => "this page is for localhost, 127.0.0.1 and [::1] alone\n",
             Refusal::OtherScheme => "only http is answered here\n",
             Refusal::NoSuchPath =>
-                "nothing is here: try /, /metrics, /healthz or /journal?after=N\n",
+                "nothing is here: try /, /metrics, /healthz or /journal?day=D&after=N\n",
             Refusal::OtherMethod => "only GET and HEAD are answered here\n",
-            Refusal::BadQuery => "write after=N, with N from 0 to 4294967295 in plain digits\n",
+            Refusal::BadQuery =>
+                "write after=N, day=D or day=D&after=N, with N from 0 and D from 1 to 4294967295 in plain digits\n",
         }
     }
 }
@@ -95,34 +96,82 @@ fn is_loopback_host(host: &[u8]) -> bool
     is_named(host, b"localhost") || is_named(host, b"127.0.0.1") || is_named(host, b"[::1]")
 }
 
-fn lines_after(digits: &[u8]) -> Result<Endpoint, Refusal>
-    ensures { result ≡ lines_after (number 32 digits.now) }
+fn lines_after(day: Option<u32>, digits: &[u8]) -> Result<Endpoint, Refusal>
+    ensures { result ≡ lines_after day (number 32 digits.now) }
 {
     match number_u32(digits) {
-        Ok(number) => Ok(Endpoint::Journal(number)),
+        Ok(after) => Ok(Endpoint::Journal { day, after }),
         Err(_) => Err(Refusal::BadQuery),
     }
 }
 
-/// Where a query of `/journal` begins: at the first entry, or behind the one that `after=` names.
-fn journal_at(query: Option<&[u8]>) -> Result<Endpoint, Refusal>
-    ensures { result ≡ journal_at (option_copied query.entry) }
+/// Where the lines of a day begin: at the first entry, or behind the one that `after=` names.
+fn lines_in(day: Option<u32>, query: Option<&str>) -> Result<Endpoint, Refusal>
+    ensures { result ≡ lines_in day (option_copied query.entry) }
 {
     let Some(query) = query else {
-        return Ok(Endpoint::Journal(0));
+        return Ok(Endpoint::Journal { day, after: 0 });
     };
+    let query = query.as_bytes();
     if query.len() < 6 {
         return Err(Refusal::BadQuery);
     }
     let (key, digits) = query.split_at(6);
     if key == b"after=".as_slice() {
-        lines_after(digits)
+        lines_after(day, digits)
     } else {
         Err(Refusal::BadQuery)
     }
 }
 
-fn endpoint_at(path: &[u8], query: Option<&[u8]>) -> Result<Endpoint, Refusal>
+/// The lines of the day that `digits` name; `query` is what follows them.
+fn lines_of_day(digits: &[u8], query: Option<&str>) -> Result<Endpoint, Refusal>
+    ensures { result ≡ lines_of_day (number 32 digits.now) (option_copied query.entry) }
+{
+    match number_u32(digits) {
+        Ok(day) if day > 0 => lines_in(Some(day), query),
+        _ => Err(Refusal::BadQuery),
+    }
+}
+
+fn before_and(query: &str) -> &str
+    ensures { result.now ≡ before_first (λ byte. byte == 38) query.now }
+{
+    match query.split_once('&') {
+        Some((front, _)) => front,
+        None => query,
+    }
+}
+
+fn behind_and(query: &str) -> Option<&str>
+    ensures { option_copied result ≡ behind_and query.now }
+{
+    match query.split_once('&') {
+        Some((_, rest)) => Some(rest),
+        None => None,
+    }
+}
+
+/// Which lines a query of `/journal` asks for. A day stands before the entry.
+fn journal_at(query: Option<&str>) -> Result<Endpoint, Refusal>
+    ensures { result ≡ journal_at (option_copied query.entry) }
+{
+    let Some(text) = query else {
+        return lines_in(None, None);
+    };
+    let first = before_and(text).as_bytes();
+    if first.len() < 4 {
+        return lines_in(None, query);
+    }
+    let (key, digits) = first.split_at(4);
+    if key == b"day=".as_slice() {
+        lines_of_day(digits, behind_and(text))
+    } else {
+        lines_in(None, query)
+    }
+}
+
+fn endpoint_at(path: &[u8], query: Option<&str>) -> Result<Endpoint, Refusal>
     ensures { result ≡ endpoint_at path.now (option_copied query.entry) }
 {
     if path == b"/".as_slice() {
@@ -191,20 +240,17 @@ fn is_allowed_host(host: Option<&[u8]>) -> bool
 }
 
 /// The query of a request's target, without its `?`.
-fn query_of(request: &Request<Bytes>) -> Option<&[u8]>
+fn query_of(request: &Request<Bytes>) -> Option<&str>
     ensures { option_copied result ≡ uri_query (head_of request.now).uri }
 {
-    match request.uri().query() {
-        Some(query) => Some(query.as_bytes()),
-        None => None,
-    }
+    request.uri().query()
 }
 
 /// What a request asks for. Its hosts are checked first, then its scheme, its method, its path, and last its query.
 pub fn requested_endpoint(request: &Request<Bytes>) -> Result<Endpoint, Refusal>
     // proved: A request for another host than this machine is refused
     // proved: Only GET and HEAD are
-    // proved: The number behind `after=` is read as it is
+    // proved: The numbers behind `day=` and `after=` are read as they are
     ensures { result ≡ requested_endpoint (head_of request.now) }
 {
     if !is_for_this_machine(request) {

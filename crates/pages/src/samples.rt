@@ -64,6 +64,7 @@ fn add_sample(text: &mut TextBuilder, form: &str, label: Text, value: u64) {
 }
 
 const JOURNAL: &str = singles!(
+    "fc_day" is a "gauge": "Number of the day that is served.";
     "fc_entries" is a "gauge": "Entries of the journal.";
     "fc_entries_limit" is a "gauge": "Entries that the journal can have.";
     "fc_journal_failed" is a "gauge": "1 if the journal failed, else 0.";
@@ -75,13 +76,14 @@ const MEMORY: &str = singles!(
 );
 
 const LOCK_WAITS: &str = summary!(
-    "fc_look_lock_wait_seconds": "Waits of looks for the site's lock, in seconds."
+    "fc_look_lock_wait_seconds": "Waits of looks for the site's lock since this day is served, in seconds."
 );
 
 const BYTES: &str =
     singles!("fc_journal_bytes" is a "gauge": "Length of the journal's file, in bytes.");
 
-const SYNCS: &str = summary!("fc_journal_sync_seconds": "Syncs of the journal's file, in seconds.");
+const SYNCS: &str =
+    summary!("fc_journal_sync_seconds": "Syncs of the journal's file since this day is served, in seconds.");
 
 fn loads(tally: &Tally) -> usize {
     tally
@@ -93,6 +95,7 @@ fn loads(tally: &Tally) -> usize {
 
 fn add_journal(text: &mut TextBuilder, station: &StationSnapshot<'_>) {
     let values = [
+        digits(station.day),
         digits(station.entries),
         Text::Number(ENTRIES),
         Text::Number(u64::from(station.has_failed)),
@@ -345,7 +348,9 @@ fn add_peers(text: &mut TextBuilder, role_counts: &[RoleCounts]) {
             role.open,
         );
     }
-    text.add(head!("fc_connections_total" is a "counter": "Connections so far, by role."));
+    text.add(
+        head!("fc_connections_total" is a "counter": "Connections since this day is served, by role."),
+    );
     for role in role_counts {
         let name = Text::Words(role_name(role.role));
         add_sample(
@@ -372,12 +377,14 @@ fn add_door(text: &mut TextBuilder, start: &str, door: &DoorCounts<'_>, value: u
 }
 
 fn add_doors(text: &mut TextBuilder, doors: &[DoorCounts<'_>]) {
-    text.add(head!("fc_lines_total" is a "counter": "Lines that were read, by door."));
+    text.add(
+        head!("fc_lines_total" is a "counter": "Lines that were read since this day is served, by door."),
+    );
     for door in doors {
         add_door(text, "fc_lines_total{door=\"", door, door.lines);
     }
     text.add(
-        head!("fc_turned_away_total" is a "counter": "Connections in another protocol, by door."),
+        head!("fc_turned_away_total" is a "counter": "Connections in another protocol since this day is served, by door."),
     );
     for door in doors {
         add_door(text, "fc_turned_away_total{door=\"", door, door.turned_away);

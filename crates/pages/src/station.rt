@@ -8,6 +8,8 @@ use till_request::Role;
 #[derive(Clone, Copy)]
 pub struct StationSnapshot<'a> {
     pub tills: u32,
+    /// The number of the served day, from 1; 1 also where no days are served.
+    pub day: u32,
     pub entries: u32,
     /// What the next day would begin with if the site were closed now.
     pub next_opening: &'a Opening,
@@ -52,11 +54,11 @@ pub struct RoleCounts {
     /// How many have begun, and not ended.
     pub workers: u32,
     pub open: u64,
-    /// Since the serving of the site began.
+    /// Since this day is served.
     pub total: u64,
 }
 
-/// What was counted at a door since the serving of the site began.
+/// What was counted at a door since this day is served.
 #[derive(Clone, Copy)]
 pub struct DoorCounts<'a> {
     /// `127.0.0.1:` and a port, or the path of a socket.
