@@ -3,11 +3,10 @@ ghost use Rattle.std.specs.Prelude.{◌≡◌, is_some};
 
 use crate::day_end::second;
 use crate::doors::{DoorAddress, DoorListing};
-use crate::serve::ServedBy;
 use file_jobs::messages::print_message;
 use page_port::ConnectionCounts;
-use site_config::Door;
-use site_server::{Limiter, Notices, SessionFailure, SessionFault, ThreadCounts};
+use site_config::{Door, Serve};
+use site_server::{Limiter, Notices, SessionFailure, SessionFault, Stop, ThreadCounts};
 use std::fmt::{self, Display};
 use std::io;
 use std::sync::atomic::{AtomicU64, Ordering};
@@ -32,8 +31,12 @@ pub struct OperatorReports<'a, H: Wait + Clock> {
     strays: AtomicU64,
     /// The last minute in which a line of another door was reported.
     stray_minute: AtomicU64,
-    by: ServedBy<'a>,
+    serve: &'a Serve,
     connections: Option<&'a ConnectionCounts>,
+    /// Whether the doors are new, and not those of the day before.
+    is_first: bool,
+    /// What asks the workers to stop, if anything does.
+    stop: Option<&'a Stop>,
 }
 
 /// A peer's name, such as `till 3` or `a dispenser`.
@@ -125,8 +128,10 @@ impl<'a, H: Wait + Clock> OperatorReports<'a, H> {
     pub fn new(
         rt: &'a HostRuntime,
         host: &'a H,
-        by: ServedBy<'a>,
+        serve: &'a Serve,
         connections: Option<&'a ConnectionCounts>,
+        is_first: bool,
+        stop: Option<&'a Stop>,
     ) -> OperatorReports<'a, H> {
         OperatorReports {
             rt,
@@ -135,8 +140,10 @@ impl<'a, H: Wait + Clock> OperatorReports<'a, H> {
             strangers: Mutex::new(Limiter::new(MOST_STRANGERS_IN_MINUTE)),
             strays: AtomicU64::new(0),
             stray_minute: AtomicU64::new(u64::MAX),
-            by,
+            serve,
             connections,
+            is_first,
+            stop,
         }
     }
 
@@ -163,7 +170,7 @@ impl<'a, H: Wait + Clock> OperatorReports<'a, H> {
         let Some(connections) = self.connections else {
             return;
         };
-        if self.by.is_first {
+        if self.is_first {
             return;
         }
         let ThreadCounts {
@@ -239,7 +246,7 @@ impl<H: Wait + Clock> Notices for OperatorReports<'_, H> {
         if let Some(connections) = self.connections {
             connections.turned_away(role, pass);
         }
-        let Some(door) = door_at(&self.by.serve.doors, pass) else {
+        let Some(door) = door_at(&self.serve.doors, pass) else {
             return;
         };
         if self.is_stranger_admitted() {
@@ -275,7 +282,7 @@ impl<H: Wait + Clock> Notices for OperatorReports<'_, H> {
 
     fn began(&self, role: Role, _pass: u32) {
         match self.connections {
-            Some(connections) if self.by.is_first => connections.began(role),
+            Some(connections) if self.is_first => connections.began(role),
             // All workers are counted already.
             Some(_) | None => {}
         }
@@ -287,10 +294,10 @@ impl<H: Wait + Clock> Notices for OperatorReports<'_, H> {
             print_message(self.rt, &ThreadsFound(threads));
             self.count_lacking(threads);
         }
-        if self.by.is_first && threads.serves_each_role() {
+        if self.is_first && threads.serves_each_role() {
             let listing = DoorListing {
-                doors: &self.by.serve.doors,
-                page_port: self.by.serve.page_port,
+                doors: &self.serve.doors,
+                page_port: self.serve.page_port,
             };
             print_message(self.rt, &listing);
         }
@@ -309,7 +316,7 @@ impl<H: Wait + Clock> Notices for OperatorReports<'_, H> {
     }
 
     fn left(&self, role: Role, _pass: u32) {
-        match (self.connections, self.by.stop) {
+        match (self.connections, self.stop) {
             // A worker of the next day goes on in its place.
             (Some(_), Some(stop)) if stop.is_asked() => {}
             (Some(connections), _) => connections.left(role),

@@ -3,18 +3,18 @@ use crate::day_end::{end_of, second};
 use crate::day_times::DayTimes;
 use crate::kept::{AnswerAfter, KeptBy, new_stop, open_synced, print_error, serve_on};
 use crate::serve::{OpenDoors, ServedBy, open_page, open_site_doors, print_end, served};
-use day_report::Sums;
+use days::Closed;
 use file_jobs::files::{is_input, text_of};
 use file_jobs::job_error::at_file;
 use file_jobs::messages::print_message;
-use file_jobs::newest::{check_newest, newest_day};
+use file_jobs::newest::{check_newest, day_after_ended, newest_day};
 use file_jobs::settings::settings_in;
 use file_jobs::{
-    DayFile, DayFiles, DayToServe, FAILED, Folder, FoundFile, JobError, OpenJournal, Part, Place,
+    DayFile, DayFiles, DayToServe, EndedDay, FAILED, Folder, FoundFile, HashedSite, JobError,
+    OpenJournal, Part, Place,
 };
 use page_port::PageListener;
 use site_config::{Serve, Settings};
-use site_core::Watched;
 use site_server::{Crew, Stop};
 use std::alloc::AllocError;
 use std::fs::{self, File, Files};
@@ -56,7 +56,7 @@ struct Given {
 #[derive(Clone, Copy)]
 struct ServedAt<'a> {
     serve: &'a Serve,
-    page: Option<&'a PageListener>,
+    page: &'a Option<PageListener>,
     stop: &'a Stop,
 }
 
@@ -65,11 +65,22 @@ struct ServedAt<'a> {
 struct BegunDay {
     number: u32,
     path: String,
-    audited: Watched<Sums>,
+    audited: HashedSite,
     file: File,
     found: FoundFile,
     /// The moment at which the end of the day before is tried again, if it failed.
     retry: Option<u64>,
+    /// The day before, if it has just ended.
+    before: Option<Closed>,
+}
+
+/// A day that was served to its end. Its journal's file is locked.
+#[derive(Drop)]
+struct ServedDay {
+    number: u32,
+    path: String,
+    closed: Closed,
+    file: File,
 }
 
 impl Days<'_> {
@@ -85,6 +96,43 @@ impl Days<'_> {
             config,
             is_new_day,
         )?;
+        self.open(&newest, text, None)
+    }
+
+    /// Closes the day that was served, and opens the next one; or that day again, if it has no entry.
+    fn begin_after(&self, text: &[u8], served: ServedDay) -> Result<BegunDay, JobError> {
+        let Settings { config, .. } = settings_in(self.rt, self.config_name, text)?;
+        let ServedDay {
+            number,
+            path,
+            closed,
+            file,
+        } = served;
+        let ended = EndedDay {
+            number,
+            path: &path,
+            file: &file,
+            closed: &closed,
+        };
+        let newest = day_after_ended(
+            self.rt,
+            &self.folder,
+            self.config_name,
+            text,
+            config,
+            &ended,
+        )?;
+        drop(file);
+        self.open(&newest, text, Some(closed))
+    }
+
+    /// Opens the journal of `newest`, before which `before` has just ended.
+    fn open(
+        &self,
+        newest: &DayToServe,
+        text: &[u8],
+        before: Option<Closed>,
+    ) -> Result<BegunDay, JobError> {
         let path = self.folder.file(self.rt, newest.number, Part::Journal)?;
         let OpenJournal {
             audited,
@@ -92,7 +140,7 @@ impl Days<'_> {
             found,
             ..
         } = open_synced(self.rt, &newest.config, &path, self.after)?;
-        keep_config(self.rt, self.folder, &newest, text)?;
+        keep_config(self.rt, self.folder, newest, text)?;
         Ok(BegunDay {
             number: newest.number,
             path,
@@ -100,6 +148,7 @@ impl Days<'_> {
             file,
             found,
             retry: None,
+            before,
         })
     }
 
@@ -121,10 +170,10 @@ impl Days<'_> {
         &self,
         host: &H,
         text: &[u8],
-        served: u32,
+        served: ServedDay,
     ) -> Result<BegunDay, JobError> {
-        self.check_newest(served)?;
-        let failure = match self.begin(text, true) {
+        self.check_newest(served.number)?;
+        let failure = match self.begin_after(text, served) {
             Ok(day) => return Ok(day),
             Err(job_error) => job_error,
         };
@@ -160,7 +209,7 @@ impl Days<'_> {
         }
     }
 
-    /// Serves a day until it ends, or until the connections of its crew are used up.
+    /// Serves a day until it ends, or until the connections of its crew are used up. Returns its close.
     fn serve<
         H: Files + Net<Listener = TcpListener, Stream = TcpStream> + Threads + Wait + Clock + Sync,
     >(
@@ -171,7 +220,7 @@ impl Days<'_> {
         crew: Crew,
         day: BegunDay,
         is_first: bool,
-    ) -> Result<(), JobError> {
+    ) -> Result<ServedDay, JobError> {
         let BegunDay {
             number,
             path,
@@ -179,12 +228,13 @@ impl Days<'_> {
             file,
             found,
             retry,
+            before,
         } = day;
         let ServedAt { serve, page, stop } = at;
         let goes_on = serve.connections.is_none();
         let ends = match retry {
             Some(retry) => Some(retry),
-            None if goes_on => end_of(audited.site(), times, second(host)),
+            None if goes_on => end_of(audited.watched.site(), times, second(host)),
             None => None,
         };
         let kept_by = KeptBy {
@@ -193,7 +243,6 @@ impl Days<'_> {
                 serve,
                 day: number,
                 is_first,
-                stop: Some(stop),
             },
             stop,
             after: self.after,
@@ -207,7 +256,13 @@ impl Days<'_> {
             file,
             found,
         };
-        serve_on(self.rt, host, kept_by, crew, kept)
+        let (closed, file) = serve_on(self.rt, host, kept_by, crew, kept, before)?;
+        Ok(ServedDay {
+            number,
+            path,
+            closed,
+            file,
+        })
     }
 
     /// Serves a day, and when it ends the next one, until all connections are used up.
@@ -230,14 +285,14 @@ impl Days<'_> {
                 break;
             };
             let number = day.number;
-            self.serve(host, at, &given.times, crew, day, is_first)?;
+            let served = self.serve(host, at, &given.times, crew, day, is_first)?;
             is_first = false;
             if at.stop.is_asked() {
                 at.stop.withdraw();
                 if let Some(new) = self.reread() {
                     given = new;
                 }
-                let day = self.begin_next(host, &given.text, number)?;
+                let day = self.begin_next(host, &given.text, served)?;
                 if day.number != number {
                     print_message(self.rt, &format_args!("day {} is served", day.number));
                 }
@@ -308,7 +363,7 @@ pub fn serve_days<
     let page = open_page(rt, host, &serve)?;
     let at = ServedAt {
         serve: &serve,
-        page: page.as_ref(),
+        page: &page,
         stop: &stop,
     };
     days.serve_each(host, at, crew, day, Given { text, times })?;

@@ -14,7 +14,7 @@ use crate::files::text_in;
 use crate::folder::{DayFile, DayFiles, Folder, Part, Span, day_after};
 use crate::job_error::{JobError, at_file};
 use crate::messages::{Place, print_message};
-use crate::open_journals::{OpenJournal, open_to_close};
+use crate::open_journals::open_to_close;
 use crate::opening::{begin_with, opening_in, refuse_fault, refuse_words};
 use crate::settings::settings_in;
 use crate::statuses::FAILED;
@@ -24,6 +24,7 @@ use days::{Closed, Misfit, OpeningFile, Uncarried};
 use site_core::{Config, Opening, OpeningFault};
 use std::alloc::{AllocError, Global};
 use std::fmt::{self, Display};
+use std::fs::File;
 use std::io::Read;
 
 /// The day that is served: the configuration with which its site begins, and whether that is the one of the folder,
@@ -67,6 +68,83 @@ pub fn newest_day<F: DayFiles>(
     ensures refused { IfErr result (Refuses 1) }
 {
     let number = number_of(rt, folder, &given, text, is_new_day)?;
+    go_on(rt, folder, word, number, given)
+}
+
+/// A day that was served to its end, and the file of its journal, which stays locked until the next day has begun.
+#[derive(Drop)]
+pub struct EndedDay<'a> {
+    pub number: u32,
+    pub path: &'a str,
+    pub file: &'a File,
+    pub closed: &'a Closed,
+}
+
+/// Returns the day that a station goes on with once a day has ended: the next one, or that day, if it has no entry.
+/// Closes it like `newest_day`, but without reading its journal.
+pub fn day_after_ended<F: DayFiles>(
+    rt: &HostRuntime,
+    folder: &F,
+    word: &str,
+    text: &[u8],
+    given: Config,
+    ended: &EndedDay<'_>,
+) -> Result<DayToServe, JobError>
+    // proved empty, next: A day that was served is followed by the next, if it has an entry
+    ensures empty { ended.now.closed.now.site.history ≡ [] → IfOk result (λ day. day.number ≡ ended.now.number) }
+    ensures next { ended.now.closed.now.site.history ≢ []
+        → IfOk result (λ day. day.number ≡ ended.now.number + 1) }
+    // proved begun, kept, later, refused: It goes on as after a close from the files
+    ensures begun { (texts : FolderText) → F.files folder.now ≡ Some texts
+        → IfOk result (λ day. GoesOn texts given day.number (option_map (λ v. v.items) day.own) day.config) }
+    ensures kept { (texts : FolderText) → F.files folder.now ≡ Some texts
+        → IfOk result (λ day. day.is_kept ≡ is_some (kept_config texts day.number)) }
+    ensures later { IfOk result (λ day. day.is_kept ≡ false → day.own ≡ None → day.number ≢ 1
+        → BeginsDay given day.number day.config) }
+    ensures refused { IfErr result (Refuses 1) }
+{
+    let number = close_ended(rt, folder, &given, text, ended)?;
+    go_on(rt, folder, word, number, given)
+}
+
+/// Closes a day that has ended, unless it has no entry, and returns the day that is then the newest.
+fn close_ended<F: DayFiles>(
+    rt: &HostRuntime,
+    folder: &F,
+    given: &Config,
+    text: &[u8],
+    ended: &EndedDay<'_>,
+) -> Result<u32, JobError>
+    ensures empty { ended.now.closed.now.site.history ≡ [] → IfOk result (λ newest. newest ≡ ended.now.number) }
+    ensures closed { ended.now.closed.now.site.history ≢ []
+        → IfOk result (λ newest. newest ≡ ended.now.number + 1) }
+    ensures refused { IfErr result (Refuses 1) }
+{
+    let own = match own_of(rt, folder, ended.number)? {
+        Some(own) => Some(own.text),
+        None => None,
+    };
+    finish_close(rt, folder.as_folder(), ended, &Configs { given, text, own })
+}
+
+/// Returns day `number` with the configuration that it takes and its opening.
+fn go_on<F: DayFiles>(
+    rt: &HostRuntime,
+    folder: &F,
+    word: &str,
+    number: u32,
+    given: Config,
+) -> Result<DayToServe, JobError>
+    ensures number { IfOk result (λ newest. newest.number ≡ number) }
+    ensures begun { (texts : FolderText) → F.files folder.now ≡ Some texts
+        → IfOk result (λ day. GoesOn texts given number (option_map (λ v. v.items) day.own) day.config) }
+    ensures kept { (texts : FolderText) → F.files folder.now ≡ Some texts
+        → IfOk result (λ newest. newest.is_kept ≡ is_some (kept_config texts number)) }
+    ensures first { IfOk result (λ newest. newest.is_kept ≡ false → number ≡ 1 → newest.config ≡ given) }
+    ensures later { IfOk result (λ newest. newest.is_kept ≡ false → newest.own ≡ None → number ≢ 1
+        → BeginsDay given number newest.config) }
+    ensures refused { IfErr result (Refuses 1) }
+{
     let Taken {
         config,
         is_kept,
@@ -447,29 +525,36 @@ fn close_day<F: DayFiles>(
     let config = begin_day(rt, folder, number, config)?;
     // The day's journal stays locked until the opening of the next day is written.
     let journal = open_to_close(rt, &config, &path)?;
-    finish_close(rt, folder.as_folder(), number, &journal, configs)
+    let ended = EndedDay {
+        number,
+        path: &path,
+        file: &journal.file,
+        closed: &journal.audited,
+    };
+    finish_close(rt, folder.as_folder(), &ended, configs)
 }
 
-/// Returns the day that is the newest once day `number` is closed, which it isn't without an entry: checks that the
-/// next day hasn't begun, syncs the day's journal, and writes the days' configurations and the next day's opening.
+/// Returns the day that is the newest once a day is closed, which it isn't without an entry: checks that the next day
+/// hasn't begun, syncs the day's journal, and writes the days' configurations and the next day's opening.
 fn finish_close(
     rt: &HostRuntime,
     folder: Folder<'_>,
-    number: u32,
-    journal: &OpenJournal<'_, Closed>,
+    ended: &EndedDay<'_>,
     configs: &Configs<'_>,
 ) -> Result<u32, JobError>
-    ensures empty { journal.now.audited.site.history ≡ [] → result ≡ Ok number }
-    ensures closed { journal.now.audited.site.history ≢ [] → IfOk result (λ newest. newest ≡ number + 1) }
-    ensures newest { IfOk result (λ newest. (newest ≡ number) ⊎ (newest ≡ number + 1)) }
+    ensures empty { ended.now.closed.now.site.history ≡ [] → result ≡ Ok ended.now.number }
+    ensures closed { ended.now.closed.now.site.history ≢ []
+        → IfOk result (λ newest. newest ≡ ended.now.number + 1) }
+    ensures newest { IfOk result (λ newest. (newest ≡ ended.now.number) ⊎ (newest ≡ ended.now.number + 1)) }
     ensures refused { IfErr result (Refuses 1) }
 {
-    if journal.audited.site.history().is_empty() {
+    let number = ended.number;
+    if ended.closed.site.history().is_empty() {
         return Ok(number);
     }
     check_newest(rt, folder, number)?;
-    at_file(rt.alloc(), journal.path, journal.file.sync_all())?;
-    begin_next_day(rt, folder, number, &journal.audited, configs)
+    at_file(rt.alloc(), ended.path, ended.file.sync_all())?;
+    begin_next_day(rt, folder, number, ended.closed, configs)
 }
 
 /// After an error the next day hasn't begun, unless only a sync of the folder failed.
