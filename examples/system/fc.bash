@@ -13,7 +13,7 @@ _fc_command() {
         play | carry | report) takes=2 options='--opening' ;;
         audit) takes=2 options='--opening --days' ;;
         export) takes=3 kinds='sales decisions events' options='--json --opening' ;;
-        explain) takes=3 options='--opening' ;;
+        explain) takes=3 options='--opening --days' ;;
         serve) takes=1 options='--journal --sync --opening --days --new-day' ;;
     esac
 }

@@ -53,7 +53,9 @@ pub fn explain<'a>(
     site: &'a Site,
     number: u32,
 ) -> Result<Explained<'a>, ExplainFault>
+    // proved explained: It explains that entry, by the site that the entries before it lead to
     ensures explained { IfOk result (Explains site.now number) }
+    // proved none: It says so just where there is no such entry
     ensures none { (result ≡ Err ExplainFault.NoEntry) ↔ (at_number site.now.history number ≡ None) }
 {
     let history = site.history();

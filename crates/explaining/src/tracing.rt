@@ -37,8 +37,10 @@ pub fn trace_run(
     before: &Counters,
 ) -> Result<Trace, AllocError>
     requires { layout_of context.now ≡ program.now.layout }
+    // proved states: It has each state of the standard's run, in order, and no other
     ensures states { IfOk result (λ trace. IsTrace program.now (bytes_of context.now) view.now before.now
         trace.states.items trace.r0 trace.counters) }
+    // proved end: It ends as the run does
     ensures end { IfOk result (λ trace. outcome program.now (bytes_of context.now) view.now before.now
         ≡ Ended trace.r0 trace.counters) }
 {

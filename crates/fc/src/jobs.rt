@@ -6,7 +6,7 @@ use file_jobs::audits::audit_files;
 use file_jobs::carry::carry_files;
 use file_jobs::chained::audit_folder;
 use file_jobs::command_line::help;
-use file_jobs::explain::explain_files;
+use file_jobs::explain::{explain_day, explain_files};
 use file_jobs::export::export_files;
 use file_jobs::job_error::print_text;
 use file_jobs::plays::{play_files, play_input};
@@ -70,6 +70,12 @@ pub fn do_job<
             journal,
             number,
         } => explain_files(rt, site_files(config, opening), journal, *number),
+        Job::ExplainDay {
+            folder,
+            config,
+            day,
+            number,
+        } => explain_day(rt, folder, config, *day, *number),
         Job::Serve(job) => serve(rt, host, job),
     }
 }

@@ -96,7 +96,8 @@ export_app =
 
 abbrev pub explain_app : App
 explain_app =
-    with_rule (with_rule (of_files (codes "explain") (codes "config") (codes "journal")) (file_rule (codes "entry"))) (option_rule (codes "opening"))
+    with_rule (with_rule (with_rule (of_files (codes "explain") (codes "config") (codes "journal")) (file_rule (codes "entry")))
+    (option_rule (codes "opening"))) (option_rule (codes "days"))
 
 abbrev pub serve_app : App
 serve_app =
@@ -117,6 +118,7 @@ top_app = record (new_app (codes "fc")) { top = record (new_app (codes "fc")).to
 -- - report [--opening FILE] CONFIG JOURNAL
 -- - export [--json] [--opening FILE] KIND CONFIG JOURNAL
 -- - explain [--opening FILE] CONFIG JOURNAL ENTRY
+-- - explain --days FOLDER CONFIG DAY ENTRY
 -- - serve [--journal FILE [--sync]] [--opening FILE] CONFIG
 -- - serve --days FOLDER [--sync] [--new-day] CONFIG
 abbrev pub fc_app : App
@@ -137,6 +139,7 @@ fc_app =
 -- - `audit_days`: the folder and the configuration
 -- - `export`: the kind and the form of the rows, the opening, the configuration and the journal
 -- - `explain`: the opening, the configuration, the journal and the entry's number
+-- - `explain_day`: the folder, the configuration, the day's number and the entry's
 -- - `serve`: the opening and the configuration
 -- - `serve_days`: whether answers wait for syncs, whether a new day begins, the folder and the configuration
 pub data JobRequest : Type 0 where
@@ -152,6 +155,7 @@ pub data JobRequest : Type 0 where
   report : Option Text → Text → Text → JobRequest
   export : Rows → Format → Option Text → Text → Text → JobRequest
   explain : Option Text → Text → Text → ℕ → JobRequest
+  explain_day : Text → Text → ℕ → ℕ → JobRequest
   serve : Option Text → Text → JobRequest
   serve_kept : Option Text → Text → Text → JobRequest
   serve_synced : Option Text → Text → Text → JobRequest
@@ -219,9 +223,17 @@ export_in rows =
 abbrev pub entry_in : List Row → Option ℕ
 entry_in rows = option_and_then (number_of false) (first_of (codes "entry") rows)
 
+-- What `explain` asks for, given the folder of --days, the file of --opening, CONFIG, JOURNAL and ENTRY's number. With
+-- --days the word in JOURNAL's place is the number of a day; None if it isn't one, or if --opening is given too.
+abbrev pub explain_by : Option Text → Option Text → Text → Text → ℕ → Option JobRequest
+explain_by None opening config journal n = Some (explain opening config journal n)
+explain_by (Some folder) None config day n = option_map (λ (d : ℕ). explain_day folder config d n) (number_of false day)
+explain_by (Some folder) (Some opening) config day n = None
+
 abbrev pub explain_in : List Row → Option JobRequest
 explain_in rows =
-    option_and_then (λ (n : ℕ). files_in (codes "config") (codes "journal") (λ config journal. explain (opening_in rows) config journal n) rows) (entry_in rows)
+    option_and_then (λ (n : ℕ). option_and_then (λ (config : Text). option_and_then (λ (journal : Text). explain_by (days_in rows) (opening_in rows) config journal n)
+    (first_of (codes "journal") rows)) (first_of (codes "config") rows)) (entry_in rows)
 
 -- What `audit` asks for, given the folder of --days, the file of --opening, JOURNAL and CONFIG. None in two cases:
 -- --days is given together with --opening or JOURNAL, or neither --days nor JOURNAL is given.
@@ -310,6 +322,7 @@ requested (job.AuditDays folder config) = Some (audit_days (string_bytes folder)
 requested (job.Report opening config journal) = Some (report (named opening) (string_bytes config) (string_bytes journal))
 requested (job.Export rows format opening config journal) = Some (export rows format (named opening) (string_bytes config) (string_bytes journal))
 requested (job.Explain opening config journal number) = Some (explain (named opening) (string_bytes config) (string_bytes journal) number)
+requested (job.ExplainDay folder config day number) = Some (explain_day (string_bytes folder) (string_bytes config) day number)
 requested (job.Serve served) = Some (serve_request served)
 requested (job.Show text) = None
 
@@ -365,6 +378,14 @@ verify_message rows =
       | None ↦ codes "error: --counters takes a number of 32 bits, as 6 or 0x6"
     ]
 
+-- the first line of the error message for an `explain` that `clap` accepts, but whose values are wrong or contradictory
+abbrev pub explain_message : List Row → Text
+explain_message rows =
+    elim (entry_in rows) [
+      | Some _ ↦ codes "error: --days takes DAY, the number of a day, in place of JOURNAL, and no --opening"
+      | None ↦ codes "error: ENTRY is the number of an entry, such as 412"
+    ]
+
 -- the first line of the error message for the subcommand with this name and these values, if `clap` accepts the values
 -- but they are wrong, contradictory or incomplete
 abbrev pub unasked_by : Text → List Row → Text
@@ -372,7 +393,7 @@ unasked_by name rows =
     if bytes_eq name (codes "serve") then serve_message rows
     else if bytes_eq name (codes "audit") then audit_message rows
     else if bytes_eq name (codes "export") then codes "error: export takes sales, decisions or events"
-    else if bytes_eq name (codes "explain") then codes "error: ENTRY is the number of an entry, such as 412"
+    else if bytes_eq name (codes "explain") then explain_message rows
     else verify_message rows
 
 -- the first line of the error message for a command line that `clap` accepts, but whose values are wrong, contradictory

@@ -4,9 +4,9 @@ ghost use Rattle.std.specs.Prelude.{◌≡◌, IsTrue, IsSome, None, false, [], 
 ghost use Rattle.std.specs.Prelude.{map, codes, is_some, option_map, string_bytes, ◌↔◌};
 ghost use Rattle.clap.specs.Words.{first_of, rows_of, found_of, subcommand_of, subcommand_rows_of, takes, fault_of};
 ghost use Rattle.file_jobs.specs.JobRequest.{fc_app, requested, parsed_request, is_set, layout_in, layout_named, mask_in, IsHelpOrVersion, MayShow};
-ghost use Rattle.file_jobs.specs.JobRequest.{RefusesBy, audit_by, days_in, entry_in, format_in, kind_in, named, opening_in};
+ghost use Rattle.file_jobs.specs.JobRequest.{RefusesBy, audit_by, days_in, entry_in, explain_by, format_in, kind_in, named, opening_in};
 ghost use Rattle.file_jobs.specs.JobRequest.{rows_named, serve_by, serve_days_by, unasked_by, unasked_text, unasked_words};
-ghost use Rattle.file_jobs.specs.JobRequest.{audit_message, serve_message, verify_message};
+ghost use Rattle.file_jobs.specs.JobRequest.{audit_message, explain_message, serve_message, verify_message};
 ghost use Rattle.file_jobs.specs.Refusing.{Asks, Finds, FindsFiles, IsJobOfLine, IsNoJobMessage, IsRefusalOf};
 
 use crate::job::{CommandFault, Job, ServeJob};
@@ -299,15 +299,44 @@ fn explain_of(alloc: Global, matches: &ArgMatches) -> Result<Option<Job>, AllocE
     let Some(number) = number_of(matches) else {
         return Ok(None);
     };
+    let Some(config) = file_of(alloc, matches, "config")? else {
+        return Ok(None);
+    };
+    let Some(journal) = file_of(alloc, matches, "journal")? else {
+        return Ok(None);
+    };
     let opening = opening_of(alloc, matches)?;
-    match files_of(alloc, matches, "config", "journal")? {
-        Some((config, journal)) => Ok(Some(Job::Explain {
+    let days = days_of(alloc, matches)?;
+    Ok(explain_by(days, opening, config, journal, number))
+}
+
+/// With a folder, `journal` is the number of one of its days.
+fn explain_by(
+    days: Option<String>,
+    opening: Option<String>,
+    config: String,
+    journal: String,
+    number: u32,
+) -> Option<Job>
+    ensures { Asks (explain_by (named days) (named opening) (string_bytes config) (string_bytes journal) number) result }
+{
+    match (days, opening) {
+        (None, opening) => Some(Job::Explain {
             opening,
             config,
             journal,
             number,
-        })),
-        None => Ok(None),
+        }),
+        (Some(folder), None) => match decimal_named(&journal) {
+            Some(day) => Some(Job::ExplainDay {
+                folder,
+                config,
+                day,
+                number,
+            }),
+            None => None,
+        },
+        (Some(_folder), Some(_opening)) => None,
     }
 }
 
@@ -446,6 +475,16 @@ fn verify_message(matches: &ArgMatches) -> &'static str
     }
 }
 
+fn explain_message(matches: &ArgMatches) -> &'static str
+    ensures { result.now ≡ explain_message (rows_of (found_of matches.now)) }
+{
+    match number_of(matches) {
+        Some(_) =>
+            "error: --days takes DAY, the number of a day, in place of JOURNAL, and no --opening",
+        None => "error: ENTRY is the number of an entry, such as 412",
+    }
+}
+
 /// Returns the first line of the message for arguments of the subcommand `name` that give no job.
 fn unasked_by(name: &str, matches: &ArgMatches) -> &'static str
     ensures { result.now ≡ unasked_by name.now (rows_of (found_of matches.now)) }
@@ -454,7 +493,7 @@ fn unasked_by(name: &str, matches: &ArgMatches) -> &'static str
         "serve" => serve_message(matches),
         "audit" => audit_message(matches),
         "export" => "error: export takes sales, decisions or events",
-        "explain" => "error: ENTRY is the number of an entry, such as 412",
+        "explain" => explain_message(matches),
         _ => verify_message(matches),
     }
 }

@@ -1,13 +1,13 @@
 //! What `fc explain` does.
-ghost use Rattle.std.specs.Prelude.{[], IfErr, IsErrAnd, IsTrue, option_map};
-ghost use Rattle.file_jobs.specs.StandardInput.{reads_twice};
+ghost use Rattle.std.specs.Prelude.{◌≡◌, [], true, IsErrAnd, IsTrue, option_map};
+ghost use Rattle.file_jobs.specs.StandardInput.{is_input, reads_twice};
 ghost use Rattle.file_jobs.specs.JobErrors.{Ends};
 
 use crate::audited::audited_site;
 use crate::job_error::print_text;
 use crate::messages::Place;
 use crate::statuses::{FAILED, REFUSED};
-use crate::{JobError, SiteFiles};
+use crate::{Folder, JobError, Part, SiteFiles};
 use explaining::ExplainFault;
 use explaining::explained::explain;
 use explaining::writing::explanation;
@@ -29,6 +29,34 @@ pub fn explain_files(
         Ok(explained) => print_text(rt, &explanation(rt.alloc(), &explained)?),
         Err(fault) => Err(unexplained(rt.alloc(), journal, number, fault)),
     }
+}
+
+/// Explains an entry like `explain_files`, of a day whose files are in the folder that `path` names. `config` names the
+/// configuration for a day that has none there.
+pub fn explain_day(
+    rt: &HostRuntime,
+    path: &str,
+    config: &str,
+    day: u32,
+    number: u32,
+) -> Result<(), JobError>
+    ensures { is_input path.now ≡ true → IsErrAnd result (Ends 2 []) }
+{
+    let folder = Folder::named(rt, path)?;
+    let own = folder.file(rt, day, Part::Config)?;
+    let opening = folder.file(rt, day, Part::Opening)?;
+    let journal = folder.file(rt, day, Part::Journal)?;
+    let config = if folder.has(rt, day, Part::Config)? {
+        own.as_str()
+    } else {
+        config
+    };
+    let opening = if folder.has(rt, day, Part::Opening)? {
+        Some(opening.as_str())
+    } else {
+        None
+    };
+    explain_files(rt, SiteFiles::new(config, opening), &journal, number)
 }
 
 fn unexplained(alloc: Global, journal: &str, number: u32, fault: ExplainFault) -> JobError {

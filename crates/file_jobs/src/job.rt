@@ -61,6 +61,13 @@ pub enum Job {
         journal: String,
         number: u32,
     },
+    /// Print why entry `number` of a day in a folder was answered so.
+    ExplainDay {
+        folder: String,
+        config: String,
+        day: u32,
+        number: u32,
+    },
     Serve(ServeJob),
     /// Print the help or the version.
     Show(String),

@@ -1,5 +1,5 @@
 //! The number that the option `--counters` gives.
-ghost use Rattle.std.specs.Prelude.{◌≡◌, Some, fold, option_map};
+ghost use Rattle.std.specs.Prelude.{◌≡◌, Some, false, fold, option_map};
 ghost use Rattle.file_jobs.specs.Mask.{behind_0x, digit_value, letter_value, mask_named, number_of};
 ghost use Rattle.file_jobs.specs.Mask.{radix_times, with_digit, without_plus};
 

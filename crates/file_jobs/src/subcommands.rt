@@ -191,12 +191,16 @@ const SUBCOMMANDS: [SubcommandDescription; 10] = [
     SubcommandDescription {
         name: "explain",
         about: "Tells why an entry of a journal was answered so, with the run of its rule",
-        example: "Example: fc explain site.toml day.journal 412",
+        example: "Examples: fc explain site.toml day.journal 412, fc explain --days days site.toml 2 412",
         arguments: &[
             Argument::File("config", CONFIG),
-            Argument::File("journal", JOURNAL),
+            Argument::File(
+                "journal",
+                "the journal of a play, or of a served site; with --days the day's number",
+            ),
             Argument::File("entry", "the entry's number, with which its line begins"),
             OPENING,
+            Argument::Days("explain an entry of a day of this folder, by the day's number"),
         ],
     },
     SubcommandDescription {
