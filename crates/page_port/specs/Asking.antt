@@ -81,14 +81,20 @@ abbrev pub behind_and : List ℕ → Option (List ℕ)
 behind_and query =
     if nat_lt (position_or_len (λ byte. byte == 38) query) (length query) then Some (after_first (λ byte. byte == 38) query) else None
 
+-- what is behind "day=" in the first part of a query, if it begins so
+abbrev pub day_digits : List ℕ → Option (List ℕ)
+day_digits first = if bytes_eq (take 4 first) (codes "day=") then Some (drop 4 first) else None
+
+-- what a query asks for, by the digits of its day, if it has one
+abbrev pub journal_by : List ℕ → Option (List ℕ) → Result Endpoint Refusal
+journal_by query None = lines_in None (Some query)
+journal_by query (Some digits) = lines_of_day (number 32 digits) (behind_and query)
+
 -- What this query of the path "/journal" asks for. Before the first "&", or the end, it can have "day=" and the day's
 -- number, in decimal without leading zeros; then the rest, if there is one, says which lines of this day.
 abbrev pub journal_at : Option (List ℕ) → Result Endpoint Refusal
 journal_at None = lines_in None None
-journal_at (Some query) =
-    if bytes_eq (take 4 (before_first (λ byte. byte == 38) query)) (codes "day=")
-    then lines_of_day (number 32 (drop 4 (before_first (λ byte. byte == 38) query))) (behind_and query)
-    else lines_in None (Some query)
+journal_at (Some query) = journal_by query (day_digits (before_first (λ byte. byte == 38) query))
 
 -- the endpoint at a path with this query, or why the request is refused
 abbrev pub endpoint_at : List ℕ → Option (List ℕ) → Result Endpoint Refusal

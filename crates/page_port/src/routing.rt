@@ -7,7 +7,7 @@ ghost use Rattle.http_uri.specs.Uri.{uri_authority, uri_query};
 ghost use Rattle.till_request.specs.Grammar.{number};
 ghost use Rattle.page_port.specs.Answering.{status_of, text_refusing};
 ghost use Rattle.page_port.specs.Asking.{requested_endpoint, field_host, is_for_this_machine, is_of_http, is_allowed_host, is_loopback_host, is_named, is_empty_or_port, is_get_or_head};
-ghost use Rattle.page_port.specs.Asking.{lines_after, lines_in, lines_of_day, behind_and, journal_at, endpoint_at};
+ghost use Rattle.page_port.specs.Asking.{lines_after, lines_in, lines_of_day, behind_and, day_digits, journal_at, endpoint_at};
 
 use bytes::Bytes;
 use http::{Request, StatusCode, header};
@@ -152,6 +152,21 @@ fn behind_and(query: &str) -> Option<&str>
     }
 }
 
+/// What is behind `day=`.
+fn day_digits(first: &[u8]) -> Option<&[u8]>
+    ensures { option_copied result ≡ day_digits first.now }
+{
+    if first.len() < 4 {
+        return None;
+    }
+    let (key, digits) = first.split_at(4);
+    if key == b"day=".as_slice() {
+        Some(digits)
+    } else {
+        None
+    }
+}
+
 /// Which lines a query of `/journal` asks for. A day stands before the entry.
 fn journal_at(query: Option<&str>) -> Result<Endpoint, Refusal>
     ensures { result ≡ journal_at (option_copied query.entry) }
@@ -159,15 +174,9 @@ fn journal_at(query: Option<&str>) -> Result<Endpoint, Refusal>
     let Some(text) = query else {
         return lines_in(None, None);
     };
-    let first = before_and(text).as_bytes();
-    if first.len() < 4 {
-        return lines_in(None, query);
-    }
-    let (key, digits) = first.split_at(4);
-    if key == b"day=".as_slice() {
-        lines_of_day(digits, behind_and(text))
-    } else {
-        lines_in(None, query)
+    match day_digits(before_and(text).as_bytes()) {
+        Some(digits) => lines_of_day(digits, behind_and(text)),
+        None => lines_in(None, query),
     }
 }
 
