@@ -1,6 +1,6 @@
 -- Definitions: whether an opening explains the first difference between a journal, which was read without one, and the
 -- site's own entries, and what is then said (source: this project).
-use Rattle.std.specs.Prelude.{ℕ, ⊤, nat_lt, nat_le, ◌==◌, not, ◌&&◌, ◌||◌, Bool, true, false, IsTrue, if◌then◌else◌, List, ◌++◌, codes, Option, Some, None}
+use Rattle.std.specs.Prelude.{◌≡◌, ℕ, nat_lt, nat_le, ◌==◌, not, ◌&&◌, ◌||◌, Bool, true, false, IsTrue, if◌then◌else◌, List, ◌++◌, codes, Option, Some, None}
 use Rattle.till_request.specs.declared.act.Reply.{Reply}
 use Rattle.till_request.specs.declared.act.Reply.TheVariants as reply
 use Rattle.site_core.specs.declared.differing.Difference.{Difference}
@@ -11,6 +11,7 @@ use Rattle.site_core.specs.Words.{difference_text}
 use Rattle.file_jobs.specs.declared.job_error.JobError.{JobError}
 use Rattle.file_jobs.specs.JobErrors.{Says, after_colon, numbered_words}
 use Rattle.file_jobs.specs.StandardInput.{name_of}
+use Rattle.file_jobs.specs.Told.{SaysEntry}
 
 -- The refusals that depend on what a day begins with: a point's state (S22), a slot's program (S23), transactions (S26
 -- to S28), a pending order (S33), and what the point does (S34).
@@ -68,8 +69,10 @@ unopened_text difference = difference_text difference ++ codes "; a later day is
 abbrev pub words_at_line : List ℕ → ℕ → List ℕ → List ℕ
 words_at_line word line words = (name_of word ++ (after_colon (Some line) ++ after_colon None)) ++ (codes ": " ++ words)
 
--- A journal was read without an opening, and has this flaw. If an opening explains it, the message says so.
+-- A journal was read without an opening, and has this flaw. If an opening explains it, the message says so, else it says
+-- what it says of any journal.
 abbrev pub SaysUnopened : List ℕ → EntryFlaw → JobError → Type 0
 SaysUnopened word (entry.Entry place difference) error =
-    IsTrue (opening_explains difference) → Says (words_at_line word place (numbered_words (unopened_text difference) (codes "F3"))) error
-SaysUnopened word flaw error = ⊤
+    (IsTrue (opening_explains difference) → Says (words_at_line word place (numbered_words (unopened_text difference) (codes "F3"))) error)
+    × (opening_explains difference ≡ false → SaysEntry word (entry.Entry place difference) error)
+SaysUnopened word flaw error = SaysEntry word flaw error

@@ -1,5 +1,5 @@
 //! Why a journal is refused or can't be read.
-ghost use Rattle.std.specs.Prelude.{◌≡◌, Ok, IfErr, IsErrAnd, MatchResult};
+ghost use Rattle.std.specs.Prelude.{◌≡◌, ⊤, Ok, IfErr, IsErrAnd, MatchResult};
 ghost use Rattle.file_jobs.specs.AuditOutput.{line_of_flaw};
 ghost use Rattle.file_jobs.specs.JobErrors.{EndsOrRunsOut, Refuses};
 ghost use Rattle.file_jobs.specs.FileRefusals.{RefusesText};
@@ -28,6 +28,9 @@ pub fn audited<T>(
         (λ found. MatchResult found (λ value. result ≡ Ok value) (λ flaw. IsErrAnd result (EndsOrRunsOut 1 (line_of_flaw flaw))))
         (λ fault. IsErrAnd result (RefusesText fault)) }
     ensures status { IfErr result (Refuses 1) }
+    ensures says { MatchResult audit
+        (λ found. MatchResult found (λ _. ⊤) (λ flaw. IsErrAnd result (SaysEntry word.now flaw)))
+        (λ fault. IsErrAnd result (SaysText word.now fault)) }
 {
     match audit {
         Ok(Ok(value)) => Ok(value),

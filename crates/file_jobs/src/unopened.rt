@@ -1,8 +1,9 @@
 //! Why a journal is refused that was read without an opening: it may be one of a later day.
-ghost use Rattle.std.specs.Prelude.{◌≡◌, false, ⊤, Ok, IfErr, IsErrAnd, MatchResult};
+ghost use Rattle.std.specs.Prelude.{◌≡◌, false, true, ⊤, Ok, IfErr, IsErrAnd, MatchResult};
 ghost use Rattle.file_jobs.specs.AuditOutput.{line_of_flaw};
 ghost use Rattle.file_jobs.specs.JobErrors.{EndsOrRunsOut, Refuses};
 ghost use Rattle.file_jobs.specs.FileRefusals.{RefusesText};
+ghost use Rattle.file_jobs.specs.Told.{SaysEntry, SaysText};
 ghost use Rattle.file_jobs.specs.Unopened.{SaysUnopened, are_explained, depends_on_opening, is_later, is_refused_by_opening};
 ghost use Rattle.file_jobs.specs.Unopened.{are_of_another_day, is_refused_for_all_days, opening_explains, shows_point, version_named};
 
@@ -155,6 +156,9 @@ pub fn audited_by<T>(
         (λ found. MatchResult found (λ value. result ≡ Ok value) (λ flaw. IsErrAnd result (EndsOrRunsOut 1 (line_of_flaw flaw))))
         (λ fault. IsErrAnd result (RefusesText fault)) }
     ensures status { IfErr result (Refuses 1) }
+    ensures text { MatchResult audit (λ _. ⊤) (λ fault. IsErrAnd result (SaysText word.now fault)) }
+    ensures opened { is_opened ≡ true → MatchResult audit
+        (λ found. MatchResult found (λ _. ⊤) (λ flaw. IsErrAnd result (SaysEntry word.now flaw))) (λ _. ⊤) }
     // proved: Of a later day's journal it says that an opening is wanted
     ensures unopened { is_opened ≡ false → MatchResult audit
         (λ found. MatchResult found (λ _. ⊤) (λ flaw. IsErrAnd result (SaysUnopened word.now flaw))) (λ _. ⊤) }
