@@ -1,6 +1,6 @@
 -- Definitions: the exit status of a job whose configuration, opening or journal is refused, and what it prints on
 -- standard output (source: this project).
-use Rattle.std.specs.Prelude.{◌≡◌, ◌++◌, [], codes, decimal}
+use Rattle.std.specs.Prelude.{◌≡◌, ◌⊎◌, ◌++◌, [], codes, decimal}
 use Rattle.site_config.specs.declared.fault.ConfigFault.{ConfigFault}
 use Rattle.site_config.specs.declared.fault.ConfigFault.TheVariants as config
 use Rattle.days.specs.declared.file.OpeningFlaw.{OpeningFlaw}
@@ -19,6 +19,10 @@ RefusesConfig config.K1 error = EndsOrRunsOut 1 (codes "K1\n") error
 RefusesConfig config.K2 error = EndsOrRunsOut 1 (codes "K2\n") error
 RefusesConfig config.K3 error = EndsOrRunsOut 1 (codes "K3\n") error
 RefusesConfig config.OutOfMemory error = error ≡ job_error.OutOfMemory
+
+-- a file that couldn't be read, or that is too long (L1)
+abbrev pub IsUnreadFile : JobError → Type 0
+IsUnreadFile error = Ends 3 [] error ⊎ EndsOrRunsOut 1 (codes "L1\n") error
 
 -- an opening with this flaw
 abbrev pub RefusesOpening : OpeningFlaw → JobError → Type 0

@@ -10,7 +10,7 @@ ghost use Rattle.days.specs.Ranges.{FileFits};
 ghost use Rattle.days.specs.Text.{opening_text};
 ghost use Rattle.days.specs.Words.{unfit_text};
 ghost use Rattle.file_jobs.specs.JobErrors.{Ends, EndsOrRunsOut, Refuses, SaysOf};
-ghost use Rattle.file_jobs.specs.FileRefusals.{RefusesOpening};
+ghost use Rattle.file_jobs.specs.FileRefusals.{IsUnreadFile, RefusesOpening};
 ghost use Rattle.file_jobs.specs.Told.{SaysFault, SaysOpening, SaysRule};
 ghost use Rattle.file_jobs.specs.Days.{BeginsDay};
 
@@ -74,6 +74,7 @@ pub fn opening_bytes<R: Read + Drop>(
     ensures all { (text : List ℕ) → R.remaining source ≡ Some text → IfOk result (λ bytes. bytes.items ≡ text) }
     ensures short { (text : List ℕ) → R.remaining source ≡ Some text → length text ≤ MOST_OPENING
         → IfErr result (Ends 3 []) }
+    ensures read { IfErr result IsUnreadFile }
     ensures refused { IfErr result (Refuses 1) }
 {
     bytes_in(rt, word, source, MOST_OPENING, &"over 262,144 bytes")
