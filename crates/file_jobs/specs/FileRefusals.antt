@@ -1,6 +1,6 @@
 -- Definitions: the exit status of a job whose configuration, opening or journal is refused, and what it prints on
 -- standard output (source: this project).
-use Rattle.std.specs.Prelude.{◌≡◌, ◌⊎◌, ◌++◌, [], codes, decimal}
+use Rattle.std.specs.Prelude.{◌≡◌, ◌⊎◌, ◌++◌, [], Result, Ok, Err, codes, decimal}
 use Rattle.site_config.specs.declared.fault.ConfigFault.{ConfigFault}
 use Rattle.site_config.specs.declared.fault.ConfigFault.TheVariants as config
 use Rattle.days.specs.declared.file.OpeningFlaw.{OpeningFlaw}
@@ -19,6 +19,11 @@ RefusesConfig config.K1 error = EndsOrRunsOut 1 (codes "K1\n") error
 RefusesConfig config.K2 error = EndsOrRunsOut 1 (codes "K2\n") error
 RefusesConfig config.K3 error = EndsOrRunsOut 1 (codes "K3\n") error
 RefusesConfig config.OutOfMemory error = error ≡ job_error.OutOfMemory
+
+-- a text with this configuration or this fault of it; a good one is only refused where memory ran out
+abbrev pub RefusesSettings : {T : Type 0} → Result T ConfigFault → JobError → Type 0
+RefusesSettings (Ok settings) error = error ≡ job_error.OutOfMemory
+RefusesSettings (Err fault) error = (error ≡ job_error.OutOfMemory) ⊎ RefusesConfig fault error
 
 -- a file that couldn't be read, or that is too long (L1)
 abbrev pub IsUnreadFile : JobError → Type 0

@@ -7,7 +7,7 @@ ghost use Rattle.site_config.specs.Ranges.{config_of, settings_view};
 ghost use Rattle.file_jobs.specs.StandardInput.{is_input, may_be_input, reads_twice};
 ghost use Rattle.file_jobs.specs.JobErrors.{Ends, EndsOrRunsOut, Refuses};
 ghost use Rattle.file_jobs.specs.Told.{SaysConfig, SaysFlaw};
-ghost use Rattle.file_jobs.specs.FileRefusals.{RefusesConfig};
+ghost use Rattle.file_jobs.specs.FileRefusals.{RefusesConfig, RefusesSettings};
 ghost use Rattle.file_jobs.specs.Days.{BeginsDay};
 
 use crate::files::{Source, is_input, text_of};
@@ -98,6 +98,7 @@ fn refuse_twice(alloc: Global) -> JobError
 pub fn settings_in(rt: &HostRuntime, word: &str, text: &[u8]) -> Result<Settings, JobError>
     // proved read, refused: A configuration is refused with status 1
     ensures read { IfOk result (λ settings. config_of text.now ≡ Ok (settings_view settings)) }
+    ensures fault { IfErr result (RefusesSettings (config_of text.now)) }
     ensures refused { IfErr result (Refuses 1) }
 {
     match read_settings(rt.alloc(), text) {
