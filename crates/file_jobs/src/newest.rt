@@ -135,14 +135,14 @@ fn go_on<F: DayFiles>(
     number: u32,
     given: Config,
 ) -> Result<DayToServe, JobError>
-    ensures number { IfOk result (λ newest. newest.number ≡ number) }
+    ensures number { IfOk result (λ day. day.number ≡ number) }
     ensures begun { (texts : FolderText) → F.files folder.now ≡ Some texts
-        → IfOk result (λ day. GoesOn texts given number (option_map (λ v. v.items) day.own) day.config) }
+        → IfOk result (λ day. GoesOn texts given day.number (option_map (λ v. v.items) day.own) day.config) }
     ensures kept { (texts : FolderText) → F.files folder.now ≡ Some texts
-        → IfOk result (λ newest. newest.is_kept ≡ is_some (kept_config texts number)) }
-    ensures first { IfOk result (λ newest. newest.is_kept ≡ false → number ≡ 1 → newest.config ≡ given) }
-    ensures later { IfOk result (λ newest. newest.is_kept ≡ false → newest.own ≡ None → number ≢ 1
-        → BeginsDay given number newest.config) }
+        → IfOk result (λ day. day.is_kept ≡ is_some (kept_config texts day.number)) }
+    ensures first { IfOk result (λ day. day.is_kept ≡ false → day.number ≡ 1 → day.config ≡ given) }
+    ensures later { IfOk result (λ day. day.is_kept ≡ false → day.own ≡ None → day.number ≢ 1
+        → BeginsDay given day.number day.config) }
     ensures refused { IfErr result (Refuses 1) }
 {
     let Taken {
