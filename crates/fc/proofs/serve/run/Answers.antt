@@ -1,2 +1,0 @@
-use Rattle.fc.proofs.Taken.{taken}
-use Rattle.fc.proofs.serve.run.Goals as goal
