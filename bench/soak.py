@@ -36,6 +36,7 @@ sys.path.insert(0, os.path.join(HERE, "..", "cases", "serve"))
 from serving import AS_ASKED, AT_MOST_5000, COUNTED, free_ports
 
 TILLS, DISPENSERS, POINTS, BATCH = 8, 2, 8, 100
+LEAST_ROOM = 1_000_000_000  # bytes that 20 seconds don't fill
 SITE = """tills = 8
 price_slot = 2
 prices = [1799, 1849, 0, 0, 0, 0, 0, 0]
@@ -242,8 +243,17 @@ class Station:
         return status
 
 
+    def settle(self):
+        """Starts the program once more, which takes away a last line that was cut off, and kills it."""
+        self.start()
+        until = time.monotonic() + 30
+        while time.monotonic() < until and not os.path.exists(os.path.join(self.folder, "owner")):
+            time.sleep(0.1)
+        self.kill()
+
+
 def mounted(folder):
-    return subprocess.run(["mount", "-t", "tmpfs", "-o", "size=1500m", "none", folder], capture_output=True).returncode == 0
+    return subprocess.run(["mount", "-t", "tmpfs", "-o", "size=4000m", "none", folder], capture_output=True).returncode == 0
 
 
 def trouble(station, until, ends, can_fill, counts):
@@ -256,6 +266,9 @@ def trouble(station, until, ends, can_fill, counts):
         else:
             ends.clear()
         time.sleep(min(chance.uniform(5, 20), max(until - time.monotonic(), 0)))
+        if os.statvfs(station.folder).f_bavail * os.statvfs(station.folder).f_frsize < LEAST_ROOM:
+            print(f"the file system is full of days after {time.monotonic() - started:.0f} s")
+            return None
         if station.program.poll() is not None:
             return f"the program ended with {station.program.poll()}"
         if time.monotonic() > until - 3 or not ends.is_set():
@@ -323,6 +336,7 @@ def soaked(fc, seconds, room, folder, can_fill):
     over.set()
     time.sleep(1)
     station.kill()
+    station.settle()
     memory_faults, pauses = lives(seen)
     for peer in peers:
         peer.join(30)
@@ -339,7 +353,7 @@ def soaked(fc, seconds, room, folder, can_fill):
     print(f"{audit.stdout.strip()}; answered lines of tills and dispensers: {answered}; {counts}")
     print(f"days ended by the owner: {len(pauses)}, pauses in ms:", *(f"{1000 * pause:.0f}" for pause in sorted(pauses)))
     with open(os.path.join(room, "said")) as file:
-        said = [line for line in file if " is served" not in line and "serving" not in line]
+        said = [line.strip() for line in file if " is served" not in line and "serving" not in line]
     print("said:", *sorted(set(said))[:12], sep="\n  ")
     return [fault for fault in faults if fault]
 
