@@ -6,7 +6,7 @@ ghost use Rattle.day_report.specs.Sales.{unpaid_at, without, worth};
 
 use decision_journal::Entry;
 use fuelling_point::{Point, Transaction};
-use site_core::{Change, Observer};
+use site_core::{Change, Head, Observer};
 use std::alloc::{AllocError, Global};
 use till_request::{Act, Reply, Request};
 
@@ -221,12 +221,16 @@ impl Observer for Sales {
 
     ghost has_seen = { λ s steps. sales_value s ≡ fold sales_after no_sales steps };
 
+    ghost has_looked = { λ _ _ _. Unit {0} };
+
     ghost is_ready = { λ s. (vec_len s.sales < vec_capacity s.sales) × (vec_len s.unpaid < vec_capacity s.unpaid) };
 
     fn make_ready(&mut self) -> Result<(), AllocError> {
         self.sales.reserve(1)?;
         self.unpaid.reserve(1)
     }
+
+    fn look(&mut self, _before: &Head, _act: &Act) {}
 
     #[tactic(auto, unfolding(crate::specs::Sales::sales_after))]
     fn see(&mut self, _line: &[u8], entry: &Entry, change: &Change) {

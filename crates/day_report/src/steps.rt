@@ -10,8 +10,9 @@ ghost use Rattle.day_report.specs.Picture.{opening_states, put_state, raised, st
 use crate::opening::opening_points;
 use decision_journal::Entry;
 use fuelling_point::{Point, State};
-use site_core::{Change, Config, Observer};
+use site_core::{Change, Config, Head, Observer};
 use std::alloc::{AllocError, Global};
+use till_request::Act;
 
 /// The most steps that the axis of a picture is divided into.
 const STEPS: usize = 2000;
@@ -59,11 +60,15 @@ impl Marks {
 impl Observer for Marks {
     ghost has_seen = { λ m steps. m.marks.items ≡ map mark_of steps };
 
+    ghost has_looked = { λ _ _ _. Unit {0} };
+
     ghost is_ready = { λ observer. vec_len observer.marks < vec_capacity observer.marks };
 
     fn make_ready(&mut self) -> Result<(), AllocError> {
         self.marks.reserve(1)
     }
+
+    fn look(&mut self, _before: &Head, _act: &Act) {}
 
     fn see(&mut self, _line: &[u8], entry: &Entry, change: &Change) {
         self.marks.push_reserved(mark_of(entry, change));

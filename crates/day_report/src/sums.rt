@@ -1,14 +1,16 @@
 //! What the sales of a history come to, counted while the history grows.
 
 ghost use Rattle.std.specs.Prelude.{◌≡◌, ◌↔◌, ◌<◌, ◌^◌, ◌++◌, ◌∷◌, [], List, OnErr, OnOk, slice_set, take, true};
+ghost use Rattle.site_core.specs.State.{SiteState};
 ghost use Rattle.site_core.specs.Steps.{StepValue};
 ghost use Rattle.day_report.specs.Sales.{off_entries, sales_in};
 ghost use Rattle.day_report.specs.Sums.{AddsUp, CountsOff, HasRoom, hour_number, no_sum, plus, plus_at, with_off, with_sale};
 
 use crate::sales::{Sale, Sum, is_off, sale_of};
 use decision_journal::Entry;
-use site_core::{Change, Observer};
+use site_core::{Change, Head, Observer};
 use std::alloc::AllocError;
+use till_request::Act;
 
 const NO_SUM: Sum = Sum {
     count: 0,
@@ -128,8 +130,8 @@ impl Sums {
         // proved: Each sale is added to its point, till and hour | sale_goes_to_the_next_till
         // proved: Hours are counted from 0 | hours_begin_at_one
         // proved: Sales that are off by more than a cent are counted | cent_is_off
-        ensures { (steps : List StepValue) → AddsUp self.old (sales_in steps)
-            → AddsUp self.new (sales_in (steps ++ (record { entry = entry.now; change = change.now }) ∷ [])) }
+        ensures { (steps : List StepValue) (before : SiteState) → AddsUp self.old (sales_in steps) → AddsUp self.new
+            (sales_in (steps ++ (record { entry = entry.now; change = change.now; before = before }) ∷ [])) }
     {
         match sale_of(&[], entry, change) {
             Some(sale) => self.add(sale),
@@ -156,6 +158,8 @@ impl Observer for Sums {
 
     ghost has_seen = { λ sums steps. AddsUp sums (sales_in steps) };
 
+    ghost has_looked = { λ _ _ _. Unit {0} };
+
     ghost is_ready = { HasRoom };
 
     fn make_ready(&mut self) -> Result<(), AllocError>
@@ -169,6 +173,8 @@ impl Observer for Sums {
             Err(AllocError)
         }
     }
+
+    fn look(&mut self, _before: &Head, _act: &Act) {}
 
     fn see(&mut self, _line: &[u8], entry: &Entry, change: &Change) {
         self.count(entry, change);

@@ -199,7 +199,7 @@ impl Config {
         till >= 1 && till <= self.tills
     }
 
-    pub(crate) fn price_slot(&self) -> u32
+    pub fn price_slot(&self) -> u32
         ensures { result ≡ self.now.price_slot }
     {
         self.price_slot

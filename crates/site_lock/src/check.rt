@@ -65,6 +65,29 @@ fn has_number(receipts: &[Receipt], number: u32) -> bool
     receipts.iter().any(|receipt| receipt.number == number)
 }
 
+/// Where each pass's next receipt is likely to be, by the pass's id modulo 64. Entries and receipts come in the same
+/// order, so most are found there at once.
+#[derive(Drop)]
+struct Places {
+    next: [usize; 64],
+}
+
+impl Places {
+    /// Whether the likely receipt of this pass has the number. Then the one behind it is the next.
+    fn has_next(&mut self, id: u32, receipts: &[Receipt], number: u32) -> bool
+        ensures { IsTrue result → HasNumber receipts.now number }
+    {
+        let place = (id % 64) as usize;
+        let at = self.next[place];
+        if at < receipts.len() && receipts[at].number == number {
+            self.next[place] = at + 1;
+            true
+        } else {
+            false
+        }
+    }
+}
+
 // By a binary search, so it can be false if the numbers of the receipts don't rise.
 fn has_rising_number(receipts: &[Receipt], number: u32) -> bool
     ensures { IsTrue result → HasNumber receipts.now number }
@@ -92,22 +115,37 @@ fn is_covered<L: SiteLedger>(passes: &[Pass<L>], entry: &Entry) -> bool
     false
 }
 
-// By a binary search, so it can be false if the numbers of the pass's receipts don't rise.
-fn is_covered_fast<L: SiteLedger>(passes: &[Pass<L>], entry: &Entry) -> bool
+/// Like `covers`, but it can be false if the numbers of the pass's receipts don't rise.
+fn covers_fast<L: SiteLedger>(places: &mut Places, pass: &Pass<L>, entry: &Entry) -> bool
+    ensures { IsTrue result → Covers entry.now pass.now }
+{
+    if pass.id() != entry.pass {
+        return false;
+    }
+    let (id, receipts, number) = (pass.id(), pass.receipts(), entry.number);
+    places.has_next(id, receipts, number) || has_rising_number(receipts, number)
+}
+
+// It can be false if the numbers of the pass's receipts don't rise.
+fn is_covered_fast<L: SiteLedger>(places: &mut Places, passes: &[Pass<L>], entry: &Entry) -> bool
     ensures { IsTrue result → Covered passes.now entry.now }
 {
     for pass in passes {
-        if pass.id() == entry.pass && has_rising_number(pass.receipts(), entry.number) {
+        if covers_fast(places, pass, entry) {
             return true;
         }
     }
     false
 }
 
-fn is_covered_any_order<L: SiteLedger>(passes: &[Pass<L>], entry: &Entry) -> bool
+fn is_covered_any_order<L: SiteLedger>(
+    places: &mut Places,
+    passes: &[Pass<L>],
+    entry: &Entry,
+) -> bool
     ensures { IsTrue result ↔ Covered passes.now entry.now }
 {
-    is_covered_fast(passes, entry) || is_covered(passes, entry)
+    is_covered_fast(places, passes, entry) || is_covered(passes, entry)
 }
 
 fn uncovered<L: SiteLedger>(history: &[Entry], passes: &[Pass<L>]) -> Option<(u32, u32)>
@@ -115,8 +153,9 @@ fn uncovered<L: SiteLedger>(history: &[Entry], passes: &[Pass<L>]) -> Option<(u3
     ensures some { IfSome result
         (λ x. Any (λ e. (e.pass ≡ x.0) × (e.number ≡ x.1) × ¬ Covered passes.now e) history.now) }
 {
+    let mut places = Places { next: [0; 64] };
     for entry in history {
-        if !is_covered_any_order(passes, entry) {
+        if !is_covered_any_order(&mut places, passes, entry) {
             return Some((entry.pass, entry.number));
         }
     }
