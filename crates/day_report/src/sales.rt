@@ -1,6 +1,7 @@
 //! The sales of a history. A sale is a transaction that a till cleared: it was paid, and is gone.
 
 ghost use Rattle.std.specs.Prelude.{◌≡◌, ◌<◌, ◌≤◌, find, IfSome, vec_capacity, vec_len};
+ghost use Rattle.site_core.specs.State.{SiteState};
 ghost use Rattle.day_report.specs.Sales.{clearing_of, end_of, ended_by, is_delivery_of, is_off, off_by, sale_of, uncleared};
 ghost use Rattle.day_report.specs.Sales.{unpaid_at, without, worth};
 
@@ -88,7 +89,7 @@ fn unpaid_at(point: &Option<Point>, number: u32) -> Option<Transaction>
 /// Returns the delivery that an entry ended, or `None` if it ended none.
 #[tactic(auto, unfolding(crate::specs::Sales::ended_by))]
 fn ended_by(entry: &Entry, change: &Change) -> Option<Ended>
-    ensures { result ≡ ended_by (record { entry = entry.now; change = change.now }) }
+    ensures { (before : SiteState) → result ≡ ended_by (record { entry = entry.now; change = change.now; before = before }) }
 {
     let (Some(before), Some(after)) = (change.before, change.after) else {
         return None;
@@ -134,7 +135,8 @@ fn end_of(unpaid: &[Ended], n: u32, transaction: u32) -> Option<u32>
 /// before it.
 #[tactic(auto, unfolding(crate::specs::Sales::sale_of))]
 pub(crate) fn sale_of(unpaid: &[Ended], entry: &Entry, change: &Change) -> Option<Sale>
-    ensures { result ≡ sale_of unpaid.now (record { entry = entry.now; change = change.now }) }
+    ensures { (before : SiteState)
+        → result ≡ sale_of unpaid.now (record { entry = entry.now; change = change.now; before = before }) }
 {
     let clearing = clearing_of(&entry.act, &entry.reply)?;
     let paid = unpaid_at(&change.before, clearing.number)?;

@@ -3,7 +3,7 @@
 
 ghost use Rattle.std.specs.Prelude.{◌≡◌, ◌<◌, ◌≤◌, IfOk, IfSome, IsOk, OnOk, [], length, map, vec_capacity, vec_len};
 ghost use Rattle.fuelling_point.specs.Table.{PointState};
-ghost use Rattle.site_core.specs.State.{opening_state};
+ghost use Rattle.site_core.specs.State.{SiteState, opening_state};
 ghost use Rattle.day_report.specs.Picture.{step_of, steps_along, step_at, axis_of, first_or, with_cut, mark_of, AreStepEnds};
 ghost use Rattle.day_report.specs.Picture.{opening_states, put_state, raised, states_after, step_shows, Shows};
 
@@ -37,7 +37,7 @@ pub struct Marks {
 
 /// Returns the mark of an entry.
 fn mark_of(entry: &Entry, change: &Change) -> Mark
-    ensures { result ≡ mark_of (record { entry = entry.now; change = change.now }) }
+    ensures { (before : SiteState) → result ≡ mark_of (record { entry = entry.now; change = change.now; before = before }) }
 {
     let n = change.point;
     Mark {

@@ -1,5 +1,5 @@
 //! A buffer for answers, so that several are written together.
-ghost use Rattle.std.specs.Prelude.{◌≡◌, ◌++◌, List, ℕ, [], true, false, IfErr, OnErr, OnOk};
+ghost use Rattle.std.specs.Prelude.{◌↔◌, ◌≤◌, IsTrue, length, ◌≡◌, ◌++◌, List, ℕ, [], true, false, IfErr, OnErr, OnOk};
 ghost use Rattle.till_request.specs.Answer.{answer_line};
 ghost use Rattle.till_request.specs.Count.{RoseBy, one_if};
 ghost use Rattle.line_session.specs.Answering.{is_write};
@@ -45,7 +45,9 @@ impl AnswerBuffer {
         }
     }
 
-    pub fn is_full(&self) -> bool {
+    pub fn is_full(&self) -> bool
+        ensures { IsTrue result ↔ 16384 ≤ length self.now.held.items }
+    {
         self.held.len() >= MOST_WAITING
     }
 

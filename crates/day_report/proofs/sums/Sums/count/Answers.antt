@@ -10,8 +10,8 @@ pub returns-in-Some : goal.returns-in-Some
 returns-in-Some c steps before a =
     let step : StepValue = record { entry = c.args.entry.now; change = c.args.change.now; before = before } in
     subst (λ (s : Sums). AddsUp s (sales_in (steps ++ step ∷ []))) (sym c.add.ensures.added)
-    (counted c.args.self.now steps step (Some c.in-Some.sale) (sym c.sale_of.ensures ∙ c.in-Some.is) c.add.ensures.in_range c.requires a)
+    (counted c.args.self.now steps step (Some c.in-Some.sale) (sym (c.sale_of.ensures before) ∙ c.in-Some.is) c.add.ensures.in_range c.requires a)
 
 pub returns-in-None : goal.returns-in-None
 returns-in-None c steps before a =
-    counted c.args.self.now steps (record { entry = c.args.entry.now; change = c.args.change.now; before = before }) None (sym c.sale_of.ensures ∙ c.in-None.is) tt c.requires a
+    counted c.args.self.now steps (record { entry = c.args.entry.now; change = c.args.change.now; before = before }) None (sym (c.sale_of.ensures before) ∙ c.in-None.is) tt c.requires a
