@@ -1,10 +1,10 @@
 -- No site of a configuration begins with an opening in these two cases:
 -- - The opening doesn't fit the configuration.
 -- - The opening fits. Let the changed opening be the same opening, except that each counter has its bound from the
---   configuration. No site with as many points as the configuration has can begin with the changed opening.
+--   configuration, and that there are as many points. No site of as many points can begin with the changed opening.
 -- There is at most one way for a site of a configuration to begin with an opening.
 use Rattle.std.proofs.Common.{◌≡◌, ℕ, ◌<◌, ◌≤◌, List, [], ◌∷◌, length, Option, Some, None, false, sym, ap, ◌∙◌, subst, arith, refl}
-use Rattle.std.specs.Prelude.{All, IfSome, nat_lt, slice_index_or}
+use Rattle.std.specs.Prelude.{All, IfSome, drop, nat_lt, slice_index_or}
 use Rattle.std.proofs.lemmas.Bool.Decides.{nat_tests}
 use Rattle.std.proofs.lemmas.List.{ext_get_or}
 use Rattle.std.proofs.lemmas.List.Elements.{All-head, All-tail}
@@ -17,8 +17,8 @@ use Rattle.site_core.specs.Opening.{IsOpening, OpeningValue}
 use Rattle.site_core.specs.Fitting.{Misfits as IsFaulty}
 use Rattle.site_core.specs.declared.opening.OpeningFault.{OpeningFault}
 use Rattle.site_core.specs.declared.opening.OpeningFault.TheVariants as fault
-use Rattle.days.specs.Fitting.{AreBounded, BeginsWith, Fits, HasTill}
-use Rattle.days.specs.Misfits.{CannotBegin, IsHeldOver, IsUnfit, IsOutOfMemory, Misfits, first_held}
+use Rattle.days.specs.Fitting.{AreBounded, BeginsWith, Fits, HasTill, MayGo, refitted}
+use Rattle.days.specs.Misfits.{CannotBegin, IsHeldOver, IsKept, IsUnfit, IsOutOfMemory, Misfits, first_held}
 use Rattle.days.specs.declared.beginning.Unfit.{Unfit}
 use Rattle.days.specs.declared.beginning.Unfit.TheVariants as unfit
 use Rattle.days.specs.declared.fitting.Misfit.{Misfit}
@@ -46,8 +46,11 @@ till_none config o at t tills is there fits =
     (subst (λ n. All (HasTill n) (slice_index_or o.points at fresh_point).unpaid) (sym is) (fits.tills at fresh_point there.within)) in
     let e : ◌≡◌ {A = Option Transaction} None (Some t) = sym none ∙ found in absurd (cc)
 
+kept_none : (points : List PointState) (at : ℕ) → IsKept points at → All MayGo points → ⊥
+kept_none points at kept all = kept.kept (all at fresh_point kept.within)
+
 pub misfit_none : (config : ConfigValue) (o : OpeningValue) (m : Misfit) → Misfits config o m → Fits config o → ⊥
-misfit_none config o (misfit.Points points there) h fits = h.2 (h.0 ∙ fits.points ∙ sym h.1)
+misfit_none config o (misfit.Point there at) h fits = kept_none (drop (length config.points) o.points) at h.1 fits.points
 misfit_none config o (misfit.Till at t tills) h fits = till_none config o at t tills h.1 h.2 fits
 misfit_none config o (misfit.Counter c value bound) h fits =
     over_none value bound (counter config.counters c).1 (counter o.counters c).0 h.2.1 h.2.2 h.2.3 (fits.counters c h.2.0)
@@ -72,11 +75,12 @@ pub unfit_none : (config : ConfigValue) (o : OpeningValue) (u : Unfit) → IsUnf
 unfit_none config o (unfit.Misfit m) h wants begun b = misfit_none config o m h b.0
 unfit_none config o (unfit.Fault f) h wants begun b =
     let k = h.1 in
+    let count = length config.points in
     let same : b.1.0 ≡ k.0 = cells_once o.counters config.counters b.1.0 k.0 b.1.1 k.1 b.1.2.counters.many k.2 in
-    wants (ap (λ x. unfit.Fault x) (faulty_none (length config.points) (record o { counters = k.0 }) f k.3
-    (subst (λ (cells : Counters). IsOpening (length config.points) (record o { counters = cells })) same b.1.2)))
+    wants (ap (λ x. unfit.Fault x) (faulty_none count (refitted count o k.0) f k.3
+    (subst (λ (cells : Counters). IsOpening count (refitted count o cells)) same b.1.2)))
 
 pub begins_once : (config : ConfigValue) (o : OpeningValue) (a b : ConfigValue) → BeginsWith config o a → BeginsWith config o b → a ≡ b
 begins_once config o a b h k =
     let same : h.1.0 ≡ k.1.0 = cells_once o.counters config.counters h.1.0 k.1.0 h.1.1 k.1.1 h.1.2.counters.many k.1.2.counters.many in
-    h.1.3 ∙ ap (λ (cells : Counters). record config { opening = Some (record o { counters = cells }) }) same ∙ sym k.1.3
+    h.1.3 ∙ ap (λ (cells : Counters). record config { opening = Some (refitted (length config.points) o cells) }) same ∙ sym k.1.3

@@ -28,8 +28,9 @@ over_bound_text value bound = codes "has the value " ++ (decimal value ++ (codes
 -- The words for why an opening doesn't fit a configuration. They count points from 1; a point's number above 2^64 - 1
 -- is written as 2^64 - 1.
 abbrev pub misfit_text : Misfit → List ℕ
-misfit_text (misfit.Points points there) =
-    codes "points: " ++ (decimal points ++ (codes " in the opening, " ++ (decimal there ++ codes " in the configuration")))
+misfit_text (misfit.Point there at) =
+    codes "point " ++ (decimal (min (min (there + at) 18446744073709551615 + 1) 18446744073709551615)
+    ++ (codes " isn't closed or has unpaid transactions, the configuration has " ++ (decimal there ++ codes " points")))
 misfit_text (misfit.Till at t tills) = codes "point " ++ (decimal (min (at + 1) 18446744073709551615) ++ (codes ": " ++ held_by_text t tills))
 misfit_text (misfit.Counter c value bound) = codes "counter " ++ (decimal c ++ (codes " " ++ over_bound_text value bound))
 

@@ -4,7 +4,7 @@ ghost use Rattle.std.specs.Prelude.{IfErr, IfOk};
 ghost use Rattle.days.specs.Fitting.{BeginsWith};
 ghost use Rattle.days.specs.Misfits.{CannotBegin, IsUnfit, IsOutOfMemory};
 
-use crate::fitting::{Misfit, fitted};
+use crate::fitting::{Misfit, first_misfit, fitted, rebounded};
 use site_core::{Config, Opening, OpeningFault};
 use std::alloc::Global;
 use std::fmt::{self, Display};
@@ -32,7 +32,8 @@ impl Display for Unfit {
     }
 }
 
-/// `config` with `opening` in place of its own. Each counter has its value from `opening` and its bound from `config`.
+/// `config` with `opening` in place of its own. Each counter has its value from `opening` and its bound from `config`,
+/// and a point that only `config` has is closed.
 pub fn begun(alloc: Global, config: Config, opening: Opening) -> Result<Config, Unfit>
     // proved begun, unfit, none: A site begins with an opening that fits
     ensures begun { IfOk result (BeginsWith config opening) }
@@ -41,9 +42,13 @@ pub fn begun(alloc: Global, config: Config, opening: Opening) -> Result<Config, 
 {
     // This read brings that there are 32 counters.
     let _first = opening.counters.get(0);
-    let opening = match fitted(&config, opening) {
+    if let Some(misfit) = first_misfit(&config, &opening) {
+        return Err(Unfit::Misfit(misfit));
+    }
+    let counters = rebounded(&config, &opening);
+    let opening = match fitted(config.points().len(), counters, opening) {
         Ok(opening) => opening,
-        Err(misfit) => return Err(Unfit::Misfit(misfit)),
+        Err(_) => return Err(Unfit::Fault(OpeningFault::OutOfMemory)),
     };
     match config.opened(alloc, opening) {
         Ok(config) => Ok(config),

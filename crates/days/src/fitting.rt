@@ -1,20 +1,22 @@
-//! Whether an opening fits a configuration: as many points, each counter within its bound, and the tills that hold
-//! transactions.
-ghost use Rattle.std.specs.Prelude.{◌≡◌, ◌≤◌, ◌<◌, ℕ, All, MatchOption, IfErr, IfOk, OnOk, Some, option_to_list};
+//! Whether an opening fits a configuration: the points that the configuration lacks, the tills that hold transactions,
+//! and each counter within its bound.
+ghost use Rattle.std.specs.Prelude.{◌≡◌, ◌≤◌, ◌<◌, ◌↔◌, ℕ, All, MatchOption, IfOk, IsTrue, OnErr, OnOk, Some, drop, length, option_to_list};
 ghost use Rattle.bpf_model.specs.Machine.{counter};
-ghost use Rattle.days.specs.Fitting.{AreBounded, AreWithin, Fits, HasTill, HaveTills};
-ghost use Rattle.days.specs.Misfits.{IsHeldOver, IsOver, Misfits, first_held};
+ghost use Rattle.days.specs.Fitting.{AreBounded, Fits, HasTill, HaveTills, MayGo, fitted_points, refitted};
+ghost use Rattle.days.specs.Misfits.{IsHeldOver, IsKept, Misfits, first_held};
 
-use fuelling_point::{Point, Transaction};
+use fuelling_point::{Point, State, Transaction};
 use site_core::{Config, Opening};
+use std::alloc::AllocError;
 use std::fmt::{self, Display};
 use verifier::Counters;
 
 /// Why an opening doesn't fit a configuration: the first case that applies.
 #[derive(Clone, Copy)]
 pub enum Misfit {
-    /// The numbers of points, of the opening and of the configuration, differ.
-    Points(usize, usize),
+    /// The configuration has fewer points, and one that it lacks isn't closed, or has unpaid transactions. First comes
+    /// the configuration's number of points, then the place of the first such one behind them, counted from 0.
+    Point(usize, usize),
     /// A till beyond the configuration's number of tills, which comes last, holds a transaction. First come the place
     /// of the first point with such a one, counted from 0, and its first.
     Till(usize, Transaction, u32),
@@ -30,10 +32,11 @@ impl Display for Misfit {
 
     fn fmt<W: fmt::Write>(&self, f: &mut fmt::Formatter<W>) -> fmt::Result {
         match *self {
-            Misfit::Points(points, there) => {
+            Misfit::Point(there, at) => {
+                let point = there.saturating_add(at).saturating_add(1);
                 write!(
                     f,
-                    "points: {points} in the opening, {there} in the configuration"
+                    "point {point} isn't closed or has unpaid transactions, the configuration has {there} points"
                 )
             }
             Misfit::Till(at, transaction, tills) => {
@@ -85,29 +88,79 @@ impl Display for OverBound {
     }
 }
 
-/// The opening with the configuration's bounds.
-pub fn fitted(config: &Config, opening: Opening) -> Result<Opening, Misfit>
-    // proved same, bounds: It gives an opening the configuration's bounds | opening_keeps_its_own_bounds
-    ensures same { IfOk result (λ new. new ≡ record opening { counters = new.counters }) }
-    ensures bounds { IfOk result (λ new. AreBounded opening.counters config.now.counters new.counters) }
-    // proved fits, misfit: Else it says what doesn't fit
-    ensures fits { OnOk result (Fits config.now opening) }
-    ensures misfit { IfErr result (Misfits config.now opening) }
+/// Why the opening doesn't fit the configuration, or `None` if it does.
+pub fn first_misfit(config: &Config, opening: &Opening) -> Option<Misfit>
+    // proved: It says what doesn't fit
+    ensures { MatchOption result (Fits config.now opening.now) (Misfits config.now opening.now) }
 {
-    let (points, there) = (opening.points.len(), config.points().len());
-    if points != there {
-        return Err(Misfit::Points(points, there));
+    let there = config.points().len();
+    if let Some(at) = kept_point(beyond(&opening.points, there)) {
+        return Some(Misfit::Point(there, at));
     }
     if let Some((at, transaction)) = held_over(&opening.points, config.tills()) {
-        return Err(Misfit::Till(at, transaction, config.tills()));
+        return Some(Misfit::Till(at, transaction, config.tills()));
     }
-    match rebounded(&opening.counters, &config.counters()) {
-        Ok(counters) => Ok(Opening {
-            counters,
-            ..opening
-        }),
-        Err((c, value, bound)) => Err(Misfit::Counter(c, value, bound)),
+    let cells = bounded(&opening.counters, &config.counters());
+    match over(&cells) {
+        None => None,
+        Some(c) => Some(Misfit::Counter(c as u32, cells[c].0, cells[c].1)),
     }
+}
+
+/// The opening's counters with the configuration's bounds.
+pub(crate) fn rebounded(config: &Config, opening: &Opening) -> Counters
+    requires { Fits config.now opening.now }
+    // proved: It gives an opening the configuration's bounds | opening_keeps_its_own_bounds
+    ensures bounds { AreBounded opening.now.counters config.now.counters result }
+    ensures many { length result ≡ 32 }
+{
+    Counters::new(bounded(&opening.counters, &config.counters()))
+}
+
+/// The opening with these counters and this number of points: those that it lacks are new, and closed.
+pub(crate) fn fitted(
+    count: usize,
+    counters: Counters,
+    mut opening: Opening,
+) -> Result<Opening, AllocError>
+    // proved: A point that comes is closed, and one that goes leaves nothing
+    ensures same { IfOk result (λ new. new ≡ refitted count opening counters) }
+    ensures memory { OnErr result (length opening.points < count) }
+{
+    fit_points(&mut opening.points, count)?;
+    Ok(Opening {
+        counters,
+        ..opening
+    })
+}
+
+/// The points behind the first `count`.
+fn beyond(points: &[Point], count: usize) -> &[Point]
+    ensures { result.now ≡ drop count points.now }
+{
+    &points[count.min(points.len())..]
+}
+
+/// The first point, counted from 0, that isn't closed or has unpaid transactions.
+fn kept_point(points: &[Point]) -> Option<usize>
+    ensures { MatchOption result (All MayGo points.now) (IsKept points.now) }
+{
+    points.iter().position(|point| !may_go(point))
+}
+
+fn may_go(point: &Point) -> bool
+    ensures { IsTrue result ↔ MayGo point.now }
+{
+    point.state() == State::Closed && point.unpaid() == 0
+}
+
+/// Cuts the points off behind `count`, or adds closed ones until there are as many.
+fn fit_points(points: &mut Vec<Point>, count: usize) -> Result<(), AllocError>
+    ensures fitted { OnOk result (points.new.items ≡ fitted_points count points.old.items) }
+    ensures memory { OnErr result (length points.old.items < count) }
+{
+    points.truncate(count);
+    points.resize(count, Point::new())
 }
 
 /// The first point, counted from 0, with a transaction held by a till over `tills`, and its first such one.
@@ -142,20 +195,6 @@ fn held(place: Option<Transaction>, tills: u32) -> Option<Transaction>
         Some(transaction)
     } else {
         None
-    }
-}
-
-/// The counters' values with the bounds that come second in `bounds`. The error is the first counter over its new
-/// bound: number, value and bound.
-fn rebounded(counters: &Counters, bounds: &[(u64, u64); 32]) -> Result<Counters, (u32, u64, u64)>
-    ensures bounds { IfOk result (AreBounded counters.now bounds.now) }
-    ensures within { OnOk result (AreWithin counters.now bounds.now) }
-    ensures over { IfErr result (IsOver counters.now bounds.now) }
-{
-    let cells = bounded(counters, bounds);
-    match over(&cells) {
-        None => Ok(Counters::new(cells)),
-        Some(c) => Err((c as u32, cells[c].0, cells[c].1)),
     }
 }
 

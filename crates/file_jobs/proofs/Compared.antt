@@ -1,8 +1,6 @@
 -- Whether the opening that a folder has for a day fits a configuration follows from the opening that was read of the
 -- file, since no other opening has this text.
-use Rattle.std.proofs.Common.{◌≡◌, ◌≢◌, ℕ, List, [], Option, Some, None, Result, Ok, Err, IfErr, MatchOption, option_map, unwrap_or, ap, sym, subst}
-use Rattle.std.specs.Prelude.{OnOk}
-use Rattle.std.specs.Result.{result_err}
+use Rattle.std.proofs.Common.{◌≡◌, ◌≢◌, ℕ, List, [], Option, Some, None, Ok, MatchOption, option_map, unwrap_or, ap, sym, subst}
 use Rattle.site_core.specs.Limits.{ConfigValue}
 use Rattle.days.specs.Breaks.{IsUnbegun}
 use Rattle.days.specs.File.{IsOpeningFile}
@@ -30,13 +28,13 @@ of_file config day text file misfit only is =
     subst (λ (f : OpeningFile). Misfits config f.opening misfit)
     (only is.0 is.1.good is.1.fits (sym (ap (λ t. unwrap_or t []) is.1.text_is))) is.3
 
-pub compared : {T : Type 0} (config : ConfigValue) (day : ℕ) (text : List ℕ) (file : OpeningFile) (found : Result T Misfit) → day ≢ 1
+pub compared : (config : ConfigValue) (day : ℕ) (text : List ℕ) (file : OpeningFile) (found : Option Misfit) → day ≢ 1
     → IsOpeningFile file → FileFits file → opening_text file ≡ text → IsOnly text file → file.day ≡ day
-    → OnOk found (Fits config file.opening) → IfErr found (Misfits config file.opening)
-    → MatchOption (result_err found) (¬ Unfits config day (Some text)) (λ _. Unfits config day (Some text))
-compared config day text file (Ok value) later good ranges is only same fits misfit =
+    → MatchOption found (Fits config file.opening) (Misfits config file.opening)
+    → MatchOption found (¬ Unfits config day (Some text)) (λ _. Unfits config day (Some text))
+compared config day text file None later good ranges is only same fits =
     λ un. misfit_none config file.opening un.1.0 (of_file config day text file un.1.0 only un.1.1) fits
-compared config day text file (Err why) later good ranges is only same fits misfit = (
+compared config day text file (Some why) later good ranges is only same misfit = (
   later,
   (why, (file, record { good = good; fits = ranges; text_is = ap (λ t. Some t) (sym is) }, same, misfit)),
 )

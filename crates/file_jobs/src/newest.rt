@@ -1,5 +1,5 @@
 //! Closes the newest day of a station, or goes on with it.
-ghost use Rattle.std.specs.Prelude.{◌≡◌, ◌≢◌, ◌⊎◌, ◌+◌, ◌++◌, Ok, None, Some, [], false, IfOk, IfErr, IfSome, MatchOption};
+ghost use Rattle.std.specs.Prelude.{◌≡◌, ◌≢◌, ◌≤◌, ◌⊎◌, ◌+◌, ◌++◌, ℕ, List, Ok, None, Some, [], false, length, IfOk, IfErr, IfSome, MatchOption};
 ghost use Rattle.std.specs.Prelude.{codes, is_some, option_map, string_bytes};
 ghost use Rattle.std.specs.Fmt.{decimal};
 ghost use Rattle.file_jobs.specs.JobErrors.{Ends, EndsOrRunsOut, Refuses, Says, SaysOf, numbered_words, words_at};
@@ -18,7 +18,7 @@ use crate::open_journals::open_to_close;
 use crate::opening::{begin_with, opening_in, refuse_fault, refuse_words};
 use crate::settings::settings_in;
 use crate::statuses::FAILED;
-use days::fitting::fitted;
+use days::fitting::first_misfit;
 use days::writing::opening_text;
 use days::{Closed, Misfit, OpeningFile, Uncarried};
 use site_core::{Config, Opening, OpeningFault};
@@ -266,7 +266,7 @@ fn misfit_of<F: DayFiles>(
     if file.day != day {
         return Ok(None);
     }
-    Ok(fitted(config, file.opening).err())
+    Ok(first_misfit(config, &file.opening))
 }
 
 /// Returns the configuration that the folder has for a day, if it fits the day's opening.
@@ -280,6 +280,8 @@ fn own_that_fits<F: DayFiles>(
     ensures none { (texts : FolderText) → F.files folder.now ≡ Some texts → IfOk result (λ own. own ≡ None
         → (config : ConfigValue) → own_config (file_of texts day Part.Config) ≡ Some (Ok config)
         → IsUnfitting texts config day) }
+    ensures fits { (texts : FolderText) → F.files folder.now ≡ Some texts
+        → IfOk result (λ own. IfSome own (λ own. ¬ IsUnfitting texts own.config day)) }
     ensures refused { IfErr result (Refuses 1) }
 {
     let Some(own) = own_of(rt, folder, day)? else {
@@ -466,6 +468,9 @@ fn begin_day<F: DayFiles>(
         → IfOk result (BeginsBy number config (file_of texts number Part.Opening)) }
     ensures first { number ≡ 1 → result ≡ Ok config }
     ensures later { number ≢ 1 → IfOk result (BeginsDay config number) }
+    ensures none { (texts : FolderText) (text : List ℕ) (begun : ConfigValue) → F.files folder.now ≡ Some texts
+        → file_of texts number Part.Opening ≡ Some text → length text ≤ 262144
+        → BeginsBy number config (Some text) begun → IfErr result (Ends 3 []) }
     ensures refused { IfErr result (Refuses 1) }
 {
     if number == 1 {
@@ -590,9 +595,9 @@ fn next_text<'a>(configs: &'a Configs<'_>, opening: Opening) -> &'a [u8]
     ensures { IsNextText configs.now.given.now opening configs.now.text.now
         (option_map (λ own. own.items) configs.now.own) result.now }
 {
-    match (fitted(configs.given, opening), &configs.own) {
-        (Err(_), Some(own)) => own,
-        (Ok(_) | Err(_), _) => configs.text,
+    match (first_misfit(configs.given, &opening), &configs.own) {
+        (Some(_), Some(own)) => own,
+        (_, _) => configs.text,
     }
 }
 
