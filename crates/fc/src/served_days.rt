@@ -68,6 +68,8 @@ struct BegunDay {
     audited: HashedSite,
     file: File,
     found: FoundFile,
+    /// False if the day was to begin with the given configuration, and couldn't.
+    is_given: bool,
     /// The moment at which the end of the day before is tried again, if it failed.
     retry: Option<u64>,
     /// The day before, if it has just ended.
@@ -147,6 +149,7 @@ impl Days<'_> {
             audited,
             file,
             found,
+            is_given: newest.own.is_none(),
             retry: None,
             before,
         })
@@ -195,16 +198,20 @@ impl Days<'_> {
         Ok(Given { text, times })
     }
 
-    /// Reads the configuration again, unless it came from standard input. If it can't be served, prints why.
-    fn reread(&self) -> Option<Given> {
+    /// Reads the configuration again, unless it came from standard input. If it can't be served, prints why, and returns
+    /// false.
+    fn reread(&self, given: &mut Given) -> bool {
         if is_input(self.config_name) {
-            return None;
+            return true;
         }
         match self.given_again() {
-            Ok(given) => Some(given),
+            Ok(new) => {
+                *given = new;
+                true
+            }
             Err(job_error) => {
                 print_error(self.rt, &job_error);
-                None
+                false
             }
         }
     }
@@ -227,6 +234,7 @@ impl Days<'_> {
             audited,
             file,
             found,
+            is_given,
             retry,
             before,
         } = day;
@@ -243,6 +251,7 @@ impl Days<'_> {
                 serve,
                 day: number,
                 is_first,
+                is_given,
             },
             stop,
             after: self.after,
@@ -289,10 +298,9 @@ impl Days<'_> {
             is_first = false;
             if at.stop.is_asked() {
                 at.stop.withdraw();
-                if let Some(new) = self.reread() {
-                    given = new;
-                }
-                let day = self.begin_next(host, &given.text, served)?;
+                let is_read = self.reread(&mut given);
+                let mut day = self.begin_next(host, &given.text, served)?;
+                day.is_given &= is_read;
                 if day.number != number {
                     print_message(self.rt, &format_args!("day {} is served", day.number));
                 }

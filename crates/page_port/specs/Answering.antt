@@ -79,6 +79,7 @@ status_of_health health.Healthy = 200
 status_of_health health.JournalFailed = 503
 status_of_health health.NearlyFull = 503
 status_of_health (health.NoWorker _) = 503
+status_of_health health.OtherConfig = 503
 
 -- The answer has the status 200, and a text of this kind.
 abbrev pub IsOkOfKind : MediaType → PageAnswer → Type 0
@@ -97,7 +98,7 @@ IsHealthOf f may_fail connections page_answer =
     (held : LockedSiteValue) × (has_failed : Bool) × (role_counts : List RoleCounts) × CanBeUnderLock f may_fail held
     × (held.journal_failed ≡ true → has_failed ≡ true)
     × (map (λ (counts : RoleCounts). counts.role) role_counts ≡ roles_with_doors connections)
-    × ReportsHealth (health_of has_failed (length held.site.history) role_counts) page_answer
+    × ReportsHealth (health_of has_failed (length held.site.history) is_given role_counts) page_answer
 
 -- the status where another day is asked for than the one that is served: a day that is over, or one that hasn't begun
 abbrev pub status_of_other : ℕ → ℕ → ℕ
@@ -133,17 +134,18 @@ abbrev pub AnswersJournal : Opened → Type 0 → ℕ → Option ℕ → ℕ →
 AnswersJournal f may_fail day asked after page_answer =
     (page_answer.day ≡ Some day) × AnswersDay (asks_for day asked) f may_fail day (unwrap_or asked day) after page_answer
 
--- The answer fits this endpoint, of a site under a lock, the number of its day, and the counts of its connections:
+-- The answer fits this endpoint, of a site under a lock, the number of its day, whether this has the given configuration,
+-- and the counts of its connections:
 -- - `Page`: the status is 200, and the text is of the kind `Html`
 -- - `Metrics`: the status is 200, and the text is of the kind `Metrics`
 -- - `Health`: the answer reports the health of one moment
 -- - `Journal`: the status is 200, the text is of the kind `Plain`, and it is the lines behind this entry; or another day
 --   is asked for, and the answer says so
-abbrev pub FitsEndpoint : Opened → Type 0 → ℕ → ConnectionCounts → Endpoint → PageAnswer → Type 0
-FitsEndpoint f may_fail day connections endpoints.Page page_answer = IsOkOfKind kinds.Html page_answer
-FitsEndpoint f may_fail day connections endpoints.Metrics page_answer = IsOkOfKind kinds.Metrics page_answer
-FitsEndpoint f may_fail day connections endpoints.Health page_answer = IsHealthOf f may_fail connections page_answer
-FitsEndpoint f may_fail day connections (endpoints.Journal asked after) page_answer = AnswersJournal f may_fail day asked after page_answer
+abbrev pub FitsEndpoint : Opened → Type 0 → ℕ → Bool → ConnectionCounts → Endpoint → PageAnswer → Type 0
+FitsEndpoint f may_fail day is_given connections endpoints.Page page_answer = IsOkOfKind kinds.Html page_answer
+FitsEndpoint f may_fail day is_given connections endpoints.Metrics page_answer = IsOkOfKind kinds.Metrics page_answer
+FitsEndpoint f may_fail day is_given connections endpoints.Health page_answer = IsHealthOf f may_fail is_given connections page_answer
+FitsEndpoint f may_fail day is_given connections (endpoints.Journal asked after) page_answer = AnswersJournal f may_fail day asked after page_answer
 
 -- The answer reports that memory ran out: it has the status 503 and the plain text "out of memory", with an LF.
 abbrev pub ReportsOutOfMemory : PageAnswer → Type 0
@@ -164,8 +166,8 @@ pub record HasAnswer (page_answer : PageAnswer) (response : Response) : Type 0 w
 -- The response answers a request for which `requested_endpoint` gives this result:
 -- - a refusal: the response refuses the request for this reason
 -- - an endpoint: the response has an answer that fits the endpoint, or reports that memory ran out
-abbrev pub IsAnswer : Opened → Type 0 → ℕ → ConnectionCounts → Result Endpoint Refusal → Response → Type 0
-IsAnswer f may_fail day connections (Err refusal) response = Refuses refusal response
-IsAnswer f may_fail day connections (Ok endpoint) response =
+abbrev pub IsAnswer : Opened → Type 0 → ℕ → Bool → ConnectionCounts → Result Endpoint Refusal → Response → Type 0
+IsAnswer f may_fail day is_given connections (Err refusal) response = Refuses refusal response
+IsAnswer f may_fail day is_given connections (Ok endpoint) response =
     (page_answer : PageAnswer) × HasAnswer page_answer response
-    × (FitsEndpoint f may_fail day connections endpoint page_answer ⊎ ReportsOutOfMemory page_answer)
+    × (FitsEndpoint f may_fail day is_given connections endpoint page_answer ⊎ ReportsOutOfMemory page_answer)

@@ -74,6 +74,8 @@ pub struct PagePort<'a> {
     listener: &'a PageListener,
     /// The number of the day, from 1.
     pub(crate) day: u32,
+    /// False if the day was to begin with the given configuration, and couldn't.
+    pub(crate) is_given: bool,
     pub(crate) tills: u32,
     pub(crate) connections: ConnectionCounts,
     pub(crate) journal: Option<&'a JournalCounts>,
@@ -119,16 +121,19 @@ fn take_last_turns<S: Service, R: Clock>(rt: &R, clients: &mut Vec<Client>, serv
 }
 
 impl<'a> PagePort<'a> {
-    /// Shows day `day` of a site. `journal` has the counts of its journal file, if there is one.
+    /// Shows day `day` of a site. `is_given` is false if the day was to begin with the given configuration, and couldn't.
+    /// `journal` has the counts of its journal file, if there is one.
     pub fn new(
         rt: &'a HostRuntime,
         listener: &'a PageListener,
         day: u32,
+        is_given: bool,
         tills: u32,
         connections: ConnectionCounts,
         journal: Option<&'a JournalCounts>,
     ) -> PagePort<'a>
         ensures day { result.day ≡ day }
+        ensures given { result.is_given ≡ is_given }
         ensures tills { result.tills ≡ tills }
         ensures connections { result.connections ≡ connections }
     {
@@ -136,6 +141,7 @@ impl<'a> PagePort<'a> {
             rt,
             listener,
             day,
+            is_given,
             tills,
             connections,
             journal,

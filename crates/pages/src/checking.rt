@@ -18,9 +18,10 @@ fn without_worker(role_counts: &[RoleCounts]) -> Option<Role>
     }
 }
 
-pub fn health(has_failed: bool, entries: u32, role_counts: &[RoleCounts]) -> Health
+/// `is_given` says whether the day has the given configuration, where it was to begin with that.
+pub fn health(has_failed: bool, entries: u32, is_given: bool, role_counts: &[RoleCounts]) -> Health
     // proved: It names the first thing that isn't well
-    ensures { result ≡ health_of has_failed entries role_counts.now }
+    ensures { result ≡ health_of has_failed entries is_given role_counts.now }
 {
     if has_failed {
         return Health::JournalFailed;
@@ -29,7 +30,8 @@ pub fn health(has_failed: bool, entries: u32, role_counts: &[RoleCounts]) -> Hea
         return Health::NearlyFull;
     }
     match without_worker(role_counts) {
-        None => Health::Healthy,
+        None if is_given => Health::Healthy,
+        None => Health::OtherConfig,
         Some(role) => Health::NoWorker(role),
     }
 }

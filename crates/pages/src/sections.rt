@@ -57,7 +57,13 @@ fn add_headline(html: &mut TextBuilder, station: &StationSnapshot<'_>) {
         "<p class=\"audited\">{} UTC, renewed every 5 seconds</p>\n<h1>The station now</h1>\n",
         &[Text::Moment(station.moment)],
     );
-    match health(station.has_failed, station.entries, station.role_counts) {
+    let counts = station.role_counts;
+    match health(
+        station.has_failed,
+        station.entries,
+        station.is_given,
+        counts,
+    ) {
         Health::Healthy => html.add("<p>All is well.</p>\n"),
         flaw => html.fill(
             "<p><strong>Not well: {}.</strong></p>\n",

@@ -15,6 +15,8 @@ pub struct StationSnapshot<'a> {
     pub next_opening: &'a Opening,
     /// Whether a write to the journal, or a sync of its file, failed.
     pub has_failed: bool,
+    /// False if the day was to begin with the given configuration, and couldn't.
+    pub is_given: bool,
     /// `None` if the journal isn't kept in a file.
     pub journal: Option<JournalFileStats>,
     /// How often the site was read for display, and how long that waited for the site's lock.
@@ -80,6 +82,8 @@ pub enum Health {
     NearlyFull,
     /// No worker serves this role: none has begun, or all have ended.
     NoWorker(Role),
+    /// The day was to begin with the given configuration, which couldn't be taken.
+    OtherConfig,
 }
 
 impl Health {
@@ -93,6 +97,7 @@ impl Health {
             Health::Healthy => "ok",
             Health::JournalFailed => "the journal failed",
             Health::NearlyFull => "the journal is nearly full",
+            Health::OtherConfig => "the configuration isn't taken",
             Health::NoWorker(Role::Till | Role::OneTill(..)) => "no worker is left for tills",
             Health::NoWorker(Role::Dispenser | Role::SomePoints(..)) =>
                 "no worker is left for dispensers",
