@@ -10,3 +10,4 @@ pub mod Journals
 pub mod LongLines
 pub mod FolderDays
 pub mod NoChain
+pub mod GoodOpenings

@@ -144,8 +144,8 @@ IsUnfitting folder config day =
 
 -- A day takes the configuration `config`. If `own` is None, it is the one that the day keeps, or `given` if it keeps
 -- none; `given` may then only fail to fit the day's opening if the folder's for the day doesn't fit it either. Else it
--- is the one that the folder has for the day, since the day keeps none and `given` doesn't fit the day's opening; `own`
--- is its text.
+-- is the one that the folder has for the day, since the day keeps none and `given` doesn't fit the day's opening, and
+-- this one does; `own` is its text.
 abbrev pub Takes : FolderText → ConfigValue → ℕ → Option (List ℕ) → ConfigValue → Type 0
 Takes folder given day None config =
     IsConfigOf given (kept_config folder day) config
@@ -153,7 +153,7 @@ Takes folder given day None config =
     → own_config (file_of folder day part.Config) ≡ Some (Ok other) → IsUnfitting folder other day)
 Takes folder given day (Some own) config =
     (kept_config folder day ≡ None) × IsUnfitting folder given day × (file_of folder day part.Config ≡ Some own)
-    × (own_config (file_of folder day part.Config) ≡ Some (Ok config))
+    × (own_config (file_of folder day part.Config) ≡ Some (Ok config)) × ¬ IsUnfitting folder config day
 
 -- A site goes on with day `day` of a folder, and then has the configuration `begun`.
 abbrev pub GoesOn : FolderText → ConfigValue → ℕ → Option (List ℕ) → ConfigValue → Type 0

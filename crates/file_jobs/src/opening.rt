@@ -3,9 +3,10 @@ ghost use Rattle.std.specs.Prelude.{◌≡◌, ◌≢◌, ◌≤◌, ◌++◌, �
 ghost use Rattle.verifier.specs.Refusals.{refusal_numbers};
 ghost use Rattle.file_jobs.specs.AuditOutput.{program_text};
 ghost use Rattle.days.specs.Chain.{BeginsBy};
+ghost use Rattle.site_core.specs.Limits.{ConfigValue};
 ghost use Rattle.days.specs.File.{IsOpeningFile};
 ghost use Rattle.days.specs.Fitting.{BeginsWith};
-ghost use Rattle.days.specs.Flaws.{IsOnly};
+ghost use Rattle.days.specs.Flaws.{HasNoOpening, IsOnly};
 ghost use Rattle.days.specs.Ranges.{FileFits};
 ghost use Rattle.days.specs.Text.{opening_text};
 ghost use Rattle.days.specs.Words.{unfit_text};
@@ -53,6 +54,8 @@ pub(crate) fn begin_with<R: Read + Drop>(
     ensures begun { IfOk result (λ begun. BeginsDay config begun.1 begun.0) }
     ensures text { (text : List ℕ) → R.remaining source ≡ Some text
         → IfOk result (λ begun. BeginsBy begun.1 config (Some text) begun.0) }
+    ensures none { (text : List ℕ) (day : ℕ) (begun : ConfigValue) → R.remaining source ≡ Some text
+        → length text ≤ MOST_OPENING → BeginsBy day config (Some text) begun → IfErr result (Ends 3 []) }
     ensures refused { IfErr result (Refuses 1) }
 {
     let file = opening_in(rt, word, source)?;
@@ -89,6 +92,8 @@ pub(crate) fn opening_in<R: Read + Drop>(
     ensures fits { IfOk result FileFits }
     ensures text { (text : List ℕ) → R.remaining source ≡ Some text → IfOk result (λ file. opening_text file ≡ text) }
     ensures only { (text : List ℕ) → R.remaining source ≡ Some text → IfOk result (IsOnly text) }
+    ensures none { (text : List ℕ) → R.remaining source ≡ Some text → length text ≤ MOST_OPENING
+        → ¬ HasNoOpening text → IfErr result (Ends 3 []) }
     ensures refused { IfErr result (Refuses 1) }
 {
     let bytes = opening_bytes(rt, word, source)?;

@@ -4,6 +4,7 @@ ghost use Rattle.std.specs.Prelude.{is_some, option_map};
 ghost use Rattle.site_core.specs.Limits.{ConfigValue};
 ghost use Rattle.site_config.specs.Flaws.{fault_of};
 ghost use Rattle.site_config.specs.Ranges.{config_of, settings_view};
+ghost use Rattle.site_config.specs.Doors.{serve_seen};
 ghost use Rattle.file_jobs.specs.StandardInput.{is_input, may_be_input, reads_twice};
 ghost use Rattle.file_jobs.specs.JobErrors.{Ends, EndsOrRunsOut, Refuses};
 ghost use Rattle.file_jobs.specs.Told.{SaysConfig, SaysFlaw};
@@ -72,7 +73,19 @@ pub fn day_of(rt: &HostRuntime, site: SiteFiles<'_>) -> Result<Day, JobError>
         return Err(refuse_twice(rt.alloc()));
     }
     let text = text_of(rt, site.config)?;
-    let Settings { config, serve } = settings_in(rt, site.config, &text)?;
+    day_by(rt, site, &text)
+}
+
+/// Reads a site like `day_of`, of whose configuration this is the text.
+fn day_by(rt: &HostRuntime, site: SiteFiles<'_>, text: &[u8]) -> Result<Day, JobError>
+    ensures first { site.entry.opening ≡ None → IfOk result (λ day. day.number ≡ 1) }
+    ensures given { IfOk result (λ day. (config : ConfigValue)
+        × (config_of text.now ≡ Ok (record { config = config; serve = option_map serve_seen day.serve }))
+        × (site.entry.opening ≡ None → day.config ≡ config)
+        × (IsSome site.entry.opening → BeginsDay config day.number day.config)) }
+    ensures refused { IfErr result (Refuses 1) }
+{
+    let Settings { config, serve } = settings_in(rt, site.config, text)?;
     let begun = match site.opening {
         Some(opening) => begin_with(rt, opening, Source::open(rt, opening)?, config),
         None => Ok((config, 1)),

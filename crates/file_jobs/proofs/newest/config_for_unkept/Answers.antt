@@ -25,4 +25,5 @@ returns-clause-taken g c = λ texts known none.
           (c.in_ok-misfit.ensures.misfit texts known),
       own.0,
       own.1,
+      subst (λ o. IfSome o (λ own. ¬ IsUnfitting texts own.config c.args.day)) c.in-Some-2.is (c.in_ok-own.ensures.fits texts known),
     )
