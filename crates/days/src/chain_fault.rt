@@ -48,12 +48,13 @@ pub enum Unclosed<J> {
     OutOfMemory,
 }
 
-/// Why days don't follow one another; or a day couldn't be read (`Unread`), the device of a journal failed
-/// (`Unclosed`), or memory ran out (`NoNextOpening`, `Unbegun` or `Unclosed`).
+/// Why days don't follow one another; or a day couldn't be read (`Unread`), its end couldn't be told (`Untold`), the
+/// device of a journal failed (`Unclosed`), or memory ran out (`NoNextOpening`, `Unbegun` or `Unclosed`).
 #[derive(Drop)]
 pub enum Cause<J> {
     NoDays,
     Unread,
+    Untold,
     NoNextOpening(NoNextOpening),
     Unfollowed(Unfollowed),
     Unbegun(Unbegun),
