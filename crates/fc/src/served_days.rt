@@ -2,13 +2,13 @@
 use crate::day_end::{end_of, second};
 use crate::day_times::DayTimes;
 use crate::kept::{AnswerAfter, KeptBy, new_stop, open_synced, print_error, serve_on};
-use crate::serve::{OpenDoors, ServedBy, open_page, open_site_doors, print_end, served};
+use crate::serve::{OpenDoors, ServedBy, open_page, open_site_doors, print_end};
 use days::Closed;
 use file_jobs::files::{is_input, text_of};
 use file_jobs::job_error::at_file;
 use file_jobs::messages::print_message;
 use file_jobs::newest::{check_newest, day_after_ended, newest_day};
-use file_jobs::settings::settings_in;
+use file_jobs::settings::{served, settings_in};
 use file_jobs::{
     DayFile, DayFiles, DayToServe, EndedDay, FAILED, Folder, FoundFile, HashedSite, JobError,
     OpenJournal, Part, Place,

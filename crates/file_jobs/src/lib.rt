@@ -27,6 +27,7 @@ pub mod newest;
 mod notices;
 pub mod open_journals;
 pub mod opening;
+pub mod other_config;
 mod player;
 pub mod playing;
 pub mod plays;
@@ -41,6 +42,7 @@ pub mod script;
 pub mod settings;
 mod statuses;
 mod subcommands;
+pub mod tomorrow;
 pub mod unopened;
 
 pub use entering::Entered;

@@ -16,6 +16,7 @@ use crate::job_error::{JobError, at_file};
 use crate::messages::{Place, print_message};
 use crate::open_journals::open_to_close;
 use crate::opening::{begin_with, opening_in, refuse_fault, refuse_words};
+use crate::other_config::{differences, taken_words, untaken_words};
 use crate::settings::settings_in;
 use crate::statuses::FAILED;
 use days::fitting::first_misfit;
@@ -202,7 +203,7 @@ fn config_for<F: DayFiles>(
 {
     match kept_config(rt, folder, day)? {
         Some(kept) => {
-            print_other_config(rt, folder.as_folder(), day, word, kept.is_same(&given))?;
+            print_other_config(rt, folder.as_folder(), day, word, (&kept, &given))?;
             Ok(Taken {
                 config: kept,
                 is_kept: true,
@@ -244,7 +245,7 @@ fn config_for_unkept<F: DayFiles>(
 
 /// Returns why the opening that the folder has for a day doesn't fit `config`. There is no reason for day 1, which has
 /// no opening, nor for an opening that is missing or another day's, with which no day begins.
-fn misfit_of<F: DayFiles>(
+pub(crate) fn misfit_of<F: DayFiles>(
     rt: &HostRuntime,
     folder: &F,
     day: u32,
@@ -308,21 +309,26 @@ fn print_misfit(
     Ok(())
 }
 
+/// Prints what the next day takes of the given configuration, where that isn't the one that the day keeps.
 fn print_other_config(
     rt: &HostRuntime,
     folder: Folder<'_>,
     day: u32,
     word: &str,
-    is_same: bool,
+    configs: (&Config, &Config),
 ) -> Result<(), AllocError> {
-    if is_same {
+    let (kept, given) = configs;
+    let found = differences(rt.alloc(), kept, given)?;
+    if found.is_empty() {
         return Ok(());
     }
     let path = folder.file(rt, day, Part::Config)?;
+    let taken = taken_words(rt.alloc(), &found)?;
+    let untaken = untaken_words(rt.alloc(), &found)?;
     print_message(
         rt,
         &format_args!(
-            "day {day} goes on with {path}: tills, slots and bounds of {word} count from the next day on"
+            "day {day} goes on with {path}; the next day takes of {word}: {taken}; no day takes: {untaken}"
         ),
     );
     Ok(())
@@ -442,7 +448,11 @@ fn kept_config<F: DayFiles>(
 }
 
 /// Returns whether a day has a journal that isn't empty.
-fn is_written<F: DayFiles>(rt: &HostRuntime, folder: &F, day: u32) -> Result<bool, JobError>
+pub(crate) fn is_written<F: DayFiles>(
+    rt: &HostRuntime,
+    folder: &F,
+    day: u32,
+) -> Result<bool, JobError>
     ensures written { (texts : FolderText) → F.files folder.now ≡ Some texts
         → IfOk result (λ written. written ≡ is_written (file_of texts day Part.Journal)) }
     ensures refused { IfErr result (Ends 3 []) }

@@ -1,5 +1,5 @@
 //! Reads the files that say what a site begins with.
-ghost use Rattle.std.specs.Prelude.{◌≡◌, ◌&&◌, ◌++◌, ◌∷◌, [], false, None, Some, Ok, IfOk, IfErr, IsErrAnd, IsSome, IsTrue};
+ghost use Rattle.std.specs.Prelude.{◌≡◌, ◌&&◌, ◌++◌, ◌∷◌, [], false, None, Some, Ok, IfOk, IfErr, IfSome, IsErrAnd, IsSome, IsTrue, codes};
 ghost use Rattle.std.specs.Prelude.{is_some, option_map};
 ghost use Rattle.site_core.specs.Limits.{ConfigValue};
 ghost use Rattle.site_config.specs.Flaws.{fault_of};
@@ -17,7 +17,7 @@ use crate::messages::Place;
 use crate::opening::{Day, begin_with};
 use crate::statuses::USAGE;
 use site_config::ranges::read_settings;
-use site_config::{ConfigFault, ConfigFlaw, Settings};
+use site_config::{ConfigFault, ConfigFlaw, Serve, Settings};
 use std::alloc::Global;
 
 /// The arguments that name a site's configuration, and the opening that it begins with.
@@ -145,6 +145,21 @@ fn refuse_for(alloc: Global, word: &str, flaw: &ConfigFlaw, code: &str) -> JobEr
             JobError::refused(alloc, place, flaw, code)
         }
         None => JobError::refused(alloc, place, flaw, code),
+    }
+}
+
+/// Returns how a site is served. The error is that its configuration, in the file that `word` names, hasn't the table
+/// `[serve]` (K2).
+pub fn served(alloc: Global, word: &str, serve: Option<Serve>) -> Result<Serve, JobError>
+    ensures some { IfSome serve (λ serve. result ≡ Ok serve) }
+    ensures none { serve ≡ None → IsErrAnd result (EndsOrRunsOut 1 (codes "K2" ++ 10 ∷ [])) }
+{
+    match serve {
+        Some(serve) => Ok(serve),
+        None => {
+            let words = "serve needs the table [serve]";
+            Err(JobError::refused(alloc, Place::of(word), &words, "K2"))
+        }
     }
 }
 
