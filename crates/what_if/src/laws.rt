@@ -1,0 +1,1 @@
+//! Laws about what another rule would have answered.
