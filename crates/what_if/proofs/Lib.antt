@@ -1,1 +1,4 @@
 mod Finding
+mod OneMore
+mod Alone
+mod SameRule

@@ -1,3 +1,5 @@
 pub mod Decisions
 pub mod Rows
 pub mod Comparisons
+pub mod Text
+pub mod Laws

@@ -4,8 +4,13 @@
 pub mod comparison;
 mod decisions;
 pub mod laws;
+mod lines;
 mod rows;
+pub mod summary;
+pub mod writing;
 
 pub use comparison::{Comparison, Reading};
 pub use decisions::{Asking, Kind};
+pub use lines::Format;
 pub use rows::{Row, RowChange};
+pub use writing::RowsFault;

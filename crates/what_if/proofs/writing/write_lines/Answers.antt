@@ -1,0 +1,7 @@
+use Rattle.what_if.specs.Text.{line_text}
+use Rattle.what_if.proofs.OneMore.{one-more}
+use Rattle.what_if.proofs.writing.write_lines.Goals as goal
+
+pub loop-row-preserved : goal.loop-row-preserved
+loop-row-preserved g c =
+    one-more (line_text c.args.format) c.args.rows.now c.loop-row.row-index _ _ _ _ c.loop-row-test.true c.loop-row.invariant c.in_ok-write_line.ensures

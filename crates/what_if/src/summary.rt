@@ -1,0 +1,1 @@
+//! What the rows come to, in words.
