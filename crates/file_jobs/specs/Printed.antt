@@ -38,3 +38,8 @@ Verifies (Ok bytes) counters layout printed =
     IsAcceptedAndGood (as_loaded bytes counters layout)
     × (printed ≡ codes "accepted " ++ (decimal (length bytes / 8) ++ codes "\n"))
 Verifies (Err fault) counters layout printed = ⊥
+
+-- The rule is the program of this file, with these counters declared, for contexts of this layout.
+abbrev pub IsRuleOf : Result (List ℕ) ProgramFileFault → ℕ → Layout → ProgramText → Type 0
+IsRuleOf (Ok bytes) counters layout rule = rule ≡ as_loaded bytes counters layout
+IsRuleOf (Err fault) counters layout rule = ⊥

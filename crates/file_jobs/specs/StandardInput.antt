@@ -20,3 +20,8 @@ name_of word = if is_input word then codes "standard input" else word
 abbrev pub reads_twice : List ℕ → Option (List ℕ) → List ℕ → Bool
 reads_twice config opening other =
     (is_input other && (is_input config || may_be_input opening)) || (is_input config && may_be_input opening)
+
+-- Whether a rule's file is standard input, and so is another of the job's files: the one that the job is about, the
+-- configuration, or the opening, if there is one.
+abbrev pub reads_rule_twice : List ℕ → Option (List ℕ) → List ℕ → List ℕ → Bool
+reads_rule_twice config opening other rule = is_input rule && (is_input other || (is_input config || may_be_input opening))

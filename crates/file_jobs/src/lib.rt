@@ -44,6 +44,7 @@ mod statuses;
 mod subcommands;
 pub mod tomorrow;
 pub mod unopened;
+pub mod whatif;
 
 pub use entering::Entered;
 pub use file_flaws::FileFlaw;

@@ -56,7 +56,7 @@ fn printed_text<'a>(
     }
 }
 
-fn refuse_file(alloc: Global, word: &str, flaw: &FileFlaw<'_>) -> JobError
+pub(crate) fn refuse_file(alloc: Global, word: &str, flaw: &FileFlaw<'_>) -> JobError
     ensures ends { EndsOrRunsOut 1 (line_of flaw.now) result }
     ensures memory { flaw.now ≡ FileFlaw.OutOfMemory → result ≡ JobError.OutOfMemory }
 {

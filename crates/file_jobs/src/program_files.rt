@@ -1,9 +1,9 @@
-//! What `fc asm`, `fc dis` and `fc verify` print of a file.
+//! What `fc asm`, `fc dis` and `fc verify` print of a file, and the rule in a file.
 ghost use Rattle.std.specs.Prelude.{◌≡◌, ◌<◌, length, Err, IfOk, IfErr, string_bytes};
 ghost use Rattle.bpf_asm.specs.Text.{canonical_text};
 ghost use Rattle.bpf_asm.specs.Numbered.{numbered_from};
 ghost use Rattle.bpf_asm.specs.ProgramFile.{program_in};
-ghost use Rattle.file_jobs.specs.Printed.{Assembles, DecodesTo, Disassembles, Verifies};
+ghost use Rattle.file_jobs.specs.Printed.{Assembles, DecodesTo, Disassembles, IsRuleOf, Verifies};
 ghost use Rattle.file_jobs.specs.FileFlaws.{IsAsmFlaw, IsDisFlaw, IsVerifyFlaw};
 
 use crate::file_flaws::FileFlaw;
@@ -15,7 +15,7 @@ use bpf_model::decode::{decode, encode};
 use bpf_model::{Code, DecodeFault};
 use std::alloc::Global;
 use verifier::verifying::verify;
-use verifier::{Layout, Refusal};
+use verifier::{Layout, Program, Refusal};
 
 /// Returns what `fc asm` prints of an assembler text: its units, each as a line of 16 hexadecimal digits.
 pub fn asm_file<'a>(alloc: Global, text: &'a [u8]) -> Result<String, FileFlaw<'a>>
@@ -71,6 +71,31 @@ fn code_in(alloc: Global, file: &[u8]) -> Result<Code, FileFlaw<'static>>
         Err(fault) => {
             let refused = explain_refusal(alloc, &bytes, Refusal::Decode(fault))?;
             Err(FileFlaw::Program(refused))
+        }
+    }
+}
+
+/// Returns the program of a file, if the verifier accepts it for contexts of this layout. Bit c of `counters` declares
+/// counter c.
+pub fn rule_file(
+    alloc: Global,
+    file: &[u8],
+    counters: u32,
+    context: Layout,
+) -> Result<Program, FileFlaw<'static>>
+    // proved: A rule is the program of its file, as the verifier accepts it
+    ensures rule { IfOk result (IsRuleOf (program_in file.now) counters context) }
+    ensures flaw { IfErr result (IsVerifyFlaw (program_in file.now) counters context) }
+    ensures length { 65536 < length file.now → result ≡ Err (FileFlaw.File ProgramFileFault.TooLong) }
+{
+    let bytes = read_program(alloc, file)?;
+    match verify(alloc, &bytes, counters, context) {
+        Ok(program) => Ok(program),
+        Err(refusal) => {
+            if refusal.fault_numbers().is_none() {
+                return Err(FileFlaw::OutOfMemory);
+            }
+            Err(FileFlaw::Program(explain_refusal(alloc, &bytes, refusal)?))
         }
     }
 }

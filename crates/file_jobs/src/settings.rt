@@ -1,11 +1,11 @@
 //! Reads the files that say what a site begins with.
-ghost use Rattle.std.specs.Prelude.{◌≡◌, ◌&&◌, ◌++◌, ◌∷◌, [], false, None, Some, Ok, IfOk, IfErr, IfSome, IsErrAnd, IsSome, IsTrue, codes};
+ghost use Rattle.std.specs.Prelude.{◌≡◌, ◌&&◌, ◌||◌, ◌++◌, ◌∷◌, [], false, None, Some, Ok, IfOk, IfErr, IfSome, IsErrAnd, IsSome, IsTrue, codes};
 ghost use Rattle.std.specs.Prelude.{is_some, option_map};
 ghost use Rattle.site_core.specs.Limits.{ConfigValue};
 ghost use Rattle.site_config.specs.Flaws.{fault_of};
 ghost use Rattle.site_config.specs.Ranges.{config_of, settings_view};
 ghost use Rattle.site_config.specs.Doors.{serve_seen};
-ghost use Rattle.file_jobs.specs.StandardInput.{is_input, may_be_input, reads_twice};
+ghost use Rattle.file_jobs.specs.StandardInput.{is_input, may_be_input, reads_rule_twice, reads_twice};
 ghost use Rattle.file_jobs.specs.JobErrors.{Ends, EndsOrRunsOut, Refuses};
 ghost use Rattle.file_jobs.specs.Told.{SaysConfig, SaysFlaw};
 ghost use Rattle.file_jobs.specs.FileRefusals.{RefusesConfig, RefusesSettings};
@@ -45,6 +45,29 @@ impl<'a> SiteFiles<'a> {
         ensures { result ≡ is_some self.entry.opening }
     {
         self.opening.is_some()
+    }
+
+    /// Returns whether the configuration or the opening is standard input.
+    fn reads_input(self) -> bool
+        ensures { result ≡ (is_input self.entry.config.now || may_be_input (option_map (λ w. w.now) self.entry.opening)) }
+    {
+        is_input(self.config) || self.is_opening_input()
+    }
+
+    /// Returns whether standard input would be read twice, if these files and that which `other` names are read.
+    pub(crate) fn reads_twice(self, other: &str) -> bool
+        ensures { result ≡ reads_twice self.entry.config.now (option_map (λ w. w.now) self.entry.opening) other.now }
+    {
+        (is_input(other) && self.reads_input())
+            || (is_input(self.config) && self.is_opening_input())
+    }
+
+    /// Returns whether standard input would be read for a rule and for another file: these, or that which `other` names.
+    pub(crate) fn reads_rule_twice(self, other: &str, rule: &str) -> bool
+        ensures { result
+            ≡ reads_rule_twice self.entry.config.now (option_map (λ w. w.now) self.entry.opening) other.now rule.now }
+    {
+        is_input(rule) && (is_input(other) || self.reads_input())
     }
 
     fn is_opening_input(self) -> bool
@@ -100,7 +123,7 @@ fn day_by(rt: &HostRuntime, site: SiteFiles<'_>, text: &[u8]) -> Result<Day, Job
     }
 }
 
-fn refuse_twice(alloc: Global) -> JobError
+pub(crate) fn refuse_twice(alloc: Global) -> JobError
     ensures { Ends 2 [] result }
 {
     let words = "- is standard input, which is read once: name one of the two files";

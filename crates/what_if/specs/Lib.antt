@@ -3,3 +3,4 @@ pub mod Rows
 pub mod Comparisons
 pub mod Text
 pub mod Laws
+pub mod Sums
