@@ -13,7 +13,10 @@ _fc_command() {
         play | carry | report) takes=2 options='--opening' ;;
         audit) takes=2 options='--opening --days' ;;
         export) takes=3 kinds='sales decisions events' options='--json --opening' ;;
-        explain) takes=3 options='--opening --days' ;;
+        explain) takes=3 options='--json --opening --days' ;;
+        run) takes=1 options='--counters --context --trace --json' ;;
+        whatif) takes=3 options='--slot --counters --context --carry --json --summary --opening --days' ;;
+        follow) takes=2 ;;
         serve) takes=1 options='--journal --sync --opening --days --new-day' ;;
     esac
 }
@@ -48,7 +51,7 @@ _fc_value() {
 }
 
 _fc() {
-    local commands='asm dis verify play audit carry report export explain serve help' takes kinds options
+    local commands='asm dis verify play audit carry report export explain run whatif follow serve help' takes kinds options
     local word before name='' files=0 at
     COMPREPLY=()
     word=${COMP_WORDS[COMP_CWORD]}
@@ -68,7 +71,7 @@ _fc() {
         return
     fi
     case $before in
-        --counters | --context | --journal | --opening | --days)
+        --counters | --context | --slot | --journal | --opening | --days)
             _fc_value "$before" "$word"
             return
             ;;
@@ -78,9 +81,10 @@ _fc() {
     _fc_command "$name"
     for ((at = 2; at < COMP_CWORD; at++)); do
         case ${COMP_WORDS[at]} in
-            --counters | --context | --journal | --opening | --days)
-                # All days of a folder are audited without a journal.
+            --counters | --context | --slot | --journal | --opening | --days)
+                # All days of a folder are audited, and other rules tried on them, without a journal.
                 [ "$name ${COMP_WORDS[at]}" != 'audit --days' ] || takes=1
+                [ "$name ${COMP_WORDS[at]}" != 'whatif --days' ] || takes=2
                 options=${options/${COMP_WORDS[at]}/}
                 _fc_besides "${COMP_WORDS[at]}"
                 at=$((at + 1))

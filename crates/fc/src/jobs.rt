@@ -12,7 +12,7 @@ use file_jobs::job_error::print_text;
 use file_jobs::plays::{play_files, play_input};
 use file_jobs::printing::print_file;
 use file_jobs::report::report_files;
-use file_jobs::{Folder, Job, JobError, PrintRequest, ServeJob, SiteFiles};
+use file_jobs::{Folder, Job, JobError, PrintRequest, ServeJob, SiteFiles, USAGE};
 use std::fs::Files;
 use std::io::IsTerminal;
 use std::net::{Net, TcpListener, TcpStream};
@@ -64,18 +64,32 @@ pub fn do_job<
             config,
             journal,
         } => export_files(rt, *rows, *format, site_files(config, opening), journal),
+        // to come
+        Job::Explain { is_json: true, .. } | Job::ExplainDay { is_json: true, .. } => {
+            Err(JobError::message(rt.alloc(), &"--json is to come", USAGE))
+        }
         Job::Explain {
             opening,
             config,
             journal,
             number,
+            ..
         } => explain_files(rt, site_files(config, opening), journal, *number),
         Job::ExplainDay {
             folder,
             config,
             day,
             number,
+            ..
         } => explain_day(rt, folder, config, *day, *number),
+        // to come
+        Job::Run { .. } => Err(JobError::message(rt.alloc(), &"run is to come", USAGE)),
+        // to come
+        Job::WhatIf { .. } => Err(JobError::message(rt.alloc(), &"whatif is to come", USAGE)),
+        // to come
+        Job::WhatIfDays { .. } => Err(JobError::message(rt.alloc(), &"whatif is to come", USAGE)),
+        // to come
+        Job::Follow { .. } => Err(JobError::message(rt.alloc(), &"follow is to come", USAGE)),
         Job::Serve(job) => serve(rt, host, job),
     }
 }

@@ -2,7 +2,7 @@
 -- `SubcommandDescription`.
 use Rattle.std.specs.Prelude.{List, [], ◌∷◌, codes}
 use Rattle.clap.specs.Words.{App, Rule, new_app, with_rule, with_subcommand}
-use Rattle.file_jobs.specs.JobRequest.{context_rule, file_rule, flag_rule, kind_rule, mask_rule, option_rule, spare_rule}
+use Rattle.file_jobs.specs.JobRequest.{context_rule, fields_rule, file_rule, flag_rule, kind_rule, mask_rule, option_rule, slot_rule, spare_rule}
 use Rattle.file_jobs.specs.declared.subcommands.Argument.{Argument}
 use Rattle.file_jobs.specs.declared.subcommands.Argument.TheVariants as argument
 use Rattle.file_jobs.specs.declared.subcommands.SubcommandDescription.{SubcommandDescription}
@@ -16,6 +16,8 @@ rule_for argument.Context = context_rule
 rule_for (argument.FileOption name help) = option_rule name.now
 rule_for (argument.Days help) = option_rule (codes "days")
 rule_for (argument.Flag name help) = flag_rule name.now
+rule_for argument.Fields = fields_rule
+rule_for argument.Slot = slot_rule
 
 -- adds these arguments to a command, in their order
 abbrev pub with_rules : App → List Argument → App

@@ -1,12 +1,12 @@
 -- Definitions: the subcommands of `fc`, the job that a parsed command line asks for, and the error message if it asks
 -- for none. The first argument of a command line is the program's name.
 use Rattle.std.specs.Prelude.{◌≡◌, ◌≢◌, ◌⊎◌, ℕ, List, [], ◌∷◌, codes, Bool, true, false, Option, Some, None, option_and_then, option_map}
-use Rattle.std.specs.Prelude.{if◌then◌else◌, ◌++◌, String, string_bytes}
+use Rattle.std.specs.Prelude.{if◌then◌else◌, ◌++◌, ◌&&◌, String, string_bytes, map, nat_lt, unwrap_or}
 use Rattle.std.specs.Global.{Global}
 use Rattle.std.specs.Option.{option_map_or}
 use Rattle.std.specs.Str.{bytes_eq}
-use Rattle.clap.specs.Words.{App, Row, Rule, Text, new_app, new_rule, with_rule, with_subcommand, first_of}
-use Rattle.clap.specs.declared.builder.action.ArgAction.TheVariants.{SetTrue}
+use Rattle.clap.specs.Words.{App, Row, Rule, Text, all_of, new_app, new_rule, with_rule, with_subcommand, first_of}
+use Rattle.clap.specs.declared.builder.action.ArgAction.TheVariants.{Append, SetTrue}
 use Rattle.clap.specs.Kinds.{Kinds, IsAmong}
 use Rattle.clap.specs.declared.error.kind.ErrorKind.{ErrorKind}
 use Rattle.clap.specs.declared.error.kind.ErrorKind.TheVariants as kind
@@ -17,8 +17,14 @@ use Rattle.day_export.specs.declared.cells.Rows.TheVariants as kinds
 use Rattle.day_export.specs.declared.cells.Format.{Format}
 use Rattle.day_export.specs.declared.cells.Format.TheVariants as formats
 use Rattle.file_jobs.specs.Mask.{mask_named, number_of}
+use Rattle.file_jobs.specs.declared.trial_words.Trial.{Trial}
 use Rattle.file_jobs.specs.declared.job.Job.{Job}
 use Rattle.file_jobs.specs.declared.job.Job.TheVariants as job
+use Rattle.file_jobs.specs.declared.job.Reading.{Reading}
+use Rattle.file_jobs.specs.declared.job.Reading.TheVariants as readings
+use Rattle.file_jobs.specs.declared.job.WhatIf.{WhatIf}
+use Rattle.file_jobs.specs.declared.job.WhatIfFormat.{WhatIfFormat}
+use Rattle.file_jobs.specs.declared.job.WhatIfFormat.TheVariants as what_if_formats
 use Rattle.file_jobs.specs.declared.job.ServeJob.{ServeJob}
 use Rattle.file_jobs.specs.declared.job.ServeJob.TheVariants as served
 use Rattle.file_jobs.specs.declared.job.CommandFault.{CommandFault}
@@ -55,6 +61,14 @@ option_rule name = record (new_rule name) { long = Some name; value_names = 1 }
 -- an option with this name that takes no value, such as --units
 abbrev pub flag_rule : Text → Rule
 flag_rule name = record (new_rule name) { long = Some name; action = Some SetTrue }
+
+-- the words NAME=NUMBER of `run`, as many as are given
+abbrev pub fields_rule : Rule
+fields_rule = record (new_rule (codes "fields")) { action = Some Append; value_names = 1 }
+
+-- the option --slot N, which must be given
+abbrev pub slot_rule : Rule
+slot_rule = record (option_rule (codes "slot")) { required = true }
 
 abbrev pub of_file : Text → Text → App
 of_file name file = with_rule (new_app name) (file_rule file)
@@ -96,8 +110,23 @@ export_app =
 
 abbrev pub explain_app : App
 explain_app =
-    with_rule (with_rule (with_rule (of_files (codes "explain") (codes "config") (codes "journal")) (file_rule (codes "entry")))
-    (option_rule (codes "opening"))) (option_rule (codes "days"))
+    with_rule (with_rule (with_rule (with_rule (of_files (codes "explain") (codes "config") (codes "journal")) (file_rule (codes "entry")))
+    (flag_rule (codes "json"))) (option_rule (codes "opening"))) (option_rule (codes "days"))
+
+abbrev pub run_app : App
+run_app =
+    with_rule (with_rule (with_rule (with_rule (with_rule (of_file (codes "run") (codes "rule")) fields_rule) mask_rule) context_rule)
+    (flag_rule (codes "trace"))) (flag_rule (codes "json"))
+
+abbrev pub what_if_app : App
+what_if_app =
+    with_rule (with_rule (with_rule (with_rule (with_rule (with_rule (with_rule (with_rule (with_rule
+    (of_files (codes "whatif") (codes "config") (codes "journal")) (spare_rule (codes "rule"))) slot_rule) mask_rule) context_rule)
+    (flag_rule (codes "carry"))) (flag_rule (codes "json"))) (flag_rule (codes "summary"))) (option_rule (codes "opening")))
+    (option_rule (codes "days"))
+
+abbrev pub follow_app : App
+follow_app = of_files (codes "follow") (codes "folder") (codes "config")
 
 abbrev pub serve_app : App
 serve_app =
@@ -117,15 +146,19 @@ top_app = record (new_app (codes "fc")) { top = record (new_app (codes "fc")).to
 -- - carry [--opening FILE] CONFIG JOURNAL
 -- - report [--opening FILE] CONFIG JOURNAL
 -- - export [--json] [--opening FILE] KIND CONFIG JOURNAL
--- - explain [--opening FILE] CONFIG JOURNAL ENTRY
--- - explain --days FOLDER CONFIG DAY ENTRY
+-- - explain [--json] [--opening FILE] CONFIG JOURNAL ENTRY
+-- - explain [--json] --days FOLDER CONFIG DAY ENTRY
+-- - run [--counters MASK] [--context LAYOUT] [--trace] [--json] RULE [NAME=NUMBER]..
+-- - whatif [--opening FILE] --slot N [--counters MASK] [--context LAYOUT] [--carry] [--json | --summary] CONFIG JOURNAL RULE
+-- - whatif --days FOLDER --slot N [--counters MASK] [--context LAYOUT] [--carry] [--json | --summary] CONFIG RULE
+-- - follow FOLDER CONFIG
 -- - serve [--journal FILE [--sync]] [--opening FILE] CONFIG
 -- - serve --days FOLDER [--sync] [--new-day] CONFIG
 abbrev pub fc_app : App
 fc_app =
     with_subcommand (with_subcommand (with_subcommand (with_subcommand (with_subcommand (with_subcommand (with_subcommand (with_subcommand
-    (with_subcommand (with_subcommand top_app asm_app.top) dis_app.top) verify_app.top) play_app.top) audit_app.top) carry_app.top) report_app.top) export_app.top)
-    explain_app.top) serve_app.top
+    (with_subcommand (with_subcommand (with_subcommand (with_subcommand (with_subcommand top_app asm_app.top) dis_app.top) verify_app.top) play_app.top)
+    audit_app.top) carry_app.top) report_app.top) export_app.top) explain_app.top) run_app.top) what_if_app.top) follow_app.top) serve_app.top
 
 -- ---- These definitions say which job a command line asks for.
 
@@ -138,8 +171,12 @@ fc_app =
 -- - `audit`, `carry`, `report`, `serve_kept` and `serve_synced`: the opening, the configuration and the journal
 -- - `audit_days`: the folder and the configuration
 -- - `export`: the kind and the form of the rows, the opening, the configuration and the journal
--- - `explain`: the opening, the configuration, the journal and the entry's number
--- - `explain_day`: the folder, the configuration, the day's number and the entry's
+-- - `explain`: whether JSON is printed, the opening, the configuration, the journal and the entry's number
+-- - `explain_day`: whether JSON is printed, the folder, the configuration, the day's number and the entry's
+-- - `run`: the mask of counters, the layout, whether the run is printed, whether JSON is, the rule and the fields
+-- - `what_if`: what the options say, the opening, the configuration, the journal and the rule
+-- - `what_if_days`: what the options say, the folder, the configuration and the rule
+-- - `follow`: the folder and the configuration
 -- - `serve`: the opening and the configuration
 -- - `serve_days`: whether answers wait for syncs, whether a new day begins, the folder and the configuration
 pub data JobRequest : Type 0 where
@@ -154,8 +191,12 @@ pub data JobRequest : Type 0 where
   carry : Option Text → Text → Text → JobRequest
   report : Option Text → Text → Text → JobRequest
   export : Rows → Format → Option Text → Text → Text → JobRequest
-  explain : Option Text → Text → Text → ℕ → JobRequest
-  explain_day : Text → Text → ℕ → ℕ → JobRequest
+  explain : Bool → Option Text → Text → Text → ℕ → JobRequest
+  explain_day : Bool → Text → Text → ℕ → ℕ → JobRequest
+  run : ℕ → Layout → Bool → Bool → Text → List Text → JobRequest
+  what_if : Trial → Option Text → Text → Text → Text → JobRequest
+  what_if_days : Trial → Text → Text → Text → JobRequest
+  follow : Text → Text → JobRequest
   serve : Option Text → Text → JobRequest
   serve_kept : Option Text → Text → Text → JobRequest
   serve_synced : Option Text → Text → Text → JobRequest
@@ -223,17 +264,77 @@ export_in rows =
 abbrev pub entry_in : List Row → Option ℕ
 entry_in rows = option_and_then (number_of false) (first_of (codes "entry") rows)
 
--- What `explain` asks for, given the folder of --days, the file of --opening, CONFIG, JOURNAL and ENTRY's number. With
--- --days the word in JOURNAL's place is the number of a day; None if it isn't one, or if --opening is given too.
-abbrev pub explain_by : Option Text → Option Text → Text → Text → ℕ → Option JobRequest
-explain_by None opening config journal n = Some (explain opening config journal n)
-explain_by (Some folder) None config day n = option_map (λ (d : ℕ). explain_day folder config d n) (number_of false day)
-explain_by (Some folder) (Some opening) config day n = None
+-- What `explain` asks for, given whether --json is, the folder of --days, the file of --opening, CONFIG, JOURNAL and
+-- ENTRY's number. With --days the word in JOURNAL's place is the number of a day; None if it isn't one, or if --opening
+-- is given too.
+abbrev pub explain_by : Bool → Option Text → Option Text → Text → Text → ℕ → Option JobRequest
+explain_by json None opening config journal n = Some (explain json opening config journal n)
+explain_by json (Some folder) None config day n = option_map (λ (d : ℕ). explain_day json folder config d n) (number_of false day)
+explain_by json (Some folder) (Some opening) config day n = None
 
 abbrev pub explain_in : List Row → Option JobRequest
 explain_in rows =
-    option_and_then (λ (n : ℕ). option_and_then (λ (config : Text). option_and_then (λ (journal : Text). explain_by (days_in rows) (opening_in rows) config journal n)
+    option_and_then (λ (n : ℕ). option_and_then (λ (config : Text). option_and_then
+    (λ (journal : Text). explain_by (is_set (codes "json") rows) (days_in rows) (opening_in rows) config journal n)
     (first_of (codes "journal") rows)) (first_of (codes "config") rows)) (entry_in rows)
+
+-- the words NAME=NUMBER, in their order
+abbrev pub fields_in : List Row → List Text
+fields_in rows = unwrap_or (all_of (codes "fields") rows) []
+
+abbrev pub run_in : List Row → Option JobRequest
+run_in rows =
+    option_and_then (λ (n : ℕ). option_and_then (λ (layout : Layout). option_map
+    (λ (rule : Text). run n layout (is_set (codes "trace") rows) (is_set (codes "json") rows) rule (fields_in rows))
+    (first_of (codes "rule") rows)) (layout_in rows)) (mask_in rows)
+
+-- the number, if it is one of a slot: 0 to 15
+abbrev pub within_slots : ℕ → Option ℕ
+within_slots n = if nat_lt n 16 then Some n else None
+
+-- the slot that a text names; None if it isn't a number in decimal digits, or no slot
+abbrev pub slot_named : Text → Option ℕ
+slot_named t = option_and_then within_slots (number_of false t)
+
+-- the slot that --slot gives; None if its value is no slot
+abbrev pub slot_in : List Row → Option ℕ
+slot_in rows = option_and_then slot_named (first_of (codes "slot") rows)
+
+-- on what the other rule decides: with --carry, the site that its own answers lead to
+abbrev pub reading_in : List Row → Reading
+reading_in rows = if is_set (codes "carry") rows then readings.Carried else readings.AsTheyWere
+
+-- what `whatif` prints, given whether --json is given and whether --summary; None if both are
+abbrev pub what_if_format : Bool → Bool → Option WhatIfFormat
+what_if_format false false = Some what_if_formats.Csv
+what_if_format false true = Some what_if_formats.Summary
+what_if_format true false = Some what_if_formats.Json
+what_if_format true true = None
+
+abbrev pub what_if_format_in : List Row → Option WhatIfFormat
+what_if_format_in rows = what_if_format (is_set (codes "json") rows) (is_set (codes "summary") rows)
+
+-- what the options of `whatif` say; None if one has a value that it doesn't take, or two contradict each other
+abbrev pub trial_in : List Row → Option Trial
+trial_in rows =
+    option_and_then (λ (slot : ℕ). option_and_then (λ (n : ℕ). option_and_then (λ (layout : Layout). option_map (λ (format : WhatIfFormat).
+    record { slot = slot; counters = n; context = layout; reading = reading_in rows; format = format })
+    (what_if_format_in rows)) (layout_in rows)) (mask_in rows)) (slot_in rows)
+
+-- What `whatif` asks for, given the folder of --days, the file of --opening, what the other options say, CONFIG, and
+-- the second and the third word: JOURNAL and RULE, or with --days RULE alone. None in two cases: --days is given
+-- together with --opening or a third word, or neither --days nor a third word is given.
+abbrev pub what_if_by : Option Text → Option Text → Trial → Text → Text → Option Text → Option JobRequest
+what_if_by None opening trial config journal None = None
+what_if_by None opening trial config journal (Some rule) = Some (what_if trial opening config journal rule)
+what_if_by (Some folder) None trial config rule None = Some (what_if_days trial folder config rule)
+what_if_by (Some folder) opening trial config rule third = None
+
+abbrev pub what_if_in : List Row → Option JobRequest
+what_if_in rows =
+    option_and_then (λ (trial : Trial). option_and_then (λ (config : Text). option_and_then
+    (λ (second : Text). what_if_by (days_in rows) (opening_in rows) trial config second (first_of (codes "rule") rows))
+    (first_of (codes "journal") rows)) (first_of (codes "config") rows)) (trial_in rows)
 
 -- What `audit` asks for, given the folder of --days, the file of --opening, JOURNAL and CONFIG. None in two cases:
 -- --days is given together with --opening or JOURNAL, or neither --days nor JOURNAL is given.
@@ -290,6 +391,9 @@ subcommand_request name rows =
     else if bytes_eq name (codes "report") then files_in (codes "config") (codes "journal") (report (opening_in rows)) rows
     else if bytes_eq name (codes "export") then export_in rows
     else if bytes_eq name (codes "explain") then explain_in rows
+    else if bytes_eq name (codes "run") then run_in rows
+    else if bytes_eq name (codes "whatif") then what_if_in rows
+    else if bytes_eq name (codes "follow") then files_in (codes "folder") (codes "config") follow rows
     else if bytes_eq name (codes "serve") then serve_in rows
     else None
 
@@ -300,6 +404,10 @@ parsed_request (Some p) = subcommand_request p.0 p.1
 -- the bytes of a file's name; None if no file is named
 abbrev pub named : Option (String Global) → Option Text
 named file = option_map string_bytes file
+
+-- what a job of `fc whatif` says of the other rule
+abbrev pub trial_of : WhatIf → Trial
+trial_of w = record { slot = w.slot; counters = w.counters; context = w.context; reading = w.reading; format = w.format }
 
 -- the request that a job of `fc serve` stands for
 abbrev pub serve_request : ServeJob → JobRequest
@@ -321,8 +429,15 @@ requested (job.Carry opening config journal) = Some (carry (named opening) (stri
 requested (job.AuditDays folder config) = Some (audit_days (string_bytes folder) (string_bytes config))
 requested (job.Report opening config journal) = Some (report (named opening) (string_bytes config) (string_bytes journal))
 requested (job.Export rows format opening config journal) = Some (export rows format (named opening) (string_bytes config) (string_bytes journal))
-requested (job.Explain opening config journal number) = Some (explain (named opening) (string_bytes config) (string_bytes journal) number)
-requested (job.ExplainDay folder config day number) = Some (explain_day (string_bytes folder) (string_bytes config) day number)
+requested (job.Explain opening config journal number is_json) =
+    Some (explain is_json (named opening) (string_bytes config) (string_bytes journal) number)
+requested (job.ExplainDay folder config day number is_json) = Some (explain_day is_json (string_bytes folder) (string_bytes config) day number)
+requested (job.Run rule counters context is_traced is_json fields) =
+    Some (run counters context is_traced is_json (string_bytes rule) (map string_bytes fields.items))
+requested (job.WhatIf opening config journal w) =
+    Some (what_if (trial_of w) (named opening) (string_bytes config) (string_bytes journal) (string_bytes w.rule))
+requested (job.WhatIfDays folder config w) = Some (what_if_days (trial_of w) (string_bytes folder) (string_bytes config) (string_bytes w.rule))
+requested (job.Follow folder config) = Some (follow (string_bytes folder) (string_bytes config))
 requested (job.Serve served) = Some (serve_request served)
 requested (job.Show text) = None
 
@@ -370,7 +485,7 @@ serve_message rows =
           else codes "error: --sync wants --journal FILE or --days FOLDER"
     ]
 
--- the first line of the error message for a `verify` that `clap` accepts, but whose values are wrong
+-- the first line of the error message for a `verify` or a `run` that `clap` accepts, but whose values are wrong
 abbrev pub verify_message : List Row → Text
 verify_message rows =
     elim (mask_in rows) [
@@ -386,6 +501,38 @@ explain_message rows =
       | None ↦ codes "error: ENTRY is the number of an entry, such as 412"
     ]
 
+-- the first line of the error message for a `whatif` whose options say what they may, but that lacks a word or has one
+-- too many
+abbrev pub what_if_words_message : List Row → Text
+what_if_words_message rows =
+    elim (days_in rows) [
+      | Some _ ↦ codes "error: --days takes CONFIG and RULE, and neither --opening nor JOURNAL"
+      | None ↦ codes "error: whatif wants JOURNAL and RULE, or --days FOLDER and RULE"
+    ]
+
+-- the same for a `whatif` whose slot is one
+abbrev pub what_if_options_message : List Row → Text
+what_if_options_message rows =
+    elim (mask_in rows) [
+      | None ↦ codes "error: --counters takes a number of 32 bits, as 6 or 0x6"
+      | Some _ ↦
+          elim (layout_in rows) [
+            | None ↦ codes "error: --context takes 1 or 2"
+            | Some _ ↦
+                if is_set (codes "json") rows && is_set (codes "summary") rows then codes "error: --json and --summary exclude each other"
+                else what_if_words_message rows
+          ]
+    ]
+
+-- the first line of the error message for a `whatif` that `clap` accepts, but whose values are wrong, contradictory or
+-- incomplete
+abbrev pub what_if_message : List Row → Text
+what_if_message rows =
+    elim (slot_in rows) [
+      | None ↦ codes "error: --slot takes 0 to 15"
+      | Some _ ↦ what_if_options_message rows
+    ]
+
 -- the first line of the error message for the subcommand with this name and these values, if `clap` accepts the values
 -- but they are wrong, contradictory or incomplete
 abbrev pub unasked_by : Text → List Row → Text
@@ -394,6 +541,7 @@ unasked_by name rows =
     else if bytes_eq name (codes "audit") then audit_message rows
     else if bytes_eq name (codes "export") then codes "error: export takes sales, decisions or events"
     else if bytes_eq name (codes "explain") then explain_message rows
+    else if bytes_eq name (codes "whatif") then what_if_message rows
     else verify_message rows
 
 -- the first line of the error message for a command line that `clap` accepts, but whose values are wrong, contradictory

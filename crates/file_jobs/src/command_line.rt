@@ -7,18 +7,24 @@ ghost use Rattle.file_jobs.specs.JobRequest.{fc_app, requested, parsed_request, 
 ghost use Rattle.file_jobs.specs.JobRequest.{RefusesBy, audit_by, days_in, entry_in, explain_by, format_in, kind_in, named, opening_in};
 ghost use Rattle.file_jobs.specs.JobRequest.{rows_named, serve_by, serve_days_by, unasked_by, unasked_text, unasked_words};
 ghost use Rattle.file_jobs.specs.JobRequest.{audit_message, explain_message, serve_message, verify_message};
+ghost use Rattle.file_jobs.specs.JobRequest.{fields_in, what_if_message};
 ghost use Rattle.file_jobs.specs.Refusing.{Asks, Finds, FindsFiles, IsJobOfLine, IsNoJobMessage, IsRefusalOf};
 
 use crate::job::{CommandFault, Job, ServeJob};
 use crate::mask::{decimal_named, mask_named};
 use crate::subcommands::fc;
+use crate::trial_words::{what_if_message, what_if_of};
 use bpf_model::context::Layout;
 use clap::ArgMatches;
 use clap::error::ErrorKind;
 use day_export::{Format, Rows};
 use std::alloc::{AllocError, Global};
 
-fn file_of(alloc: Global, matches: &ArgMatches, id: &str) -> Result<Option<String>, AllocError>
+pub(crate) fn file_of(
+    alloc: Global,
+    matches: &ArgMatches,
+    id: &str,
+) -> Result<Option<String>, AllocError>
     ensures { IfOk result (λ s. first_of id.now (rows_of (found_of matches.now)) ≡ option_map string_bytes s) }
 {
     match matches.get_str(id) {
@@ -31,7 +37,7 @@ fn file_of(alloc: Global, matches: &ArgMatches, id: &str) -> Result<Option<Strin
 }
 
 /// The mask is 0 if the option isn't given.
-fn mask_of(matches: &ArgMatches) -> Option<u32>
+pub(crate) fn mask_of(matches: &ArgMatches) -> Option<u32>
     ensures { result ≡ mask_in (rows_of (found_of matches.now)) }
 {
     match matches.get_str("counters") {
@@ -53,7 +59,7 @@ fn layout_named(text: &str) -> Option<Layout>
 }
 
 /// The layout is `One` if the option isn't given.
-fn layout_of(matches: &ArgMatches) -> Option<Layout>
+pub(crate) fn layout_of(matches: &ArgMatches) -> Option<Layout>
     ensures { result ≡ layout_in (rows_of (found_of matches.now)) }
 {
     match matches.get_str("context") {
@@ -72,7 +78,7 @@ fn asm_of(alloc: Global, matches: &ArgMatches) -> Result<Option<Job>, AllocError
 }
 
 /// Returns whether the option `id`, which takes no value, is given.
-fn is_set(matches: &ArgMatches, id: &str) -> bool
+pub(crate) fn is_set(matches: &ArgMatches, id: &str) -> bool
     ensures { result ≡ is_set id.now (rows_of (found_of matches.now)) }
 {
     match matches.get_str(id) {
@@ -132,13 +138,13 @@ fn files_of(
     }
 }
 
-fn opening_of(alloc: Global, matches: &ArgMatches) -> Result<Option<String>, AllocError>
+pub(crate) fn opening_of(alloc: Global, matches: &ArgMatches) -> Result<Option<String>, AllocError>
     ensures { IfOk result (λ file. opening_in (rows_of (found_of matches.now)) ≡ named file) }
 {
     file_of(alloc, matches, "opening")
 }
 
-fn days_of(alloc: Global, matches: &ArgMatches) -> Result<Option<String>, AllocError>
+pub(crate) fn days_of(alloc: Global, matches: &ArgMatches) -> Result<Option<String>, AllocError>
     ensures { IfOk result (λ folder. days_in (rows_of (found_of matches.now)) ≡ named folder) }
 {
     file_of(alloc, matches, "days")
@@ -307,18 +313,22 @@ fn explain_of(alloc: Global, matches: &ArgMatches) -> Result<Option<Job>, AllocE
     };
     let opening = opening_of(alloc, matches)?;
     let days = days_of(alloc, matches)?;
-    Ok(explain_by(days, opening, config, journal, number))
+    let is_json = is_set(matches, "json");
+    Ok(explain_by(is_json, days, opening, config, journal, number))
 }
 
 /// With a folder, `journal` is the number of one of its days.
 fn explain_by(
+    is_json: bool,
     days: Option<String>,
     opening: Option<String>,
     config: String,
     journal: String,
     number: u32,
 ) -> Option<Job>
-    ensures { Asks (explain_by (named days) (named opening) (string_bytes config) (string_bytes journal) number) result }
+    ensures { Asks
+        (explain_by is_json (named days) (named opening) (string_bytes config) (string_bytes journal) number)
+        result }
 {
     match (days, opening) {
         (None, opening) => Some(Job::Explain {
@@ -326,6 +336,7 @@ fn explain_by(
             config,
             journal,
             number,
+            is_json,
         }),
         (Some(folder), None) => match decimal_named(&journal) {
             Some(day) => Some(Job::ExplainDay {
@@ -333,10 +344,67 @@ fn explain_by(
                 config,
                 day,
                 number,
+                is_json,
             }),
             None => None,
         },
         (Some(_folder), Some(_opening)) => None,
+    }
+}
+
+fn copies_of(alloc: Global, texts: &[&str]) -> Result<Vec<String>, AllocError>
+    ensures { IfOk result (λ copies. map string_bytes copies.items ≡ map (λ t. t.now) texts.now) }
+{
+    let mut copies = Vec::new(alloc);
+    let mut rest = texts;
+    while let [text, after @ ..] = rest {
+        copies.push(String::from_str(alloc, *text)?)?;
+        rest = after;
+    }
+    Ok(copies)
+}
+
+/// The words `NAME=NUMBER` of `run`.
+fn fields_of(alloc: Global, matches: &ArgMatches) -> Result<Vec<String>, AllocError>
+    ensures { IfOk result (λ fields. map string_bytes fields.items ≡ fields_in (rows_of (found_of matches.now))) }
+{
+    match matches.get_strs("fields") {
+        Some(texts) => copies_of(alloc, texts),
+        None => Ok(Vec::new(alloc)),
+    }
+}
+
+fn run_of(alloc: Global, matches: &ArgMatches) -> Result<Option<Job>, AllocError>
+    ensures job { IfOk result (Finds (codes "run") (rows_of (found_of matches.now))) }
+    ensures mask { mask_in (rows_of (found_of matches.now)) ≡ None → IsOk result }
+    ensures layout { layout_in (rows_of (found_of matches.now)) ≡ None → IsOk result }
+{
+    let Some(counters) = mask_of(matches) else {
+        return Ok(None);
+    };
+    let Some(context) = layout_of(matches) else {
+        return Ok(None);
+    };
+    let Some(rule) = file_of(alloc, matches, "rule")? else {
+        return Ok(None);
+    };
+    let fields = fields_of(alloc, matches)?;
+    Ok(Some(Job::Run {
+        rule,
+        counters,
+        context,
+        is_traced: is_set(matches, "trace"),
+        is_json: is_set(matches, "json"),
+        fields,
+    }))
+}
+
+fn follow_of(alloc: Global, matches: &ArgMatches) -> Result<Option<Job>, AllocError>
+    ensures { IfOk result (Finds (codes "follow") (rows_of (found_of matches.now))) }
+{
+    match files_of(alloc, matches, "folder", "config")? {
+        Some((folder, config)) => Ok(Some(Job::Follow { folder, config })),
+        None => Ok(None),
     }
 }
 
@@ -420,6 +488,9 @@ fn named_job(alloc: Global, name: &str, matches: &ArgMatches) -> Result<Option<J
         "report" => report_of(alloc, matches),
         "export" => export_of(alloc, matches),
         "explain" => explain_of(alloc, matches),
+        "run" => run_of(alloc, matches),
+        "whatif" => what_if_of(alloc, matches),
+        "follow" => follow_of(alloc, matches),
         "serve" => serve_of(alloc, matches),
         _ => Ok(None),
     }
@@ -435,7 +506,7 @@ fn job_of(alloc: Global, matches: &ArgMatches) -> Result<Option<Job>, AllocError
     }
 }
 
-fn has_days(matches: &ArgMatches) -> bool
+pub(crate) fn has_days(matches: &ArgMatches) -> bool
     ensures { result ≡ is_some (days_in (rows_of (found_of matches.now))) }
 {
     match matches.get_str("days") {
@@ -494,6 +565,7 @@ fn unasked_by(name: &str, matches: &ArgMatches) -> &'static str
         "audit" => audit_message(matches),
         "export" => "error: export takes sales, decisions or events",
         "explain" => explain_message(matches),
+        "whatif" => what_if_message(matches),
         _ => verify_message(matches),
     }
 }

@@ -60,6 +60,7 @@ pub enum Job {
         config: String,
         journal: String,
         number: u32,
+        is_json: bool,
     },
     /// Print why entry `number` of a day in a folder was answered so.
     ExplainDay {
@@ -67,10 +68,65 @@ pub enum Job {
         config: String,
         day: u32,
         number: u32,
+        is_json: bool,
+    },
+    /// Run a rule by itself. Each of `fields` is `NAME=NUMBER`, as in `asked=8000`.
+    Run {
+        rule: String,
+        counters: u32,
+        context: Layout,
+        is_traced: bool,
+        is_json: bool,
+        fields: Vec<String>,
+    },
+    /// Print what a journal's till requests would have been answered with another rule.
+    WhatIf {
+        opening: Option<String>,
+        config: String,
+        journal: String,
+        what_if: WhatIf,
+    },
+    /// Do the same for all days of a folder.
+    WhatIfDays {
+        folder: String,
+        config: String,
+        what_if: WhatIf,
+    },
+    /// Follow a folder whose days another program serves.
+    Follow {
+        folder: String,
+        config: String,
     },
     Serve(ServeJob),
     /// Print the help or the version.
     Show(String),
+}
+
+/// Which rule is tried on a journal in place of the one in a slot, and how. Bit c of `counters` declares counter c.
+#[derive(Drop)]
+pub struct WhatIf {
+    pub slot: u32,
+    pub rule: String,
+    pub counters: u32,
+    pub context: Layout,
+    pub reading: Reading,
+    pub format: WhatIfFormat,
+}
+
+/// On what the other rule decides each request.
+#[derive(Clone, Copy)]
+pub enum Reading {
+    /// On the site as it was in the journal.
+    AsTheyWere,
+    /// On the site that the other rule's answers lead to.
+    Carried,
+}
+
+#[derive(Clone, Copy)]
+pub enum WhatIfFormat {
+    Csv,
+    Json,
+    Summary,
 }
 
 /// How a site is served, and where its journal goes.

@@ -2,8 +2,8 @@
 ghost use Rattle.std.specs.Prelude.{◌≡◌, false, IfOk, codes};
 ghost use Rattle.clap.specs.Words.{app_of, new_app, rule_of, with_subcommand};
 ghost use Rattle.clap.specs.declared.builder.command.Command.TheViews.{out-Command};
-ghost use Rattle.file_jobs.specs.JobRequest.{context_rule, file_rule, flag_rule, kind_rule, mask_rule};
-ghost use Rattle.file_jobs.specs.JobRequest.{option_rule, spare_rule};
+ghost use Rattle.file_jobs.specs.JobRequest.{context_rule, fields_rule, file_rule, flag_rule, kind_rule, mask_rule};
+ghost use Rattle.file_jobs.specs.JobRequest.{option_rule, slot_rule, spare_rule};
 ghost use Rattle.file_jobs.specs.JobRequest.{fc_app, top_app};
 ghost use Rattle.file_jobs.specs.Described.{app_for, rule_for, with_words};
 
@@ -27,6 +27,10 @@ enum Argument {
     Days(&'static str),
     /// An option without a value.
     Flag(&'static str, &'static str),
+    /// The words `NAME=NUMBER` of `run`, as many as are given.
+    Fields,
+    /// The option `--slot`, which `whatif` needs.
+    Slot,
 }
 
 #[derive(Clone, Copy)]
@@ -96,6 +100,25 @@ fn flag_arg<'a>(alloc: Global, name: &'a str, help: &'a str) -> Arg<'a>
         .action(ArgAction::SetTrue)
 }
 
+fn fields_arg<'a>(alloc: Global) -> Arg<'a>
+    ensures rule { rule_of result ≡ fields_rule }
+    ensures local { result.global ≡ false }
+{
+    let help = "a field of what the rule is given, such as asked=8000; what isn't named is 0";
+    Arg::new(alloc, "fields")
+        .value_name("NAME=NUMBER")
+        .help(help)
+        .action(ArgAction::Append)
+}
+
+fn slot_arg<'a>(alloc: Global) -> Arg<'a>
+    ensures rule { rule_of result ≡ slot_rule }
+    ensures local { result.global ≡ false }
+{
+    let help = "the slot, 0 to 15, whose rule is another";
+    option_arg(alloc, "slot", "N", help).required(true)
+}
+
 const CONFIG: &str = "the site's configuration, as TOML";
 
 const SCRIPT: &str = "requests, events and loads, one a line";
@@ -109,7 +132,7 @@ const OPENING: Argument = Argument::FileOption(
     "begin with the opening in this file, as carry prints it",
 );
 
-const SUBCOMMANDS: [SubcommandDescription; 10] = [
+const SUBCOMMANDS: [SubcommandDescription; 13] = [
     SubcommandDescription {
         name: "asm",
         about: "Prints the units of a rule",
@@ -199,8 +222,58 @@ const SUBCOMMANDS: [SubcommandDescription; 10] = [
                 "the journal of a play, or of a served site; with --days the day's number",
             ),
             Argument::File("entry", "the entry's number, with which its line begins"),
+            Argument::Flag("json", "print one object of JSON, in place of text"),
             OPENING,
             Argument::Days("explain an entry of a day of this folder, by the day's number"),
+        ],
+    },
+    SubcommandDescription {
+        name: "run",
+        about: "Runs a rule by itself, on a request that the words describe",
+        example: "Examples: fc run rule.hex kind=release asked=8000, fc run --trace --counters 2 rule.hex counter.1=3/9",
+        arguments: &[
+            Argument::File("rule", PROGRAM),
+            Argument::Fields,
+            Argument::Mask,
+            Argument::Context,
+            Argument::Flag("trace", "print each instruction that is executed too"),
+            Argument::Flag("json", "print one object of JSON, in place of text"),
+        ],
+    },
+    SubcommandDescription {
+        name: "whatif",
+        about: "Tells what a journal's requests would have been answered with another rule",
+        example: "Examples: fc whatif --slot 1 site.toml day.journal rule.hex, fc whatif --days days --slot 1 site.toml rule.hex",
+        arguments: &[
+            Argument::File("config", CONFIG),
+            Argument::File(
+                "journal",
+                "the journal of a play, or of a served site; with --days the other rule",
+            ),
+            Argument::SpareFile("rule", "the other rule's bytes, as hexadecimal digits"),
+            Argument::Slot,
+            Argument::Mask,
+            Argument::Context,
+            Argument::Flag(
+                "carry",
+                "let each answer change the site for what comes after it",
+            ),
+            Argument::Flag(
+                "json",
+                "print a line of JSON for each request, in place of CSV",
+            ),
+            Argument::Flag("summary", "print only what all answers come to"),
+            OPENING,
+            Argument::Days("try the rule on all days of this folder"),
+        ],
+    },
+    SubcommandDescription {
+        name: "follow",
+        about: "Keeps up with a folder of days that another program writes",
+        example: "Example: fc follow days site.toml",
+        arguments: &[
+            Argument::File("folder", "the folder of the days"),
+            Argument::File("config", CONFIG),
         ],
     },
     SubcommandDescription {
@@ -251,6 +324,8 @@ fn argument_of<'a>(alloc: Global, argument: Argument) -> Arg<'a>
         Argument::FileOption(name, help) => option_arg(alloc, name, "FILE", help),
         Argument::Days(help) => option_arg(alloc, "days", "FOLDER", help),
         Argument::Flag(name, help) => flag_arg(alloc, name, help),
+        Argument::Fields => fields_arg(alloc),
+        Argument::Slot => slot_arg(alloc),
     }
 }
 
