@@ -20,8 +20,8 @@ use Rattle.file_jobs.specs.Mask.{mask_named, number_of}
 use Rattle.file_jobs.specs.declared.trial_words.Trial.{Trial}
 use Rattle.file_jobs.specs.declared.job.Job.{Job}
 use Rattle.file_jobs.specs.declared.job.Job.TheVariants as job
-use Rattle.file_jobs.specs.declared.job.Reading.{Reading}
-use Rattle.file_jobs.specs.declared.job.Reading.TheVariants as readings
+use Rattle.what_if.specs.declared.comparison.Reading.{Reading}
+use Rattle.what_if.specs.declared.comparison.Reading.TheVariants as readings
 use Rattle.file_jobs.specs.declared.job.WhatIf.{WhatIf}
 use Rattle.file_jobs.specs.declared.job.WhatIfFormat.{WhatIfFormat}
 use Rattle.file_jobs.specs.declared.job.WhatIfFormat.TheVariants as what_if_formats

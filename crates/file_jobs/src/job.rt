@@ -4,6 +4,7 @@ ghost use Rattle.std.specs.Prelude.{◌≡◌};
 use bpf_model::context::Layout;
 use day_export::{Format, Rows};
 use std::alloc::AllocError;
+use what_if::Reading;
 
 /// The job that a command line asks for. A `String` names a file or a folder, except in `Show`. `opening` is what the
 /// site keeps from the day before, and `folder` has the files of a station's days.
@@ -79,7 +80,7 @@ pub enum Job {
         is_json: bool,
         fields: Vec<String>,
     },
-    /// Print what a journal's till requests would have been answered with another rule.
+    /// Print what another rule would have answered at each decision of a slot.
     WhatIf {
         opening: Option<String>,
         config: String,
@@ -102,7 +103,7 @@ pub enum Job {
     Show(String),
 }
 
-/// Which rule is tried on a journal in place of the one in a slot, and how. Bit c of `counters` declares counter c.
+/// Which rule is tried on a journal in place of those of a slot, and how. Bit c of `counters` declares counter c.
 #[derive(Drop)]
 pub struct WhatIf {
     pub slot: u32,
@@ -111,15 +112,6 @@ pub struct WhatIf {
     pub context: Layout,
     pub reading: Reading,
     pub format: WhatIfFormat,
-}
-
-/// On what the other rule decides each request.
-#[derive(Clone, Copy)]
-pub enum Reading {
-    /// On the site as it was in the journal.
-    AsTheyWere,
-    /// On the site that the other rule's answers lead to.
-    Carried,
 }
 
 #[derive(Clone, Copy)]

@@ -51,7 +51,7 @@ pub use entering::Entered;
 pub use file_flaws::FileFlaw;
 pub use files::{FileIn, Outlet, Source};
 pub use folder::{DayFile, DayFiles, Folder, Part, Span, day_after};
-pub use job::{CommandFault, Job, Reading, ServeJob, WhatIf, WhatIfFormat};
+pub use job::{CommandFault, Job, ServeJob, WhatIf, WhatIfFormat};
 pub use job_error::JobError;
 pub use journal_reasons::JournalFlaw;
 pub use kept_file::{FileIdentity, FoundFile};

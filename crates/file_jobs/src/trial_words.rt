@@ -7,11 +7,12 @@ ghost use Rattle.file_jobs.specs.JobRequest.{what_if_message, what_if_options_me
 ghost use Rattle.file_jobs.specs.Refusing.{Asks, Finds};
 
 use crate::command_line::{days_of, file_of, has_days, is_set, layout_of, mask_of, opening_of};
-use crate::job::{Job, Reading, WhatIf, WhatIfFormat};
+use crate::job::{Job, WhatIf, WhatIfFormat};
 use crate::mask::decimal_named;
 use bpf_model::context::Layout;
 use clap::ArgMatches;
 use std::alloc::{AllocError, Global};
+use what_if::Reading;
 
 /// What the options of `whatif` say of the other rule.
 #[derive(Clone, Copy)]

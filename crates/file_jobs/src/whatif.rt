@@ -13,39 +13,14 @@ use crate::printing::refuse_file;
 use crate::program_files::rule_file;
 use crate::settings::refuse_twice;
 use crate::statuses::REFUSED;
-use crate::{JobError, Place, SiteFiles};
+use crate::{JobError, Place, SiteFiles, WhatIf, WhatIfFormat};
 use bpf_model::context::Layout;
 use std::alloc::Global;
 use std::io::{self, BufWriter, Write};
 use verifier::Program;
 use what_if::summary::summary;
 use what_if::writing::write_rows;
-use what_if::{Comparison, Format, Reading, Row, RowsFault};
-
-/// How many slots a site has.
-const SLOTS: u32 = 16;
-
-/// What is printed of the decisions of a slot, compared with the answers of another rule.
-#[derive(Clone, Copy)]
-pub enum WhatIfFormat {
-    Csv,
-    Json,
-    /// What the rows come to, in words.
-    Summary,
-}
-
-/// Another rule for a slot.
-#[derive(Drop)]
-pub struct WhatIf {
-    pub slot: u32,
-    /// The name of the rule's file.
-    pub rule: String,
-    /// Bit c declares counter c.
-    pub counters: u32,
-    pub context: Layout,
-    pub reading: Reading,
-    pub format: WhatIfFormat,
-}
+use what_if::{Comparison, Format, Row, RowsFault};
 
 /// Audits the journal in the file that `journal` names, and prints what another rule would have answered at each
 /// decision of a slot.
@@ -64,20 +39,10 @@ pub fn what_if_files(
     if site.reads_twice(journal) || site.reads_rule_twice(journal, &what_if.rule) {
         return Err(refuse_twice(rt.alloc()));
     }
-    if what_if.slot >= SLOTS {
-        return Err(refuse_slot(rt.alloc(), what_if.slot));
-    }
     let rule = rule_in(rt, what_if)?;
     let seen = Comparison::new(rt.alloc(), rule, what_if.slot, what_if.reading);
     let day = replayed(rt, site, journal, seen)?;
     print_compared(rt, journal, day.seen(), what_if)
-}
-
-fn refuse_slot(alloc: Global, slot: u32) -> JobError
-    ensures { Ends 1 [] result }
-{
-    let words = format_args!("there is no slot {slot}: slots are numbered 0 to 15");
-    JobError::message(alloc, &words, REFUSED)
 }
 
 /// Reads the rule, and verifies it.
