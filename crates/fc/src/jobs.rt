@@ -12,6 +12,7 @@ use file_jobs::job_error::print_text;
 use file_jobs::plays::{play_files, play_input};
 use file_jobs::printing::print_file;
 use file_jobs::report::report_files;
+use file_jobs::whatif::what_if_files;
 use file_jobs::{Folder, Job, JobError, PrintRequest, ServeJob, SiteFiles, USAGE};
 use std::fs::Files;
 use std::io::IsTerminal;
@@ -84,8 +85,12 @@ pub fn do_job<
         } => explain_day(rt, folder, config, *day, *number),
         // to come
         Job::Run { .. } => Err(JobError::message(rt.alloc(), &"run is to come", USAGE)),
-        // to come
-        Job::WhatIf { .. } => Err(JobError::message(rt.alloc(), &"whatif is to come", USAGE)),
+        Job::WhatIf {
+            opening,
+            config,
+            journal,
+            what_if,
+        } => what_if_files(rt, site_files(config, opening), journal, what_if),
         // to come
         Job::WhatIfDays { .. } => Err(JobError::message(rt.alloc(), &"whatif is to come", USAGE)),
         // to come

@@ -116,14 +116,6 @@ pub fn verify_file(
     ensures flaw { IfErr result (IsVerifyFlaw (program_in file.now) counters context) }
     ensures length { 65536 < length file.now → result ≡ Err (FileFlaw.File ProgramFileFault.TooLong) }
 {
-    let bytes = read_program(alloc, file)?;
-    match verify(alloc, &bytes, counters, context) {
-        Ok(program) => Ok(format!(in alloc; "accepted {}\n", program.units())?),
-        Err(refusal) => {
-            if refusal.fault_numbers().is_none() {
-                return Err(FileFlaw::OutOfMemory);
-            }
-            Err(FileFlaw::Program(explain_refusal(alloc, &bytes, refusal)?))
-        }
-    }
+    let program = rule_file(alloc, file, counters, context)?;
+    Ok(format!(in alloc; "accepted {}\n", program.units())?)
 }
