@@ -39,7 +39,8 @@ Verifies (Ok bytes) counters layout printed =
     × (printed ≡ codes "accepted " ++ (decimal (length bytes / 8) ++ codes "\n"))
 Verifies (Err fault) counters layout printed = ⊥
 
--- The rule is the program of this file, with these counters declared, for contexts of this layout.
+-- The rule is the program of this file, with these counters declared, for contexts of this layout, and the verifier
+-- accepts it.
 abbrev pub IsRuleOf : Result (List ℕ) ProgramFileFault → ℕ → Layout → ProgramText → Type 0
-IsRuleOf (Ok bytes) counters layout rule = rule ≡ as_loaded bytes counters layout
+IsRuleOf (Ok bytes) counters layout rule = IsAcceptedAndGood (as_loaded bytes counters layout) × (rule ≡ as_loaded bytes counters layout)
 IsRuleOf (Err fault) counters layout rule = ⊥
