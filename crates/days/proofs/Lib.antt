@@ -5,5 +5,6 @@ pub mod Hashing
 pub mod Joining
 pub mod ReadBack
 pub mod ReadWhole
+pub mod Telling
 pub mod Unfitting
 pub mod Written

@@ -1,6 +1,8 @@
 pub mod Breaks
 pub mod Chain
 pub mod Closing
+pub mod EndedDays
+pub mod Ends
 pub mod File
 pub mod Fitting
 pub mod Flaws

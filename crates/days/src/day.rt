@@ -25,9 +25,10 @@ pub trait DaysIn {
     /// What is shown each entry of a day.
     type Seen: Observer + Drop;
 
-    ghost use Rattle.std.specs.Prelude.{◌≡◌, [], List, Option, IfErr, IfOk, IfSome};
+    ghost use Rattle.std.specs.Prelude.{◌≡◌, ◌∷◌, ◌++◌, [], List, Option, IfErr, IfOk, IfSome, OnErr, OnOk};
     ghost use Rattle.site_core.specs.Steps.{steps_of};
     ghost use Rattle.days.specs.Chain.{DayText};
+    ghost use Rattle.days.specs.EndedDays.{DayEnd};
     ghost use Rattle.days.specs.Given.{GivesDay};
 
     /// All days that will still be given, or `None` if they aren't known.
@@ -39,17 +40,24 @@ pub trait DaysIn {
     /// What holds of the device of each journal that `next_day` returned.
     ghost gave: { Self.Journal → Type 0 } = { λ _. Unit {0} };
 
+    /// It was told the ends of these days, in order, and of no others.
+    ghost was_told: { Self → List DayEnd → Type 0 } = { λ _ _. Unit {0} };
+
     /// The next day, or `None` if there are no more.
     fn next_day(&mut self) -> Result<Option<DayIn<Self::Journal, Self::Seen>>, NoDay>
         ensures gives { IfOk result (GivesDay Self.Journal.remaining (remaining self.old) (remaining self.new)) }
         ensures gave { IfOk result (λ next. IfSome next (λ day. IfSome day.journal gave)) }
         ensures unseen { IfOk result (λ next. IfSome next (λ day. Self.Seen.has_seen day.seen [])) }
+        ensures kept { (ends : List DayEnd) → was_told self.old ends → was_told self.new ends }
         ensures failed { IfErr result (λ _. failed self.new) };
 
     /// Is told that a day is over: its number, its site, and the observer that was shown each entry of it.
     fn end_day(&mut self, number: u32, site: &Site, seen: Self::Seen) -> Result<(), NoDay>
         requires { Self.Seen.has_seen seen (steps_of site.now.config site.now.history) }
         ensures same { remaining self.new ≡ remaining self.old }
+        ensures told { OnOk result ((ends : List DayEnd) → was_told self.old ends
+            → was_told self.new (ends ++ (record { number = number; site = site.now }) ∷ [])) }
+        ensures kept { OnErr result ((ends : List DayEnd) → was_told self.old ends → was_told self.new ends) }
         ensures failed { IfErr result (λ _. failed self.new) };
 }
 
