@@ -46,6 +46,7 @@ pub mod tomorrow;
 mod trial_words;
 pub mod unopened;
 pub mod whatif;
+pub mod zone_files;
 
 pub use entering::Entered;
 pub use file_flaws::FileFlaw;

@@ -1,8 +1,9 @@
 //! When a day ends: at a minute of the day, as a zone's clock shows it.
-ghost use Rattle.std.specs.Prelude.{◌≡◌, ◌≤◌, ◌<◌, ◌*◌, ◌+ℤ◌, ◌*ℤ◌, pos};
+ghost use Rattle.std.specs.Prelude.{None, Some, ◌≡◌, ◌≤◌, ◌<◌, ◌*◌, ◌+ℤ◌, ◌*ℤ◌, pos};
 ghost use Rattle.jiff_core.specs.DateTime.{civil_nanos};
 ghost use Rattle.jiff_core.specs.Timestamp.{nanos_of_seconds};
 ghost use Rattle.jiff_tz.specs.Ambiguous.{instant_of};
+ghost use Rattle.jiff_tz.specs.Zone.{offset_at};
 ghost use Rattle.zones.specs.Ends.{HasRules, IsMoment, IsDate, IsShown, reached, date_at, IsEndOn, behind, NextEnd};
 
 use jiff_core::civil::DateTime;
@@ -107,6 +108,18 @@ fn instant_at(moment: i64) -> Timestamp
     Timestamp {
         nanosecond: i128::from(moment) * NANOS,
     }
+}
+
+/// How many seconds a zone's clock is ahead of UTC at a moment; `None` before 1970 and behind the year 9999.
+pub fn offset_at(zone: TimeZone<'_>, moment: i64) -> Option<i32>
+    // proved: A zone's clock is ahead of UTC by what its rules say of the moment
+    ensures within { IsMoment moment → result ≡ Some (offset_at zone.entry (nanos_of_seconds moment)) }
+    ensures outside { (IsMoment moment → ⊥) → result ≡ None }
+{
+    if moment < 0 || moment > LAST_MOMENT {
+        return None;
+    }
+    Some(zone.to_offset(instant_at(moment)).seconds)
 }
 
 /// The date that a zone's clock shows at a moment.

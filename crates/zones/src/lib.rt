@@ -5,4 +5,4 @@ mod ends;
 #[cfg(test)]
 mod tests;
 
-pub use ends::{next_end, time_zone};
+pub use ends::{next_end, offset_at, time_zone};
