@@ -17,15 +17,15 @@ _fc_command() {
         run) takes=1 options='--counters --context --trace --json' ;;
         whatif) takes=3 options='--slot --counters --context --carry --json --summary --opening --days' ;;
         follow) takes=2 ;;
-        serve) takes=1 options='--journal --sync --opening --days --new-day' ;;
+        serve) takes=1 options='--journal --sync --opening --days --new-day --check' ;;
     esac
 }
 
 # Takes away the options that don't go with this one.
 _fc_besides() {
     case $1 in
-        --journal | --opening) options=${options/--days/} options=${options/--new-day/} ;;
-        --days | --new-day) options=${options/--journal/} options=${options/--opening/} ;;
+        --journal | --opening) options=${options/--days/} options=${options/--new-day/} options=${options/--check/} ;;
+        --days | --new-day | --check) options=${options/--journal/} options=${options/--opening/} ;;
     esac
 }
 

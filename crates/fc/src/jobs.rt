@@ -12,6 +12,7 @@ use file_jobs::job_error::print_text;
 use file_jobs::plays::{play_files, play_input};
 use file_jobs::printing::print_file;
 use file_jobs::report::report_files;
+use file_jobs::tomorrow::check_next_day;
 use file_jobs::whatif::what_if_files;
 use file_jobs::{Folder, Job, JobError, PrintRequest, ServeJob, SiteFiles, USAGE};
 use std::fs::Files;
@@ -145,6 +146,7 @@ fn serve<
             let folder = Folder::named(rt, folder)?;
             serve_days(rt, host, folder, config, *is_new_day, after(*is_synced))
         }
+        ServeJob::Check { folder, config } => check_next_day(rt, folder, config),
     }
 }
 

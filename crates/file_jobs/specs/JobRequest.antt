@@ -130,8 +130,8 @@ follow_app = of_files (codes "follow") (codes "folder") (codes "config")
 
 abbrev pub serve_app : App
 serve_app =
-    with_rule (with_rule (with_rule (with_rule (with_rule (of_file (codes "serve") (codes "config")) (option_rule (codes "journal")))
-    (flag_rule (codes "sync"))) (option_rule (codes "opening"))) (option_rule (codes "days"))) (flag_rule (codes "new-day"))
+    with_rule (with_rule (with_rule (with_rule (with_rule (with_rule (of_file (codes "serve") (codes "config")) (option_rule (codes "journal")))
+    (flag_rule (codes "sync"))) (option_rule (codes "opening"))) (option_rule (codes "days"))) (flag_rule (codes "new-day"))) (flag_rule (codes "check"))
 
 abbrev pub top_app : App
 top_app = record (new_app (codes "fc")) { top = record (new_app (codes "fc")).top { has_version = true } }
@@ -154,6 +154,7 @@ top_app = record (new_app (codes "fc")) { top = record (new_app (codes "fc")).to
 -- - follow FOLDER CONFIG
 -- - serve [--journal FILE [--sync]] [--opening FILE] CONFIG
 -- - serve --days FOLDER [--sync] [--new-day] CONFIG
+-- - serve --days FOLDER --check CONFIG
 abbrev pub fc_app : App
 fc_app =
     with_subcommand (with_subcommand (with_subcommand (with_subcommand (with_subcommand (with_subcommand (with_subcommand (with_subcommand
@@ -179,6 +180,7 @@ fc_app =
 -- - `follow`: the folder and the configuration
 -- - `serve`: the opening and the configuration
 -- - `serve_days`: whether answers wait for syncs, whether a new day begins, the folder and the configuration
+-- - `check_days`: the folder and the configuration
 pub data JobRequest : Type 0 where
   nothing : JobRequest
   asm : Text → JobRequest
@@ -201,6 +203,7 @@ pub data JobRequest : Type 0 where
   serve_kept : Option Text → Text → Text → JobRequest
   serve_synced : Option Text → Text → Text → JobRequest
   serve_days : Bool → Bool → Text → Text → JobRequest
+  check_days : Text → Text → JobRequest
 
 abbrev pub file_in : Text → (Text → JobRequest) → List Row → Option JobRequest
 file_in id ask rows = option_map ask (first_of id rows)
@@ -362,16 +365,26 @@ abbrev pub serve_days_by : Option Text → Option Text → Bool → Bool → Tex
 serve_days_by None None synced new_day folder config = Some (serve_days synced new_day folder config)
 serve_days_by opening journal synced new_day folder config = None
 
+-- What `serve --days --check` asks for, given the same. None if any other option is given.
+abbrev pub check_by : Option Text → Option Text → Bool → Bool → Text → Text → Option JobRequest
+check_by None None false false folder config = Some (check_days folder config)
+check_by opening journal synced new_day folder config = None
+
 -- What `serve` asks for, given its values and CONFIG:
+-- - if --days and --check are given: the result of `check_by`
 -- - if --days is given: the result of `serve_days_by`
--- - if --new-day is given without --days: None
+-- - if --new-day or --check is given without --days: None
 -- - or else: the result of `serve_by`
 abbrev pub served_in : List Row → Text → Option JobRequest
 served_in rows config =
     elim (days_in rows) [
-      | Some folder ↦ serve_days_by (opening_in rows) (first_of (codes "journal") rows) (is_set (codes "sync") rows) (is_set (codes "new-day") rows) folder config
+      | Some folder ↦
+          if is_set (codes "check") rows
+          then check_by (opening_in rows) (first_of (codes "journal") rows) (is_set (codes "sync") rows) (is_set (codes "new-day") rows) folder config
+          else serve_days_by (opening_in rows) (first_of (codes "journal") rows) (is_set (codes "sync") rows) (is_set (codes "new-day") rows) folder config
       | None ↦
           if is_set (codes "new-day") rows then None
+          else if is_set (codes "check") rows then None
           else serve_by (opening_in rows) (is_set (codes "sync") rows) (first_of (codes "journal") rows) config
     ]
 
@@ -415,6 +428,7 @@ serve_request (served.Printed opening config) = serve (named opening) (string_by
 serve_request (served.Kept opening config journal) = serve_kept (named opening) (string_bytes config) (string_bytes journal)
 serve_request (served.Synced opening config journal) = serve_synced (named opening) (string_bytes config) (string_bytes journal)
 serve_request (served.Days folder config is_synced is_new_day) = serve_days is_synced is_new_day (string_bytes folder) (string_bytes config)
+serve_request (served.Check folder config) = check_days (string_bytes folder) (string_bytes config)
 
 -- The request that a job stands for. It is None for the help and the version, which are texts to show.
 abbrev pub requested : Job → Option JobRequest
@@ -479,9 +493,12 @@ audit_message rows =
 abbrev pub serve_message : List Row → Text
 serve_message rows =
     elim (days_in rows) [
-      | Some _ ↦ codes "error: --days takes neither --opening nor --journal"
+      | Some _ ↦
+          if is_set (codes "check") rows then codes "error: --check takes none of --opening, --journal, --sync and --new-day"
+          else codes "error: --days takes neither --opening nor --journal"
       | None ↦
           if is_set (codes "new-day") rows then codes "error: --new-day wants --days FOLDER"
+          else if is_set (codes "check") rows then codes "error: --check wants --days FOLDER"
           else codes "error: --sync wants --journal FILE or --days FOLDER"
     ]
 

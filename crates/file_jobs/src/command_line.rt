@@ -5,7 +5,7 @@ ghost use Rattle.std.specs.Prelude.{map, codes, is_some, option_map, string_byte
 ghost use Rattle.clap.specs.Words.{first_of, rows_of, found_of, subcommand_of, subcommand_rows_of, takes, fault_of};
 ghost use Rattle.file_jobs.specs.JobRequest.{fc_app, requested, parsed_request, is_set, layout_in, layout_named, mask_in, IsHelpOrVersion, MayShow};
 ghost use Rattle.file_jobs.specs.JobRequest.{RefusesBy, audit_by, days_in, entry_in, explain_by, format_in, kind_in, named, opening_in};
-ghost use Rattle.file_jobs.specs.JobRequest.{rows_named, serve_by, serve_days_by, unasked_by, unasked_text, unasked_words};
+ghost use Rattle.file_jobs.specs.JobRequest.{check_by, rows_named, serve_by, serve_days_by, unasked_by, unasked_text, unasked_words};
 ghost use Rattle.file_jobs.specs.JobRequest.{audit_message, explain_message, serve_message, verify_message};
 ghost use Rattle.file_jobs.specs.JobRequest.{fields_in, what_if_message};
 ghost use Rattle.file_jobs.specs.Refusing.{Asks, Finds, FindsFiles, IsJobOfLine, IsNoJobMessage, IsRefusalOf};
@@ -458,6 +458,30 @@ fn serve_days_by(
     }
 }
 
+fn check_by(
+    opening: Option<String>,
+    journal: Option<String>,
+    is_synced: bool,
+    is_new_day: bool,
+    folder: String,
+    config: String,
+) -> Option<Job>
+    ensures { Asks
+        (check_by (named opening) (named journal) is_synced is_new_day (string_bytes folder) (string_bytes config))
+        result }
+{
+    match opening {
+        None => match journal {
+            None => match (is_synced, is_new_day) {
+                (false, false) => Some(Job::Serve(ServeJob::Check { folder, config })),
+                (false, true) | (true, false) | (true, true) => None,
+            },
+            Some(_journal) => None,
+        },
+        Some(_opening) => None,
+    }
+}
+
 fn serve_of(alloc: Global, matches: &ArgMatches) -> Result<Option<Job>, AllocError>
     ensures { IfOk result (Finds (codes "serve") (rows_of (found_of matches.now))) }
 {
@@ -468,9 +492,14 @@ fn serve_of(alloc: Global, matches: &ArgMatches) -> Result<Option<Job>, AllocErr
     let journal = journal_of(alloc, matches)?;
     let is_synced = is_set(matches, "sync");
     let is_new_day = is_set(matches, "new-day");
+    let is_check = is_set(matches, "check");
     match days_of(alloc, matches)? {
+        Some(folder) if is_check => {
+            Ok(check_by(opening, journal, is_synced, is_new_day, folder, config))
+        }
         Some(folder) => Ok(serve_days_by(opening, journal, is_synced, is_new_day, folder, config)),
         None if is_new_day => Ok(None),
+        None if is_check => Ok(None),
         None => Ok(serve_by(opening, is_synced, journal, config)),
     }
 }
@@ -529,9 +558,15 @@ fn serve_message(matches: &ArgMatches) -> &'static str
     ensures { result.now ≡ serve_message (rows_of (found_of matches.now)) }
 {
     if has_days(matches) {
-        "error: --days takes neither --opening nor --journal"
+        if is_set(matches, "check") {
+            "error: --check takes none of --opening, --journal, --sync and --new-day"
+        } else {
+            "error: --days takes neither --opening nor --journal"
+        }
     } else if is_set(matches, "new-day") {
         "error: --new-day wants --days FOLDER"
+    } else if is_set(matches, "check") {
+        "error: --check wants --days FOLDER"
     } else {
         "error: --sync wants --journal FILE or --days FOLDER"
     }

@@ -149,6 +149,11 @@ pub enum ServeJob {
         is_synced: bool,
         is_new_day: bool,
     },
+    /// Print what the next day of a folder would take of the configuration, and serve nothing.
+    Check {
+        folder: String,
+        config: String,
+    },
 }
 
 /// Why a command line gives no job.

@@ -296,6 +296,10 @@ const SUBCOMMANDS: [SubcommandDescription; 13] = [
                 "new-day",
                 "with --days: close the newest day first, and serve the next one",
             ),
+            Argument::Flag(
+                "check",
+                "with --days: serve nothing, but print what the next day would take of CONFIG",
+            ),
         ],
     },
 ];
