@@ -92,9 +92,9 @@ ReportsHealth health page_answer =
     (page_answer.status ≡ status_of_health health) × (page_answer.kind ≡ kinds.Plain) × (page_answer.text ≡ health_text health ++ codes "\n")
 
 -- The answer reports the health of what the lock protected at one moment: a journal that had failed then is reported,
--- and the workers of each role that has a door are counted.
-abbrev pub IsHealthOf : Opened → Type 0 → ConnectionCounts → PageAnswer → Type 0
-IsHealthOf f may_fail connections page_answer =
+-- and the workers of each role that has a door are counted. `is_given` says whether the day has the given configuration.
+abbrev pub IsHealthOf : Opened → Type 0 → Bool → ConnectionCounts → PageAnswer → Type 0
+IsHealthOf f may_fail is_given connections page_answer =
     (held : LockedSiteValue) × (has_failed : Bool) × (role_counts : List RoleCounts) × CanBeUnderLock f may_fail held
     × (held.journal_failed ≡ true → has_failed ≡ true)
     × (map (λ (counts : RoleCounts). counts.role) role_counts ≡ roles_with_doors connections)
