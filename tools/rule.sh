@@ -3,10 +3,16 @@
 # standard error: how many units there are, the mask of the counters that the rule uses, and the layout of its request.
 # With -o the units go to FILE.hex, and the line to standard output. If the rule can't be loaded, the reason is printed
 # with its line of C, and FILE.hex stays as it was.
-# usage: tools/rule.sh [-o FILE.hex] FILE.c    or FILE.o, an object that was compiled before, or FILE.bpf
+# With --test each line of FILE.tests is a request that the rule is run on, and a line that it answers otherwise is named.
+# usage: tools/rule.sh [-o FILE.hex | --test FILE.tests] FILE.c
+#        or FILE.o, an object that was compiled before, or FILE.bpf
 # LLVM is the end of the names of the compiler and its tools (LLVM=-19 for clang-19). FC is the fc that verifies;
 # without it that is the one of this checkout, or of this installation.
-# Status: 0 done, 1 the rule is refused, 2 the arguments are wrong, 3 a tool or a file can't be used.
+# FILE.tests is CSV. Its first line names fields as `fc run` takes them, and a column `answer` (what the rule leaves in
+# r0), or `granted` (the amount or the price that this grants, 0 for none). An empty cell gives its field nothing. A line
+# that begins with # is passed over.
+# Status: 0 done, 1 the rule is refused, or answers otherwise than a line of FILE.tests, 2 the arguments are wrong, 3 a
+# tool or a file can't be used.
 set -u
 here=$(CDPATH='' cd -- "$(dirname -- "$(readlink -f -- "$0")")/.." && pwd -P) || exit 3
 fc=$here/fc
@@ -22,7 +28,7 @@ stop() {
     exit "$status"
 }
 usage() {
-    echo 'usage: tools/rule.sh [-o FILE.hex] FILE.c|FILE.o|FILE.bpf' >&2
+    echo 'usage: tools/rule.sh [-o FILE.hex | --test FILE.tests] FILE.c|FILE.o|FILE.bpf' >&2
     exit 2
 }
 
@@ -192,12 +198,61 @@ verify() {
     stop 3 "$fc gave no answer"
 }
 
-source='' kept=''
+# Writes a line for each request of the file $1: its line's number, the column and its number that are wanted, and the
+# words for `fc run`. Of a file that isn't one of requests it writes a line with what is wrong.
+read_tests() {
+    awk -v FS=' *, *' '
+        /^#/ || /^[ \t\r]*$/ { next }
+        { sub(/[ \t\r]+$/, ""); sub(/^[ \t]+/, "") }
+        !columns {
+            columns = NF
+            for (i = 1; i <= NF; i++) {
+                name[i] = $i
+                if ($i == "answer" || $i == "granted") wanted = i
+            }
+            if (wanted) next
+            print FNR, "fault", "no column is named answer or granted"
+            exit
+        }
+        NF != columns { print FNR, "fault", "it has " NF " cells, and not " columns; exit }
+        {
+            words = ""
+            for (i = 1; i <= NF; i++) if (i != wanted && $i != "") words = words " " name[i] "=" $i
+            print FNR, name[wanted], $wanted words
+        }' "$1" >"$work/requests" || exit 3
+}
+
+# Runs the rule on each request of the file $1, and names the lines that it answers otherwise.
+test_rule() {
+    read_tests "$1"
+    count=0 others=0
+    while read -r line column wanted words; do
+        [ "$column" != fault ] || stop 2 "$1:$line: $wanted $words"
+        # shellcheck disable=SC2086 # the words are several
+        "$fc" run --json --counters "$mask" --context "$layout" "$work/hex" $words >"$work/answer" 2>"$work/said" ||
+            stop 2 "$1:$line: $(sed 's/^fc: //' "$work/said")"
+        answered=$(sed "s/.*\"$column\":\([0-9]*\).*/\1/" "$work/answer")
+        count=$((count + 1))
+        [ "$answered" != "$wanted" ] || continue
+        echo "$1:$line: $wanted wanted, $answered answered"
+        others=$((others + 1))
+    done <"$work/requests"
+    [ "$count" -gt 0 ] || stop 2 "$1: it has no request"
+    [ "$others" = 0 ] || exit 1
+    echo "$count answered as wanted"
+}
+
+source='' kept='' tests=''
 while [ $# -gt 0 ]; do
     case $1 in
         -o)
             [ $# -gt 1 ] || usage
             kept=$2
+            shift
+            ;;
+        --test)
+            [ $# -gt 1 ] || usage
+            tests=$2
             shift
             ;;
         -*) usage ;;
@@ -209,6 +264,8 @@ while [ $# -gt 0 ]; do
     shift
 done
 case $source in *.c | *.o | *.bpf) ;; *) usage ;; esac
+[ -z "$tests" ] || [ -z "$kept" ] || usage
+if [ -n "$tests" ] && { [ ! -f "$tests" ] || [ ! -r "$tests" ]; }; then stop 3 "$tests can't be read"; fi
 if [ ! -f "$source" ] || [ ! -r "$source" ]; then stop 3 "$source can't be read"; fi
 [ "$source" != "${source%.bpf}" ] || need_compiler
 "$fc" --version >/dev/null || stop 3 "$fc doesn't run"
@@ -226,6 +283,10 @@ case $source in
 esac
 find_mask
 verify
+if [ -n "$tests" ]; then
+    test_rule "$tests"
+    exit
+fi
 told="$accepted, mask $mask, layout $layout"
 if [ -n "$kept" ]; then
     if ! cp "$work/hex" "$kept.new" || ! mv "$kept.new" "$kept"; then stop 3 "$kept can't be written"; fi

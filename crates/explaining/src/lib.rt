@@ -7,10 +7,15 @@ mod calls;
 pub mod explained;
 mod fields;
 mod instructions;
+pub mod json;
 mod kinds;
+pub mod names;
+pub mod request;
+pub mod single;
 pub mod tracing;
 mod values;
 mod why;
+pub mod words;
 pub mod writing;
 
 pub use explained::{Decision, ExplainFault, Explained};

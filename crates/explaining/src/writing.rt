@@ -9,11 +9,13 @@ use crate::tracing::{MachineState, Trace};
 use crate::why::write_why;
 use bpf_asm::instruction_line;
 use bpf_model::Code;
+use bpf_model::context::Context;
 use bpf_model::decode::decode;
 use bpf_model::instruction::{Form, Inst, Unit};
 use std::alloc::{AllocError, Global};
 use std::fmt::Write;
 use till_request::dates::date_of;
+use verifier::{Counters, Program};
 
 /// Who asked what when, what was answered and why; then the run that decided, if one did.
 pub fn explanation(alloc: Global, explained: &Explained<'_>) -> Result<String, AllocError> {
@@ -43,18 +45,46 @@ fn write_moment(out: &mut String, moment: u64) -> Result<(), AllocError> {
     write!(out, "{hour:02}:{minute:02}:{second:02} UTC")
 }
 
+/// A run of a rule, and what it began with.
+#[derive(Clone, Copy)]
+pub(crate) struct Done<'a> {
+    pub(crate) program: &'a Program,
+    pub(crate) context: &'a Context,
+    pub(crate) before: &'a Counters,
+    pub(crate) trace: &'a Trace,
+}
+
+/// The run of a decision.
+pub(crate) fn run_of(decision: &Decision) -> Done<'_> {
+    Done {
+        program: decision.draft.program(),
+        context: decision.draft.context(),
+        before: decision.draft.counters(),
+        trace: &decision.trace,
+    }
+}
+
 fn write_decision(alloc: Global, out: &mut String, decision: &Decision) -> Result<(), AllocError> {
-    let draft = &decision.draft;
-    let context = draft.context();
+    let done = run_of(decision);
+    write_steps(alloc, out, &done)?;
+    write_counters(out, &done)
+}
+
+/// The context, and each instruction that was executed.
+pub(crate) fn write_steps(
+    alloc: Global,
+    out: &mut String,
+    done: &Done<'_>,
+) -> Result<(), AllocError> {
+    let context = done.context;
     write!(out, "context:\n")?;
     write_fields(out, shared_fields(), context.bytes())?;
     write_fields(out, further_fields(context.layout()), context.bytes())?;
-    let Ok(code) = decode(alloc, draft.program().bytes()) else {
+    let Ok(code) = decode(alloc, done.program.bytes()) else {
         return Err(AllocError);
     };
     write!(out, "run:\n")?;
-    write_run(alloc, out, &code, context.bytes(), &decision.trace)?;
-    write_counters(out, decision)
+    write_run(alloc, out, &code, context.bytes(), done.trace)
 }
 
 fn write_fields(out: &mut String, fields: &[Field], bytes: &[u8]) -> Result<(), AllocError> {
@@ -93,7 +123,7 @@ fn write_run(
     Ok(())
 }
 
-fn instruction_at(code: &Code, state: &MachineState) -> Option<(Inst, Form)> {
+pub(crate) fn instruction_at(code: &Code, state: &MachineState) -> Option<(Inst, Form)> {
     match code.units().get(state.unit) {
         Some(Unit::First(inst)) => match Form::from_opcode(inst.opcode) {
             Some(form) => Some((*inst, form)),
@@ -115,13 +145,12 @@ fn write_text(alloc: Global, out: &mut String, code: &Code, unit: usize) -> Resu
 }
 
 /// The counters that the program declares, before and after the run.
-fn write_counters(out: &mut String, decision: &Decision) -> Result<(), AllocError> {
-    let (before, after) = (decision.draft.counters(), &decision.trace.counters);
-    let declared = decision.draft.program().declared();
+pub(crate) fn write_counters(out: &mut String, done: &Done<'_>) -> Result<(), AllocError> {
+    let declared = done.program.declared();
     for counter in 0..32u32 {
         if (declared >> counter) % 2 == 1 {
-            let (value, bound) = (before.get(counter), before.bound(counter));
-            let now = after.get(counter);
+            let (value, bound) = (done.before.get(counter), done.before.bound(counter));
+            let now = done.trace.counters.get(counter);
             write!(
                 out,
                 "counter {counter}: {value} before, {now} after, at most {bound}\n"

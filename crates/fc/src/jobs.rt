@@ -12,9 +12,10 @@ use file_jobs::job_error::print_text;
 use file_jobs::plays::{play_files, play_input};
 use file_jobs::printing::print_file;
 use file_jobs::report::report_files;
+use file_jobs::run::run_rule;
 use file_jobs::tomorrow::check_next_day;
 use file_jobs::whatif::what_if_files;
-use file_jobs::{Folder, Job, JobError, PrintRequest, ServeJob, SiteFiles, USAGE};
+use file_jobs::{Folder, Job, JobError, PrintRequest, RunOptions, ServeJob, SiteFiles, USAGE};
 use std::fs::Files;
 use std::io::IsTerminal;
 use std::net::{Net, TcpListener, TcpStream};
@@ -66,26 +67,36 @@ pub fn do_job<
             config,
             journal,
         } => export_files(rt, *rows, *format, site_files(config, opening), journal),
-        // to come
-        Job::Explain { is_json: true, .. } | Job::ExplainDay { is_json: true, .. } => {
-            Err(JobError::message(rt.alloc(), &"--json is to come", USAGE))
-        }
         Job::Explain {
             opening,
             config,
             journal,
             number,
-            ..
-        } => explain_files(rt, site_files(config, opening), journal, *number),
+            is_json,
+        } => explain_files(rt, site_files(config, opening), journal, *number, *is_json),
         Job::ExplainDay {
             folder,
             config,
             day,
             number,
-            ..
-        } => explain_day(rt, folder, config, *day, *number),
-        // to come
-        Job::Run { .. } => Err(JobError::message(rt.alloc(), &"run is to come", USAGE)),
+            is_json,
+        } => explain_day(rt, folder, config, *day, *number, *is_json),
+        Job::Run {
+            rule,
+            counters,
+            context,
+            is_traced,
+            is_json,
+            fields,
+        } => {
+            let options = RunOptions {
+                counters: *counters,
+                context: *context,
+                is_traced: *is_traced,
+                is_json: *is_json,
+            };
+            run_rule(rt, rule, options, fields)
+        }
         Job::WhatIf {
             opening,
             config,

@@ -22,4 +22,5 @@ pub mod PrintRequests
 pub mod Chained
 pub mod Loading
 pub mod Play
+pub mod RunOutput
 pub mod Script

@@ -31,6 +31,12 @@ pub record IsAcceptedAndGood (p : ProgramText) : Type 0 where
   pub accepted : refusal_of p ≡ None
   pub good : IsGood p
 
+-- The file is a program file, and the verifier accepts its program, this one, which declares these counters, for
+-- contexts of this layout.
+abbrev pub VerifiesAs : Result (List ℕ) ProgramFileFault → ℕ → Layout → ProgramText → Type 0
+VerifiesAs (Ok bytes) counters layout p = IsAcceptedAndGood p × (p ≡ as_loaded bytes counters layout)
+VerifiesAs (Err fault) counters layout p = ⊥
+
 -- The file is a program file, the verifier accepts its program, which declares these counters, for contexts of this
 -- layout, and the number of its units is printed.
 abbrev pub Verifies : Result (List ℕ) ProgramFileFault → ℕ → Layout → List ℕ → Type 0
@@ -38,9 +44,3 @@ Verifies (Ok bytes) counters layout printed =
     IsAcceptedAndGood (as_loaded bytes counters layout)
     × (printed ≡ codes "accepted " ++ (decimal (length bytes / 8) ++ codes "\n"))
 Verifies (Err fault) counters layout printed = ⊥
-
--- The rule is the program of this file, with these counters declared, for contexts of this layout, and the verifier
--- accepts it.
-abbrev pub IsRuleOf : Result (List ℕ) ProgramFileFault → ℕ → Layout → ProgramText → Type 0
-IsRuleOf (Ok bytes) counters layout rule = IsAcceptedAndGood (as_loaded bytes counters layout) × (rule ≡ as_loaded bytes counters layout)
-IsRuleOf (Err fault) counters layout rule = ⊥

@@ -8,11 +8,12 @@ use crate::job_error::print_text;
 use crate::messages::Place;
 use crate::statuses::{FAILED, REFUSED};
 use crate::{Folder, JobError, Part, SiteFiles};
-use explaining::ExplainFault;
 use explaining::explained::explain;
+use explaining::json::explanation_json;
 use explaining::writing::explanation;
+use explaining::{ExplainFault, Explained};
 use site_core::Unwatched;
-use std::alloc::Global;
+use std::alloc::{AllocError, Global};
 
 /// Audits the journal in the file that `journal` names, and prints why its entry `number` was answered so.
 pub fn explain_files(
@@ -20,13 +21,14 @@ pub fn explain_files(
     site: SiteFiles<'_>,
     journal: &str,
     number: u32,
+    is_json: bool,
 ) -> Result<(), JobError>
     ensures { IsTrue (reads_twice site.entry.config.now (option_map (λ w. w.now) site.entry.opening) journal.now)
         → IsErrAnd result (Ends 2 []) }
 {
     let day = audited_site(rt, site, journal, Unwatched)?;
     match explain(rt.alloc(), day.site(), number) {
-        Ok(explained) => print_text(rt, &explanation(rt.alloc(), &explained)?),
+        Ok(explained) => print_text(rt, &told(rt.alloc(), &explained, is_json)?),
         Err(fault) => Err(unexplained(rt.alloc(), journal, number, fault)),
     }
 }
@@ -39,6 +41,7 @@ pub fn explain_day(
     config: &str,
     day: u32,
     number: u32,
+    is_json: bool,
 ) -> Result<(), JobError>
     ensures { is_input path.now ≡ true → IsErrAnd result (Ends 2 []) }
 {
@@ -56,7 +59,21 @@ pub fn explain_day(
     } else {
         None
     };
-    explain_files(rt, SiteFiles::new(config, opening), &journal, number)
+    explain_files(
+        rt,
+        SiteFiles::new(config, opening),
+        &journal,
+        number,
+        is_json,
+    )
+}
+
+fn told(alloc: Global, explained: &Explained<'_>, is_json: bool) -> Result<String, AllocError> {
+    if is_json {
+        explanation_json(alloc, explained)
+    } else {
+        explanation(alloc, explained)
+    }
 }
 
 fn unexplained(alloc: Global, journal: &str, number: u32, fault: ExplainFault) -> JobError {

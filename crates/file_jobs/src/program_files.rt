@@ -3,7 +3,7 @@ ghost use Rattle.std.specs.Prelude.{◌≡◌, ◌<◌, length, Err, IfOk, IfErr
 ghost use Rattle.bpf_asm.specs.Text.{canonical_text};
 ghost use Rattle.bpf_asm.specs.Numbered.{numbered_from};
 ghost use Rattle.bpf_asm.specs.ProgramFile.{program_in};
-ghost use Rattle.file_jobs.specs.Printed.{Assembles, DecodesTo, Disassembles, IsRuleOf, Verifies};
+ghost use Rattle.file_jobs.specs.Printed.{Assembles, DecodesTo, Disassembles, Verifies, VerifiesAs};
 ghost use Rattle.file_jobs.specs.FileFlaws.{IsAsmFlaw, IsDisFlaw, IsVerifyFlaw};
 
 use crate::file_flaws::FileFlaw;
@@ -75,31 +75,6 @@ fn code_in(alloc: Global, file: &[u8]) -> Result<Code, FileFlaw<'static>>
     }
 }
 
-/// Returns the program of a file, if the verifier accepts it for contexts of this layout. Bit c of `counters` declares
-/// counter c.
-pub fn rule_file(
-    alloc: Global,
-    file: &[u8],
-    counters: u32,
-    context: Layout,
-) -> Result<Program, FileFlaw<'static>>
-    // proved: A rule is the program of its file, as the verifier accepts it
-    ensures rule { IfOk result (IsRuleOf (program_in file.now) counters context) }
-    ensures flaw { IfErr result (IsVerifyFlaw (program_in file.now) counters context) }
-    ensures length { 65536 < length file.now → result ≡ Err (FileFlaw.File ProgramFileFault.TooLong) }
-{
-    let bytes = read_program(alloc, file)?;
-    match verify(alloc, &bytes, counters, context) {
-        Ok(program) => Ok(program),
-        Err(refusal) => {
-            if refusal.fault_numbers().is_none() {
-                return Err(FileFlaw::OutOfMemory);
-            }
-            Err(FileFlaw::Program(explain_refusal(alloc, &bytes, refusal)?))
-        }
-    }
-}
-
 /// Returns what `fc verify` prints of a program file that the verifier accepts for contexts of this layout: `accepted
 /// N` for N units. Bit c of `counters` declares counter c.
 pub fn verify_file(
@@ -116,6 +91,31 @@ pub fn verify_file(
     ensures flaw { IfErr result (IsVerifyFlaw (program_in file.now) counters context) }
     ensures length { 65536 < length file.now → result ≡ Err (FileFlaw.File ProgramFileFault.TooLong) }
 {
-    let program = rule_file(alloc, file, counters, context)?;
+    let program = program_of(alloc, file, counters, context)?;
     Ok(format!(in alloc; "accepted {}\n", program.units())?)
+}
+
+/// Returns the program of a program file that `verify_file` accepts.
+pub fn program_of(
+    alloc: Global,
+    file: &[u8],
+    counters: u32,
+    context: Layout,
+) -> Result<Program, FileFlaw<'static>>
+    // proved: A rule is the program of its file, as the verifier accepts it
+    ensures program { IfOk result (VerifiesAs (program_in file.now) counters context) }
+    ensures layout { IfOk result (λ program. program.layout ≡ context) }
+    ensures flaw { IfErr result (IsVerifyFlaw (program_in file.now) counters context) }
+    ensures length { 65536 < length file.now → result ≡ Err (FileFlaw.File ProgramFileFault.TooLong) }
+{
+    let bytes = read_program(alloc, file)?;
+    match verify(alloc, &bytes, counters, context) {
+        Ok(program) => Ok(program),
+        Err(refusal) => {
+            if refusal.fault_numbers().is_none() {
+                return Err(FileFlaw::OutOfMemory);
+            }
+            Err(FileFlaw::Program(explain_refusal(alloc, &bytes, refusal)?))
+        }
+    }
 }

@@ -3,14 +3,13 @@ ghost use Rattle.std.specs.Prelude.{◌≡◌, [], IfErr, IfOk, IsErrAnd, IsSome
 ghost use Rattle.bpf_asm.specs.ProgramFile.{program_in};
 ghost use Rattle.file_jobs.specs.FileFlaws.{IsVerifyFlaw};
 ghost use Rattle.file_jobs.specs.JobErrors.{Ends, Refuses, Says, SaysOf};
-ghost use Rattle.file_jobs.specs.Printed.{IsRuleOf};
 ghost use Rattle.file_jobs.specs.StandardInput.{reads_rule_twice, reads_twice};
 
 use crate::audited::replayed;
 use crate::files::text_of;
 use crate::job_error::{print_text, printed};
 use crate::printing::refuse_file;
-use crate::program_files::rule_file;
+use crate::program_files::program_of;
 use crate::settings::refuse_twice;
 use crate::statuses::REFUSED;
 use crate::{JobError, Place, SiteFiles, WhatIf, WhatIfFormat};
@@ -20,7 +19,7 @@ use std::io::{self, BufWriter, Write};
 use verifier::Program;
 use what_if::summary::summary;
 use what_if::writing::write_rows;
-use what_if::{Comparison, Format, Row, RowsFault};
+use what_if::{Comparison, Format, Row, RowsFault, RowsOf};
 
 /// Audits the journal in the file that `journal` names, and prints what another rule would have answered at each
 /// decision of a slot.
@@ -40,7 +39,7 @@ pub fn what_if_files(
         return Err(refuse_twice(rt.alloc()));
     }
     let rule = rule_in(rt, what_if)?;
-    let seen = Comparison::new(rt.alloc(), rule, what_if.slot, what_if.reading);
+    let seen = Comparison::new(rt.alloc(), &rule, what_if.slot, what_if.reading);
     let day = replayed(rt, site, journal, seen)?;
     print_compared(rt, journal, day.seen(), what_if)
 }
@@ -50,7 +49,7 @@ fn rule_in(rt: &HostRuntime, what_if: &WhatIf) -> Result<Program, JobError>
     ensures { IfErr result (Refuses 1) }
 {
     let file = text_of(rt, &what_if.rule)?;
-    match rule_file(rt.alloc(), &file, what_if.counters, what_if.context) {
+    match program_of(rt.alloc(), &file, what_if.counters, what_if.context) {
         Ok(rule) => Ok(rule),
         Err(flaw) => Err(refuse_file(rt.alloc(), &what_if.rule, &flaw)),
     }
@@ -91,7 +90,7 @@ fn refuse_none(alloc: Global, journal: &str, slot: u32) -> JobError
 fn print_compared(
     rt: &HostRuntime,
     journal: &str,
-    seen: &Comparison,
+    seen: &Comparison<'_>,
     what_if: &WhatIf,
 ) -> Result<(), JobError>
     ensures misfit { IsSome seen.now.misfit → IsErrAnd result (Ends 1 []) }
@@ -112,7 +111,11 @@ fn print_rows(rt: &HostRuntime, rows: &[Row], what_if: &WhatIf) -> Result<(), Jo
     match what_if.format {
         WhatIfFormat::Csv => print_lines(rt, rows, Format::Csv),
         WhatIfFormat::Json => print_lines(rt, rows, Format::Json),
-        WhatIfFormat::Summary => match summary(rt.alloc(), what_if.slot, rows) {
+        WhatIfFormat::Summary => match summary(
+            rt.alloc(),
+            what_if.slot,
+            &[RowsOf { day: None, rows }],
+        ) {
             Ok(text) => print_text(rt, &text),
             Err(_) => Err(JobError::OutOfMemory),
         },

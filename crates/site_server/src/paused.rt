@@ -51,7 +51,7 @@ impl<'a, I: LineIn + Drop> PausedIn<'a, I> {
     pub(crate) fn new(alloc: Global, input: Ahead<I>, stop: Option<&'a Stop>) -> PausedIn<'a, I>
         ensures input { result.input ≡ input }
         ensures begun { result.begun.items ≡ [] }
-        ensures stop { result.stop ≡ stop }
+        ensures stop { result.stop ≡ stop.entry }
         ensures kept { result.is_lost ≡ false }
         ensures paused { result.is_paused ≡ false }
     {
