@@ -37,12 +37,12 @@ found-more rule slot reading steps step = sym (fold_push (after_step rule slot r
 -- A comparison that takes the decision of one more step, if there is one, has found what the steps show with it.
 pub has-found-more : (old new : Comparison) (steps : List StepValue) (step : StepValue) (preset : ℕ) (decision : Option Decision)
     → HasLookedAt old step.before → HasFound old steps → preset ≡ preset_of step.change.before → decision ≡ decision_in old.slot step.entry
-    → found_by new ≡ after_any old.rule old.reading old.view old.counters preset (found_by old) decision
-    → new.rule ≡ old.rule → new.slot ≡ old.slot → new.reading ≡ old.reading → HasFound new (steps ++ step ∷ [])
+    → found_by new ≡ after_any old.rule.now old.reading old.view old.counters preset (found_by old) decision
+    → new.rule.now ≡ old.rule.now → new.slot ≡ old.slot → new.reading ≡ old.reading → HasFound new (steps ++ step ∷ [])
 has-found-more old new steps step preset decision looked found at is taken rule slot reading =
     taken
-    ∙ (λ i. after_any old.rule old.reading (looked.view i) (looked.counters i) (at i) (found i) (is i))
-    ∙ found-more old.rule old.slot old.reading steps step
+    ∙ (λ i. after_any old.rule.now old.reading (looked.view i) (looked.counters i) (at i) (found i) (is i))
+    ∙ found-more old.rule.now old.slot old.reading steps step
     ∙ (λ i. found_in (sym rule i) (sym slot i) (sym reading i) (steps ++ step ∷ []))
 
 -- All counters at 0, within bounds of 0.

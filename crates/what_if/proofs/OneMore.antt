@@ -18,3 +18,9 @@ one-more text items i d a b c inside before one =
     ∙ ap concat (map_push text (take i items) x) ∙ concat-append (map text (take i items)) (text x ∷ [])
     ∙ ap (λ l. concat (map text (take i items)) ++ l) (append-nil (text x)) in
     subst (Appends a c) (sym all) (Appends-trans a b c _ _ before one)
+
+-- The same, where the next item is known as `x`.
+pub one-more-item : {A : Type 0} (text : A → List ℕ) (items : List A) (i : ℕ) (x : A) (a b c : Option (List ℕ)) → i < length items
+    → x ≡ get_or items i x → Appends a b (concat (map text (take i items))) → Appends b c (text x)
+    → Appends a c (concat (map text (take (i + 1) items)))
+one-more-item text items i x a b c inside is before one = one-more text items i x a b c inside before (subst (λ y. Appends b c (text y)) is one)

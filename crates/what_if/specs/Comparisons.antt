@@ -10,7 +10,7 @@ found_by c = record { rows = c.rows.items; own = c.own; misfit = c.misfit }
 
 -- It has found what these steps show, and nothing else.
 abbrev pub HasFound : Comparison → List StepValue → Type 0
-HasFound c steps = found_by c ≡ found_in c.rule c.slot c.reading steps
+HasFound c steps = found_by c ≡ found_in c.rule.now c.slot c.reading steps
 
 -- It keeps the view and the counters of this state.
 pub record HasLookedAt (c : Comparison) (before : SiteState) : Type 0 where

@@ -36,9 +36,13 @@ is_in part.NoMoment row = row.moment == 0
 abbrev pub counted_in : RowsPart → ChangeCounts → Row → ChangeCounts
 counted_in part counts row = if is_in part row then counted counts (change_of row) else counts
 
--- How many rows of a part show each change.
-abbrev pub counts_in : RowsPart → List Row → ChangeCounts
-counts_in part rows = fold (counted_in part) no_counts rows
+-- How many rows of a part show each change, with those that are counted already.
+abbrev pub counts_from : RowsPart → ChangeCounts → List Row → ChangeCounts
+counts_from part counts rows = fold (counted_in part) counts rows
+
+-- The same in the rows of one journal or of many.
+abbrev pub counts_in : RowsPart → List (List Row) → ChangeCounts
+counts_in part all = fold (counts_from part) no_counts all
 
 -- By how many cents less would be released.
 abbrev pub withheld_of : Kind → ℕ → ℕ → ℕ
@@ -49,8 +53,11 @@ abbrev pub withheld_by : Row → ℕ
 withheld_by row = withheld_of row.asking.kind (unwrap_or row.granted 0) (unwrap_or row.would 0)
 
 -- How many cents that were released would not have been.
-abbrev pub withheld_in : List Row → ℕ
-withheld_in rows = fold (λ cents row. plus cents (withheld_by row)) 0 rows
+abbrev pub withheld_from : ℕ → List Row → ℕ
+withheld_from cents rows = fold (λ cents row. plus cents (withheld_by row)) cents rows
+
+abbrev pub withheld_in : List (List Row) → ℕ
+withheld_in all = fold withheld_from 0 all
 
 -- By how many cents a release or a preset would be changed.
 abbrev pub changed_by : Kind → ℕ → ℕ → ℕ

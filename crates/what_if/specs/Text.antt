@@ -9,8 +9,10 @@ use Rattle.what_if.specs.declared.lines.Cell.{Cell}
 use Rattle.what_if.specs.declared.lines.Cell.TheVariants as cell
 use Rattle.what_if.specs.declared.lines.Format.{Format}
 use Rattle.what_if.specs.declared.lines.Format.TheVariants as format
+use Rattle.what_if.specs.declared.lines.RowCells.{RowCells}
 use Rattle.what_if.specs.declared.lines.Word.{Word}
 use Rattle.what_if.specs.declared.lines.Word.TheVariants as word
+use Rattle.what_if.specs.declared.rows.DayRows.{DayRows}
 use Rattle.what_if.specs.declared.rows.Row.{Row}
 use Rattle.what_if.specs.declared.rows.RowChange.{RowChange}
 use Rattle.what_if.specs.declared.rows.RowChange.TheVariants as change
@@ -54,16 +56,37 @@ point_cell_of _ point = cell.Number point
 abbrev pub point_cell : Asking → Cell
 point_cell asking = point_cell_of asking.kind asking.point
 
--- The cells of a row, in the order of the columns of CSV, and in that of the keys of JSON, which is the alphabet's.
+abbrev pub row_cells : Row → RowCells
+row_cells row = record {
+  entry = cell.Number row.entry;
+  moment = moment_cell row.moment;
+  till = cell.Number row.asking.till;
+  point = point_cell row.asking;
+  kind = cell.Word (kind_word row.asking.kind);
+  asked = cell.Number row.asking.asked;
+  version = cell.Number row.version;
+  granted = optional row.granted;
+  would = optional row.would;
+  change = cell.Word (change_word (change_of row));
+}
+
+-- The cells in the order of the columns of CSV, and in that of the keys of JSON, which is the alphabet's.
+abbrev pub in_order : Format → RowCells → List Cell
+in_order format.Csv c = c.entry ∷ c.moment ∷ c.till ∷ c.point ∷ c.kind ∷ c.asked ∷ c.version ∷ c.granted ∷ c.would ∷ c.change ∷ []
+in_order format.Json c = c.asked ∷ c.change ∷ c.entry ∷ c.granted ∷ c.kind ∷ c.moment ∷ c.point ∷ c.till ∷ c.version ∷ c.would ∷ []
+
+-- The same with a cell for the day.
+abbrev pub in_order_of_day : Format → Cell → RowCells → List Cell
+in_order_of_day format.Csv day c =
+    day ∷ c.entry ∷ c.moment ∷ c.till ∷ c.point ∷ c.kind ∷ c.asked ∷ c.version ∷ c.granted ∷ c.would ∷ c.change ∷ []
+in_order_of_day format.Json day c =
+    c.asked ∷ c.change ∷ day ∷ c.entry ∷ c.granted ∷ c.kind ∷ c.moment ∷ c.point ∷ c.till ∷ c.version ∷ c.would ∷ []
+
 abbrev pub cells_of : Format → Row → List Cell
-cells_of format.Csv row =
-    cell.Number row.entry ∷ moment_cell row.moment ∷ cell.Number row.asking.till ∷ point_cell row.asking
-    ∷ cell.Word (kind_word row.asking.kind) ∷ cell.Number row.asking.asked ∷ cell.Number row.version ∷ optional row.granted
-    ∷ optional row.would ∷ cell.Word (change_word (change_of row)) ∷ []
-cells_of format.Json row =
-    cell.Number row.asking.asked ∷ cell.Word (change_word (change_of row)) ∷ cell.Number row.entry ∷ optional row.granted
-    ∷ cell.Word (kind_word row.asking.kind) ∷ moment_cell row.moment ∷ point_cell row.asking ∷ cell.Number row.asking.till
-    ∷ cell.Number row.version ∷ optional row.would ∷ []
+cells_of format row = in_order format (row_cells row)
+
+abbrev pub cells_of_day : Format → ℕ → Row → List Cell
+cells_of_day format day row = in_order_of_day format (cell.Number day) (row_cells row)
 
 -- What stands before each cell of a row: commas, or the keys of an object. The quotes round a word stand here too.
 abbrev pub before : Format → List (List ℕ)
@@ -72,6 +95,15 @@ before format.Csv =
 before format.Json =
     codes "{\"asked\":" ∷ codes ",\"change\":\"" ∷ codes "\",\"entry\":" ∷ codes ",\"granted\":" ∷ codes ",\"kind\":\""
     ∷ codes "\",\"moment\":" ∷ codes ",\"point\":" ∷ codes ",\"till\":" ∷ codes ",\"version\":" ∷ codes ",\"would\":" ∷ []
+
+abbrev pub before_of_day : Format → List (List ℕ)
+before_of_day format.Csv =
+    codes "" ∷ codes "," ∷ codes "," ∷ codes "," ∷ codes "," ∷ codes "," ∷ codes "," ∷ codes "," ∷ codes "," ∷ codes "," ∷ codes ","
+    ∷ []
+before_of_day format.Json =
+    codes "{\"asked\":" ∷ codes ",\"change\":\"" ∷ codes "\",\"day\":" ∷ codes ",\"entry\":" ∷ codes ",\"granted\":"
+    ∷ codes ",\"kind\":\"" ∷ codes "\",\"moment\":" ∷ codes ",\"point\":" ∷ codes ",\"till\":" ∷ codes ",\"version\":"
+    ∷ codes ",\"would\":" ∷ []
 
 -- What stands behind the last cell of a row.
 abbrev pub end_of : Format → List ℕ
@@ -105,3 +137,19 @@ header_text format.Json = []
 -- The text of all rows.
 abbrev pub rows_text : Format → List Row → List ℕ
 rows_text format rows = header_text format ++ concat (map (line_text format) rows)
+
+-- ---- the rows of many days, each behind the number of its day
+
+unfoldable pub day_line_text : Format → ℕ → Row → List ℕ
+day_line_text format day row = cells_text format (before_of_day format) (cells_of_day format day row) ++ end_of format
+
+abbrev pub days_header_text : Format → List ℕ
+days_header_text format.Csv = codes "day,entry,moment,till,point,kind,asked,version,granted,would,change" ++ (13 ∷ 10 ∷ [])
+days_header_text format.Json = []
+
+abbrev pub day_text : Format → DayRows → List ℕ
+day_text format day = concat (map (day_line_text format day.day) day.rows.items)
+
+-- The text of all rows of these days.
+abbrev pub days_text : Format → List DayRows → List ℕ
+days_text format days = days_header_text format ++ concat (map (day_text format) days)

@@ -25,8 +25,8 @@ pub enum Reading {
 
 /// Finds what a rule would have answered at each decision of a slot, while a history is replayed.
 #[derive(Drop)]
-pub struct Comparison {
-    rule: Program,
+pub struct Comparison<'a> {
+    rule: &'a Program,
     slot: u32,
     reading: Reading,
     rows: Vec<Row>,
@@ -92,14 +92,14 @@ fn first_of(first: Option<u32>, number: u32) -> Option<u32>
     }
 }
 
-impl Comparison {
+impl<'a> Comparison<'a> {
     ghost use Rattle.std.specs.Prelude.{[], None, Some};
     ghost use Rattle.what_if.specs.Comparisons.{HasFound, found_by};
 
     /// Returns a comparison that has seen nothing.
-    pub fn new(alloc: Global, rule: Program, slot: u32, reading: Reading) -> Comparison
+    pub fn new(alloc: Global, rule: &'a Program, slot: u32, reading: Reading) -> Comparison<'a>
         ensures found { HasFound result [] }
-        ensures rule { result.rule ≡ rule }
+        ensures rule { result.rule.now ≡ rule.now }
         ensures slot { result.slot ≡ slot }
         ensures reading { result.reading ≡ reading }
     {
@@ -126,6 +126,13 @@ impl Comparison {
         self.rows.as_slice()
     }
 
+    /// Returns the rows, like `rows`.
+    pub fn into_rows(self) -> Vec<Row>
+        ensures { result.items ≡ self.entry.rows.items }
+    {
+        self.rows
+    }
+
     /// Returns the number of the first entry that was decided on a context of another layout than the rule wants.
     pub fn misfit(&self) -> Option<u32>
         ensures { result ≡ self.now.misfit }
@@ -134,7 +141,7 @@ impl Comparison {
     }
 
     pub fn layout(&self) -> Layout
-        ensures { result ≡ self.now.rule.layout }
+        ensures { result ≡ self.now.rule.now.layout }
     {
         self.rule.layout()
     }
@@ -142,16 +149,16 @@ impl Comparison {
     /// Runs the rule on a decision.
     fn answer(&mut self, decision: &Decision, preset: u64)
         requires room { vec_len self.old.rows < vec_capacity self.old.rows }
-        requires layout { layout_of decision.now.context ≡ self.old.rule.layout }
+        requires layout { layout_of decision.now.context ≡ self.old.rule.now.layout }
         ensures found { found_by self.new
-            ≡ after_decision self.old.rule self.old.reading self.old.view self.old.counters preset (found_by self.old) decision.now }
-        ensures rule { self.new.rule ≡ self.old.rule }
+            ≡ after_decision self.old.rule.now self.old.reading self.old.view self.old.counters preset (found_by self.old) decision.now }
+        ensures rule { self.new.rule.now ≡ self.old.rule.now }
         ensures slot { self.new.slot ≡ self.old.slot }
         ensures reading { self.new.reading ≡ self.old.reading }
     {
         let declared = self.rule.declared();
         let mut counters = counters_at(self.reading, declared, &self.own, &self.counters);
-        let answer = answer_on(&self.rule, &decision.context, &self.view, &mut counters);
+        let answer = answer_on(self.rule, &decision.context, &self.view, &mut counters);
         self.rows.push_reserved(row_of(decision, answer, preset));
         self.own = Some(counters);
     }
@@ -159,8 +166,8 @@ impl Comparison {
     fn take(&mut self, decision: Option<Decision>, preset: u64)
         requires { vec_len self.old.rows < vec_capacity self.old.rows }
         ensures found { found_by self.new
-            ≡ after_any self.old.rule self.old.reading self.old.view self.old.counters preset (found_by self.old) decision }
-        ensures rule { self.new.rule ≡ self.old.rule }
+            ≡ after_any self.old.rule.now self.old.reading self.old.view self.old.counters preset (found_by self.old) decision }
+        ensures rule { self.new.rule.now ≡ self.old.rule.now }
         ensures slot { self.new.slot ≡ self.old.slot }
         ensures reading { self.new.reading ≡ self.old.reading }
     {
@@ -177,7 +184,7 @@ impl Comparison {
     }
 }
 
-impl Observer for Comparison {
+impl Observer for Comparison<'_> {
     ghost use Rattle.what_if.specs.Comparisons.{HasFound, HasLookedAt};
 
     ghost has_seen = { HasFound };

@@ -12,5 +12,6 @@ pub mod writing;
 pub use comparison::{Comparison, Reading};
 pub use decisions::{Asking, Kind};
 pub use lines::Format;
-pub use rows::{Row, RowChange};
+pub use rows::{DayRows, Row, RowChange};
+pub use summary::RowsOf;
 pub use writing::RowsFault;

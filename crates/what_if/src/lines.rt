@@ -1,7 +1,8 @@
 //! The line of a row, as CSV or as JSON.
 
 ghost use Rattle.std.specs.Prelude.{◌≡◌, ◌++◌, IfOk, OnOk, map, string_bytes};
-ghost use Rattle.what_if.specs.Text.{before, cell_text, cells_of, cells_text, end_of, kind_word, change_word, line_text, moment_cell, nothing_text, optional, point_cell, word_text};
+ghost use Rattle.what_if.specs.Text.{before, before_of_day, cell_text, cells_of, cells_of_day, cells_text, change_word};
+ghost use Rattle.what_if.specs.Text.{day_line_text, end_of, kind_word, line_text, moment_cell, nothing_text, optional, point_cell, row_cells, word_text};
 
 use crate::decisions::{Asking, Kind};
 use crate::rows::{Row, RowChange};
@@ -38,6 +39,21 @@ pub(crate) enum Cell {
     Nothing,
 }
 
+/// The cells of a row by their columns.
+#[derive(Clone, Copy)]
+struct RowCells {
+    entry: Cell,
+    moment: Cell,
+    till: Cell,
+    point: Cell,
+    kind: Cell,
+    asked: Cell,
+    version: Cell,
+    granted: Cell,
+    would: Cell,
+    change: Cell,
+}
+
 /// What stands before each cell of a record.
 const CSV: [&str; 10] = ["", ",", ",", ",", ",", ",", ",", ",", ",", ","];
 
@@ -55,12 +71,38 @@ const JSON: [&str; 10] = [
     ",\"would\":",
 ];
 
+/// The same for the rows of many days, of which each has a cell for the day.
+const DAYS_CSV: [&str; 11] = ["", ",", ",", ",", ",", ",", ",", ",", ",", ",", ","];
+
+const DAYS_JSON: [&str; 11] = [
+    "{\"asked\":",
+    ",\"change\":\"",
+    "\",\"day\":",
+    ",\"entry\":",
+    ",\"granted\":",
+    ",\"kind\":\"",
+    "\",\"moment\":",
+    ",\"point\":",
+    ",\"till\":",
+    ",\"version\":",
+    ",\"would\":",
+];
+
 fn before(format: Format) -> &'static [&'static str]
     ensures { map (λ text. text.now) result.now ≡ before format }
 {
     match format {
         Format::Csv => &CSV,
         Format::Json => &JSON,
+    }
+}
+
+fn before_of_day(format: Format) -> &'static [&'static str]
+    ensures { map (λ text. text.now) result.now ≡ before_of_day format }
+{
+    match format {
+        Format::Csv => &DAYS_CSV,
+        Format::Json => &DAYS_JSON,
     }
 }
 
@@ -154,27 +196,55 @@ fn point_cell(asking: Asking) -> Cell
     }
 }
 
+fn row_cells(row: &Row) -> RowCells
+    ensures { result ≡ row_cells row.now }
+{
+    let asking = row.asking;
+    RowCells {
+        entry: number(row.entry),
+        moment: moment_cell(row.moment),
+        till: number(asking.till),
+        point: point_cell(asking),
+        kind: Cell::Word(kind_word(asking.kind)),
+        asked: Cell::Number(asking.asked),
+        version: number(row.version),
+        granted: optional(row.granted),
+        would: optional(row.would),
+        change: Cell::Word(change_word(row.change())),
+    }
+}
+
 /// Returns the cells of a row in the order of the format: that of the columns, or that of the keys.
 fn cells_of(format: Format, row: &Row) -> [Cell; 10]
     ensures { result ≡ cells_of format row.now }
 {
-    let asking = row.asking;
-    let entry = number(row.entry);
-    let moment = moment_cell(row.moment);
-    let till = number(asking.till);
-    let point = point_cell(asking);
-    let kind = Cell::Word(kind_word(asking.kind));
-    let asked = Cell::Number(asking.asked);
-    let version = number(row.version);
-    let granted = optional(row.granted);
-    let would = optional(row.would);
-    let change = Cell::Word(change_word(row.change()));
+    let c = row_cells(row);
     match format {
         Format::Csv => [
-            entry, moment, till, point, kind, asked, version, granted, would, change,
+            c.entry, c.moment, c.till, c.point, c.kind, c.asked, c.version, c.granted, c.would,
+            c.change,
         ],
         Format::Json => [
-            asked, change, entry, granted, kind, moment, point, till, version, would,
+            c.asked, c.change, c.entry, c.granted, c.kind, c.moment, c.point, c.till, c.version,
+            c.would,
+        ],
+    }
+}
+
+/// The same with a cell for the day.
+fn cells_of_day(format: Format, day: u32, row: &Row) -> [Cell; 11]
+    ensures { result ≡ cells_of_day format day row.now }
+{
+    let c = row_cells(row);
+    let day = number(day);
+    match format {
+        Format::Csv => [
+            day, c.entry, c.moment, c.till, c.point, c.kind, c.asked, c.version, c.granted,
+            c.would, c.change,
+        ],
+        Format::Json => [
+            c.asked, c.change, day, c.entry, c.granted, c.kind, c.moment, c.point, c.till,
+            c.version, c.would,
         ],
     }
 }
@@ -220,6 +290,27 @@ pub(crate) fn line_of(alloc: Global, format: Format, row: &Row) -> Result<String
 {
     let mut line = String::new(alloc);
     push_cells(&mut line, format, before(format), &cells_of(format, row))?;
+    line.push_str(end_of(format))?;
+    Ok(line)
+}
+
+/// Returns the line of a row of this day.
+#[tactic(auto, unfolding(crate::specs::Text::day_line_text))]
+pub(crate) fn line_of_day(
+    alloc: Global,
+    format: Format,
+    day: u32,
+    row: &Row,
+) -> Result<String, AllocError>
+    ensures { IfOk result (λ line. string_bytes line ≡ day_line_text format day row.now) }
+{
+    let mut line = String::new(alloc);
+    push_cells(
+        &mut line,
+        format,
+        before_of_day(format),
+        &cells_of_day(format, day, row),
+    )?;
     line.push_str(end_of(format))?;
     Ok(line)
 }

@@ -18,6 +18,13 @@ pub struct Row {
     pub version: u32,
 }
 
+/// The rows of a day.
+#[derive(Drop)]
+pub struct DayRows {
+    pub day: u32,
+    pub rows: Vec<Row>,
+}
+
 /// How the other rule's answer differs from what was granted.
 #[derive(Clone, Copy)]
 pub enum RowChange {

@@ -1,7 +1,8 @@
 //! What rows come to, in words.
 
-ghost use Rattle.std.specs.Prelude.{◌≡◌, ◌≤◌, length};
-ghost use Rattle.what_if.specs.Sums.{counted, counted_in, counts_in, difference_of, is_in, withheld_by, withheld_in};
+ghost use Rattle.std.specs.Prelude.{◌≡◌, ◌≤◌, length, map};
+ghost use Rattle.what_if.specs.Sums.{counted, counted_in, counts_from, counts_in, difference_of, is_in};
+ghost use Rattle.what_if.specs.Sums.{withheld_by, withheld_from, withheld_in};
 
 use crate::decisions::Kind;
 use crate::lines::{change_word, kind_word, word_text};
@@ -36,6 +37,20 @@ pub enum RowsPart {
     /// An hour of the day in UTC, 0 to 23.
     Hour(u64),
     NoMoment,
+}
+
+/// Rows, and of which day they are, if they are of one of many.
+#[derive(Clone, Copy)]
+pub struct RowsOf<'a> {
+    pub day: Option<u32>,
+    pub rows: &'a [Row],
+}
+
+/// A row with its day, if it is of one of many.
+#[derive(Clone, Copy)]
+struct Change {
+    day: Option<u32>,
+    row: Row,
 }
 
 const NONE: ChangeCounts = ChangeCounts {
@@ -83,13 +98,23 @@ fn counted_in(part: RowsPart, counts: ChangeCounts, row: &Row) -> ChangeCounts
     }
 }
 
-/// Returns how many rows of a part show each change.
-pub fn counts_in(part: RowsPart, rows: &[Row]) -> ChangeCounts
-    ensures { result ≡ counts_in part rows.now }
+fn counts_from(part: RowsPart, counts: ChangeCounts, rows: &[Row]) -> ChangeCounts
+    ensures { result ≡ counts_from part counts rows.now }
 {
-    let mut counts = NONE;
+    let mut counts = counts;
     for row in rows {
         counts = counted_in(part, counts, row);
+    }
+    counts
+}
+
+/// Returns how many rows of a part show each change.
+pub fn counts_in(part: RowsPart, all: &[RowsOf<'_>]) -> ChangeCounts
+    ensures { result ≡ counts_in part (map (λ rows. rows.rows.now) all.now) }
+{
+    let mut counts = NONE;
+    for rows in all {
+        counts = counts_from(part, counts, rows.rows);
     }
     counts
 }
@@ -107,13 +132,23 @@ fn withheld_by(row: &Row) -> u64
     }
 }
 
-/// Returns how many cents that were released would not have been.
-pub fn withheld_in(rows: &[Row]) -> u64
-    ensures { result ≡ withheld_in rows.now }
+fn withheld_from(cents: u64, rows: &[Row]) -> u64
+    ensures { result ≡ withheld_from cents rows.now }
 {
-    let mut cents: u64 = 0;
+    let mut cents = cents;
     for row in rows {
         cents = cents.saturating_add(withheld_by(row));
+    }
+    cents
+}
+
+/// Returns how many cents that were released would not have been.
+pub fn withheld_in(all: &[RowsOf<'_>]) -> u64
+    ensures { result ≡ withheld_in (map (λ rows. rows.rows.now) all.now) }
+{
+    let mut cents: u64 = 0;
+    for rows in all {
+        cents = withheld_from(cents, rows.rows);
     }
     cents
 }
@@ -128,33 +163,47 @@ fn difference_of(row: &Row) -> u64
     }
 }
 
-/// Returns the rows of the greatest changes of an amount, the greatest first, at most ten. Of equal ones the earlier row
-/// comes first.
-fn greatest_changes(alloc: Global, rows: &[Row]) -> Result<Vec<Row>, AllocError> {
-    let mut greatest = Vec::new(alloc);
-    for row in rows {
-        let difference = difference_of(row);
-        if difference > 0 {
-            let at = place_for(greatest.as_slice(), difference);
-            if at < LISTED {
-                greatest.insert(at, *row)?;
-                greatest.truncate(LISTED);
-            }
-        }
+/// Puts a row into its place among the greatest changes, if it has one.
+fn place_row(greatest: &mut Vec<Change>, day: Option<u32>, row: &Row) -> Result<(), AllocError> {
+    let difference = difference_of(row);
+    if difference == 0 {
+        return Ok(());
     }
-    Ok(greatest)
+    let at = place_for(greatest.as_slice(), difference);
+    if at < LISTED {
+        greatest.insert(at, Change { day, row: *row })?;
+        greatest.truncate(LISTED);
+    }
+    Ok(())
 }
 
-/// Returns how many rows at the front have at least this difference.
-fn place_for(rows: &[Row], difference: u64) -> usize
-    ensures { result ≤ length rows.now }
+/// Returns how many changes at the front are at least as great as this difference.
+fn place_for(changes: &[Change], difference: u64) -> usize
+    ensures { result ≤ length changes.now }
 {
-    for (place, row) in rows.iter().enumerate() {
-        if difference_of(row) < difference {
+    for (place, change) in changes.iter().enumerate() {
+        if difference_of(&change.row) < difference {
             return place;
         }
     }
-    rows.len()
+    changes.len()
+}
+
+fn place_rows(greatest: &mut Vec<Change>, rows: &RowsOf<'_>) -> Result<(), AllocError> {
+    for row in rows.rows {
+        place_row(greatest, rows.day, row)?;
+    }
+    Ok(())
+}
+
+/// Returns the greatest changes of an amount, the greatest first, at most ten. Of equal ones the earlier row comes
+/// first.
+fn greatest_changes(alloc: Global, all: &[RowsOf<'_>]) -> Result<Vec<Change>, AllocError> {
+    let mut greatest = Vec::new(alloc);
+    for rows in all {
+        place_rows(&mut greatest, rows)?;
+    }
+    Ok(greatest)
 }
 
 fn is_none(counts: &ChangeCounts) -> bool {
@@ -182,12 +231,12 @@ fn write_counts(out: &mut String, counts: &ChangeCounts) -> Result<(), AllocErro
 /// Writes the counts of a part under this name, unless it has no rows.
 fn write_part(
     out: &mut String,
-    rows: &[Row],
+    all: &[RowsOf<'_>],
     part: RowsPart,
     name: &str,
     number: Option<u64>,
 ) -> Result<(), AllocError> {
-    let counts = counts_in(part, rows);
+    let counts = counts_in(part, all);
     if is_none(&counts) {
         return Ok(());
     }
@@ -198,12 +247,26 @@ fn write_part(
     write_counts(out, &counts)
 }
 
-fn write_tills(out: &mut String, rows: &[Row]) -> Result<(), AllocError> {
+/// Writes a line for each day, if the rows are of days.
+fn write_days(out: &mut String, all: &[RowsOf<'_>]) -> Result<(), AllocError> {
+    for (place, rows) in all.iter().enumerate() {
+        if let Some(day) = rows.day {
+            if place == 0 {
+                write!(out, "by day:\n")?;
+            }
+            write!(out, "  day {day}: ")?;
+            write_counts(out, &counts_from(RowsPart::All, NONE, rows.rows))?;
+        }
+    }
+    Ok(())
+}
+
+fn write_tills(out: &mut String, all: &[RowsOf<'_>]) -> Result<(), AllocError> {
     write!(out, "by till:\n")?;
     for till in 1..=TILLS {
         write_part(
             out,
-            rows,
+            all,
             RowsPart::Till(till),
             "till",
             Some(u64::from(till)),
@@ -212,26 +275,26 @@ fn write_tills(out: &mut String, rows: &[Row]) -> Result<(), AllocError> {
     Ok(())
 }
 
-fn write_points(out: &mut String, rows: &[Row]) -> Result<(), AllocError> {
+fn write_points(out: &mut String, all: &[RowsOf<'_>]) -> Result<(), AllocError> {
     write!(out, "by point:\n")?;
     for point in 1..=POINTS {
         write_part(
             out,
-            rows,
+            all,
             RowsPart::Point(point),
             "point",
             Some(u64::from(point)),
         )?;
     }
-    write_part(out, rows, RowsPart::Prices, "prices", None)
+    write_part(out, all, RowsPart::Prices, "prices", None)
 }
 
-fn write_hours(out: &mut String, rows: &[Row]) -> Result<(), AllocError> {
+fn write_hours(out: &mut String, all: &[RowsOf<'_>]) -> Result<(), AllocError> {
     write!(out, "by hour of the day, in UTC:\n")?;
     for hour in 0..24u64 {
-        write_part(out, rows, RowsPart::Hour(hour), "hour", Some(hour))?;
+        write_part(out, all, RowsPart::Hour(hour), "hour", Some(hour))?;
     }
-    write_part(out, rows, RowsPart::NoMoment, "without a moment", None)
+    write_part(out, all, RowsPart::NoMoment, "without a moment", None)
 }
 
 fn write_amount(out: &mut String, amount: Option<u64>) -> Result<(), AllocError> {
@@ -241,18 +304,19 @@ fn write_amount(out: &mut String, amount: Option<u64>) -> Result<(), AllocError>
     }
 }
 
-fn write_change(out: &mut String, row: &Row) -> Result<(), AllocError> {
+fn write_change(out: &mut String, change: &Change) -> Result<(), AllocError> {
+    let row = change.row;
     let asking = row.asking;
-    let (kind, till, point, asked) = (
-        word_text(kind_word(asking.kind)),
-        asking.till,
-        asking.point,
-        asking.asked,
-    );
+    let kind = word_text(kind_word(asking.kind));
+    let (till, point, asked) = (asking.till, asking.point, asking.asked);
     let entry = row.entry;
+    match change.day {
+        Some(day) => write!(out, "  day {day}, entry {entry}: ")?,
+        None => write!(out, "  entry {entry}: ")?,
+    }
     write!(
         out,
-        "  entry {entry}: {kind} of {asked} at point {point} by till {till}: granted "
+        "{kind} of {asked} at point {point} by till {till}: granted "
     )?;
     write_amount(out, row.granted)?;
     write!(out, ", would be granted ")?;
@@ -261,27 +325,38 @@ fn write_change(out: &mut String, row: &Row) -> Result<(), AllocError> {
     write!(out, " ({change})\n")
 }
 
-fn write_greatest(alloc: Global, out: &mut String, rows: &[Row]) -> Result<(), AllocError> {
-    write!(out, "greatest changes of an amount, in cents:\n")?;
-    let greatest = greatest_changes(alloc, rows)?;
-    for row in greatest.as_slice() {
-        write_change(out, row)?;
+fn write_greatest(alloc: Global, out: &mut String, all: &[RowsOf<'_>]) -> Result<(), AllocError> {
+    let greatest = greatest_changes(alloc, all)?;
+    if !greatest.is_empty() {
+        write!(out, "greatest changes of an amount, in cents:\n")?;
+    }
+    for change in greatest.as_slice() {
+        write_change(out, change)?;
     }
     Ok(())
 }
 
-/// Returns what the rows of a slot come to: how many show each change, in all, by till, by point and by hour; how many
-/// cents would not have been released; and the greatest changes.
-pub fn summary(alloc: Global, slot: u32, rows: &[Row]) -> Result<String, AllocError> {
+fn count_of(all: &[RowsOf<'_>]) -> u64 {
+    let mut count: u64 = 0;
+    for rows in all {
+        count = count.saturating_add(rows.rows.len() as u64);
+    }
+    count
+}
+
+/// Returns what the rows of a slot come to: how many show each change, in all, by day, by till, by point and by hour;
+/// how many cents would not have been released; and the greatest changes.
+pub fn summary(alloc: Global, slot: u32, all: &[RowsOf<'_>]) -> Result<String, AllocError> {
     let mut text = String::new(alloc);
-    let count = rows.len();
-    let cents = withheld_in(rows);
+    let count = count_of(all);
+    let cents = withheld_in(all);
     write!(text, "decisions of slot {slot}: {count}\n")?;
-    write_counts(&mut text, &counts_in(RowsPart::All, rows))?;
+    write_counts(&mut text, &counts_in(RowsPart::All, all))?;
     write!(text, "cents that would not have been released: {cents}\n")?;
-    write_tills(&mut text, rows)?;
-    write_points(&mut text, rows)?;
-    write_hours(&mut text, rows)?;
-    write_greatest(alloc, &mut text, rows)?;
+    write_days(&mut text, all)?;
+    write_tills(&mut text, all)?;
+    write_points(&mut text, all)?;
+    write_hours(&mut text, all)?;
+    write_greatest(alloc, &mut text, all)?;
     Ok(text)
 }

@@ -3,10 +3,10 @@
 ghost use Rattle.std.specs.Prelude.{◌≡◌, OnOk, map};
 ghost use Rattle.std.specs.List.{concat};
 ghost use Rattle.std.specs.Io.KnownBytes.{Appends};
-ghost use Rattle.what_if.specs.Text.{header_text, line_text, rows_text};
+ghost use Rattle.what_if.specs.Text.{day_line_text, day_text, days_header_text, days_text, header_text, line_text, rows_text};
 
-use crate::lines::{Format, line_of};
-use crate::rows::Row;
+use crate::lines::{Format, line_of, line_of_day};
+use crate::rows::{DayRows, Row};
 use std::alloc::{AllocError, Global};
 use std::io::{self, Write};
 
@@ -87,4 +87,82 @@ pub fn write_rows<W: Write>(
 {
     out.write_all(header_of(format).as_bytes())?;
     write_lines(alloc, rows, format, out)
+}
+
+fn days_header_of(format: Format) -> &'static str
+    ensures { result.now ≡ days_header_text format }
+{
+    match format {
+        Format::Csv => "day,entry,moment,till,point,kind,asked,version,granted,would,change\r\n",
+        Format::Json => "",
+    }
+}
+
+fn write_line_of_day<W: Write>(
+    alloc: Global,
+    day: u32,
+    row: &Row,
+    format: Format,
+    out: &mut W,
+) -> Result<(), RowsFault>
+    ensures { OnOk result (Appends (W.contents out.old) (W.contents out.new) (day_line_text format day row.now)) }
+{
+    let line = line_of_day(alloc, format, day, row)?;
+    out.write_all(line.as_bytes())?;
+    Ok(())
+}
+
+fn write_lines_of_day<W: Write>(
+    alloc: Global,
+    day: u32,
+    rows: &[Row],
+    format: Format,
+    out: &mut W,
+) -> Result<(), RowsFault>
+    ensures { OnOk result (Appends (W.contents out.old) (W.contents out.new)
+        (concat (map (day_line_text format day) rows.now))) }
+{
+    for row in rows {
+        write_line_of_day(alloc, day, row, format, out)?;
+    }
+    Ok(())
+}
+
+fn write_day<W: Write>(
+    alloc: Global,
+    day: &DayRows,
+    format: Format,
+    out: &mut W,
+) -> Result<(), RowsFault>
+    ensures { OnOk result (Appends (W.contents out.old) (W.contents out.new) (day_text format day.now)) }
+{
+    write_lines_of_day(alloc, day.day, &day.rows, format, out)
+}
+
+fn write_each_day<W: Write>(
+    alloc: Global,
+    days: &[DayRows],
+    format: Format,
+    out: &mut W,
+) -> Result<(), RowsFault>
+    ensures { OnOk result (Appends (W.contents out.old) (W.contents out.new) (concat (map (day_text format) days.now))) }
+{
+    for day in days {
+        write_day(alloc, day, format, out)?;
+    }
+    Ok(())
+}
+
+/// Writes all rows of these days, each behind the number of its day. In CSV the names of the columns come first.
+pub fn write_days<W: Write>(
+    alloc: Global,
+    days: &[DayRows],
+    format: Format,
+    out: &mut W,
+) -> Result<(), RowsFault>
+    // proved: The rows of many days have the numbers of their days
+    ensures { OnOk result (Appends (W.contents out.old) (W.contents out.new) (days_text format days.now)) }
+{
+    out.write_all(days_header_of(format).as_bytes())?;
+    write_each_day(alloc, days, format, out)
 }

@@ -1,7 +1,6 @@
-use Rattle.std.proofs.Common.{◌≡◌, take}
-use Rattle.std.specs.Prelude.{fold}
-use Rattle.what_if.specs.Sums.{plus, withheld_by}
+use Rattle.std.proofs.Common.{◌≡◌, map, take}
+use Rattle.what_if.specs.Sums.{withheld_in}
 use Rattle.what_if.proofs.summary.withheld_in.Given as goal
 
-abbrev pub invariant-loop-row : goal.invariant-loop-row
-invariant-loop-row l = l.cents ≡ fold (λ cents row. plus cents (withheld_by row)) 0 (take l.row-index l.rows)
+abbrev pub invariant-loop-rows : goal.invariant-loop-rows
+invariant-loop-rows l = l.cents ≡ withheld_in (map (λ rows. rows.rows.now) (take l.rows-index l.all))
