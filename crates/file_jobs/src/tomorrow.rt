@@ -11,7 +11,7 @@ use crate::opening::refuse_fault;
 use crate::other_config::{differences, taken_words, untaken_words};
 use crate::settings::{served, settings_in};
 use crate::statuses::REFUSED;
-use crate::{Folder, JobError, Part, Place, SiteFiles};
+use crate::{DayFiles, Folder, JobError, Part, Place, SiteFiles};
 use days::Misfit;
 use days::fitting::first_misfit;
 use site_config::Settings;
