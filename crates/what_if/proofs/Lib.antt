@@ -2,3 +2,4 @@ mod Finding
 mod OneMore
 mod Alone
 mod SameRule
+mod DayByDay

@@ -4,3 +4,4 @@ pub mod Comparisons
 pub mod Text
 pub mod Laws
 pub mod Sums
+pub mod Days

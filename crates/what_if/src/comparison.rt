@@ -45,7 +45,7 @@ const NO_POINT: PointView = PointView {
     amount: 0,
 };
 
-fn is_same_layout(a: Layout, b: Layout) -> bool
+pub(crate) fn is_same_layout(a: Layout, b: Layout) -> bool
     ensures same { result ≡ is_same_layout a b }
     ensures equal { IsTrue result → a ≡ b }
 {
@@ -138,6 +138,24 @@ impl<'a> Comparison<'a> {
         ensures { result ≡ self.now.misfit }
     {
         self.misfit
+    }
+
+    pub(crate) fn rule(&self) -> &Program
+        ensures { result.now ≡ self.now.rule.now }
+    {
+        self.rule
+    }
+
+    pub(crate) fn slot(&self) -> u32
+        ensures { result ≡ self.now.slot }
+    {
+        self.slot
+    }
+
+    pub(crate) fn reading(&self) -> Reading
+        ensures { result ≡ self.now.reading }
+    {
+        self.reading
     }
 
     pub fn layout(&self) -> Layout

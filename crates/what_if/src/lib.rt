@@ -2,6 +2,7 @@
 #![tactic(auto)]
 
 pub mod comparison;
+pub mod days;
 mod decisions;
 pub mod laws;
 mod lines;
@@ -10,6 +11,7 @@ pub mod summary;
 pub mod writing;
 
 pub use comparison::{Comparison, Reading};
+pub use days::{DayMisfit, DaysComparison};
 pub use decisions::{Asking, Kind};
 pub use lines::Format;
 pub use rows::{DayRows, Row, RowChange};
