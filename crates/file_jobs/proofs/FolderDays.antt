@@ -9,8 +9,8 @@ use Rattle.days.specs.declared.day.DayIn.{DayIn}
 use Rattle.file_jobs.specs.Days.{FolderText, IsConfigOf, day_after}
 use Rattle.file_jobs.specs.Chained.{day_in, day_with, days_from, days_left}
 
-pub given_day : {J : Type 0} (remaining : J → Option (List ℕ)) (given : ConfigValue) (own : Option (Result ConfigValue ConfigFault)) (opening journal : Option (List ℕ))
-    (day : DayIn J) → IsConfigOf given own day.config → option_map (λ bytes. bytes.items) day.opening ≡ opening
+pub given_day : {J S : Type 0} (remaining : J → Option (List ℕ)) (given : ConfigValue) (own : Option (Result ConfigValue ConfigFault)) (opening journal : Option (List ℕ))
+    (day : DayIn J S) → IsConfigOf given own day.config → option_map (λ bytes. bytes.items) day.opening ≡ opening
     → option_map remaining day.journal ≡ option_map (λ text. Some text) journal → IsGiven remaining (day_with given own opening journal) day
 given_day remaining given None opening journal day config opens journals = record { config = config; opening = opens; journal = journals }
 given_day remaining given (Some (Ok own)) opening journal day config opens journals = record { config = search rules; opening = opens; journal = journals }
@@ -28,7 +28,7 @@ rest_is texts given day newest = ⊎_elim
     (λ le. ap (λ b. days_left texts given (if b then Some (day + 1) else None) newest) le ∙ ap (days_from texts given (day + 1)) (none_left day newest le))
     (cases_Bool (nat_lt day newest))
 
-first_of : {J : Type 0} (remaining : J → Option (List ℕ)) (files : Option FolderText) (given : ConfigValue) (number newest : ℕ) (day : DayIn J) (days : List DayText)
+first_of : {J S : Type 0} (remaining : J → Option (List ℕ)) (files : Option FolderText) (given : ConfigValue) (number newest : ℕ) (day : DayIn J S) (days : List DayText)
     → option_map (λ texts. days_left texts given (Some number) newest) files ≡ Some days
     → ((texts : FolderText) → files ≡ Some texts → IsGiven remaining (day_in texts given number) day)
     → (first : DayText) × (rest : List DayText) × (days ≡ first ∷ rest)
@@ -42,13 +42,13 @@ first_of remaining (Some texts) given number newest day days known gave = (
   gave texts refl,
 )
 
-pub gives_first : {J : Type 0} (remaining : J → Option (List ℕ)) (files : Option FolderText) (given : ConfigValue) (number newest : ℕ) (now next : Option ℕ)
-    (day : DayIn J) (days : List DayText) → now ≡ Some number → next ≡ day_after number newest
+pub gives_first : {J S : Type 0} (remaining : J → Option (List ℕ)) (files : Option FolderText) (given : ConfigValue) (number newest : ℕ) (now next : Option ℕ)
+    (day : DayIn J S) (days : List DayText) → now ≡ Some number → next ≡ day_after number newest
     → option_map (λ texts. days_left texts given now newest) files ≡ Some days
     → ((texts : FolderText) → files ≡ Some texts → IsGiven remaining (day_in texts given number) day)
     → (first : DayText) × (rest : List DayText) × (days ≡ first ∷ rest) × (option_map (λ texts. days_left texts given next newest) files ≡ Some rest)
     × IsGiven remaining first day
-gives_first {J} remaining files given number newest now next day days is next_is known gave =
+gives_first {J} {S} remaining files given number newest now next day days is next_is known gave =
     subst (λ n. (first : DayText) × (rest : List DayText) × (days ≡ first ∷ rest) × (option_map (λ texts. days_left texts given n newest) files ≡ Some rest)
     × IsGiven remaining first day) (sym next_is)
     (first_of remaining files given number newest day days (subst (λ n. option_map (λ texts. days_left texts given n newest) files ≡ Some days) is known) gave)

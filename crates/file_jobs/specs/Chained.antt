@@ -1,9 +1,11 @@
 -- Definitions: the days of a folder as the audit of all days reads them, and the first line in which a day's opening
 -- differs from the opening that the day before left (source: this project).
-use Rattle.std.specs.Prelude.{◌≡◌, ◌≢◌, ◌<◌, ◌≤◌, ℕ, ◌+◌, ◌-◌, ◌^◌, ◌==◌, zero, suc, List, [], ◌∷◌, length, take, drop, count_by, slice_index, slice_index_or, Option, Some, None, Result, Ok, Err}
+use Rattle.std.specs.Prelude.{◌≡◌, ◌≢◌, ◌<◌, ◌≤◌, ℕ, ◌+◌, ◌-◌, ◌^◌, ◌==◌, zero, suc, List, [], ◌∷◌, ◌++◌, length, take, drop, count_by, slice_index, slice_index_or, Option, Some, None, Result, Ok, Err}
 use Rattle.site_core.specs.Limits.{ConfigValue}
 use Rattle.site_config.specs.declared.fault.ConfigFault.{ConfigFault}
 use Rattle.days.specs.Chain.{DayText, IsChain}
+use Rattle.days.specs.EndedDays.{DayEnd}
+use Rattle.days.specs.Ends.{AreEnds}
 use Rattle.days.specs.declared.day.Chained.{Chained}
 use Rattle.file_jobs.specs.declared.folder.Part.TheVariants as part
 use Rattle.file_jobs.specs.declared.folder.Span.{Span}
@@ -38,6 +40,16 @@ AreLegal folder given chained =
     (span : Span) × (span_of folder ≡ Some span)
     × IsChain span.oldest (days_left folder given (Some span.oldest) span.newest) chained.entries
     × (chained.days ≡ length (days_left folder given (Some span.oldest) span.newest))
+
+-- The end of each day of this span of a folder has been told, in order, behind what had been told `before`.
+abbrev pub AreToldOf : Span → FolderText → ConfigValue → (List DayEnd → Type 0) → List DayEnd → Type 0
+AreToldOf span folder given was_told before =
+    let days = days_left folder given (Some span.oldest) span.newest in
+    (ends : List DayEnd) × AreEnds span.oldest days span.oldest ends × (length ends ≡ length days) × was_told (before ++ ends)
+
+-- The same of all days of a folder, from the oldest to the newest.
+abbrev pub AreTold : FolderText → ConfigValue → (List DayEnd → Type 0) → List DayEnd → Type 0
+AreTold folder given was_told before = (span : Span) × (span_of folder ≡ Some span) × AreToldOf span folder given was_told before
 
 -- No day of a folder, from the oldest to the newest, has a configuration of its own that is refused.
 abbrev pub NoConfigIsRefused : FolderText → Type 0

@@ -20,6 +20,7 @@ pub mod Unopened
 pub mod Told
 pub mod PrintRequests
 pub mod Chained
+pub mod Follow
 pub mod Loading
 pub mod Play
 pub mod RunOutput

@@ -60,11 +60,12 @@ RefusesJournal (unclosed.Text journal fault) error = RefusesText fault error
 RefusesJournal (unclosed.History flaw) error = EndsOrRunsOut 1 (line_of_flaw flaw) error
 RefusesJournal unclosed.OutOfMemory error = error ≡ job_error.OutOfMemory
 
--- Days of a folder that are refused at this day for this cause. `Unread` means that a day couldn't be read: the
--- optional error says why.
+-- Days of a folder that are refused at this day for this cause. `Unread` means that a day couldn't be read, and `Untold`
+-- that its end couldn't be told: the optional error says why.
 abbrev pub RefusesDays : {J : Type 0} → ℕ → Cause J → Option JobError → JobError → Type 0
 RefusesDays day cause.NoDays kept error = Ends 1 [] error
 RefusesDays day cause.Unread kept error = error ≡ unwrap_or kept job_error.OutOfMemory
+RefusesDays day cause.Untold kept error = error ≡ unwrap_or kept job_error.OutOfMemory
 RefusesDays day (cause.NoNextOpening no_next_opening.NoJournal) kept error = BreaksLink day error
 RefusesDays day (cause.NoNextOpening (no_next_opening.Uncarried why)) kept error =
     (why ≢ uncarried.Fault opening.OutOfMemory → Ends 1 [] error) × (why ≡ uncarried.Fault opening.OutOfMemory → error ≡ job_error.OutOfMemory)

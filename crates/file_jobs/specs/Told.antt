@@ -122,6 +122,7 @@ SaysUnfollowed word day (unfollowed.OtherOpening bytes left) error =
 abbrev pub SaysDays : {J : Type 0} → List ℕ → List ℕ → ℕ → Cause J → JobError → Type 0
 SaysDays opening journal day cause.NoDays error = ⊤
 SaysDays opening journal day cause.Unread error = ⊤
+SaysDays opening journal day cause.Untold error = ⊤
 SaysDays opening journal day (cause.NoNextOpening no_next_opening.NoJournal) error =
     SaysFault journal None (codes "the day has no journal") (codes "O1") error
 SaysDays opening journal day (cause.NoNextOpening (no_next_opening.Uncarried why)) error = SaysOf journal None (uncarried_text why) error

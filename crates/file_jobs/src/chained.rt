@@ -1,5 +1,5 @@
 //! The audit of all days of a station.
-ghost use Rattle.std.specs.Prelude.{◌≡◌, ◌≢◌, ◌-◌, ◌++◌, true, [], None, Some, IfSome, IfNone, IfOk, IfErr, IsErrAnd, codes};
+ghost use Rattle.std.specs.Prelude.{◌≡◌, ◌≢◌, ◌-◌, ◌++◌, true, List, [], None, Some, IfSome, IfNone, IfOk, IfErr, IsErrAnd, codes};
 ghost use Rattle.std.specs.Prelude.{length, option_map};
 ghost use Rattle.std.specs.Fmt.{decimal};
 ghost use Rattle.std.specs.Str.{IsUtf8};
@@ -10,8 +10,10 @@ ghost use Rattle.file_jobs.specs.Days.{FolderText, IsConfigOf, file_of, own_conf
 ghost use Rattle.file_jobs.specs.JobErrors.{Ends, EndsOrRunsOut, Refuses};
 ghost use Rattle.file_jobs.specs.PlaysAndDays.{RefusesBeginning, RefusesJournal, RefusesDays};
 ghost use Rattle.file_jobs.specs.Told.{SaysDays, SaysFault, SaysOtherLine, SaysUnbegun, SaysUnfollowed};
-ghost use Rattle.file_jobs.specs.Chained.{AgreeFor, AreLegal, IsOtherLine, NoConfigIsRefused, day_in, days_left};
+ghost use Rattle.days.specs.EndedDays.{DayEnd};
+ghost use Rattle.file_jobs.specs.Chained.{AgreeFor, AreLegal, AreTold, AreToldOf, IsOtherLine, NoConfigIsRefused, day_in, days_left};
 
+use crate::day_watch::{DayWatch, UnwatchedDays};
 use crate::files::{lines_in, text_of};
 use crate::job_error::printed;
 use crate::messages::print_message;
@@ -26,7 +28,7 @@ use days::chain::audit_days;
 use days::{
     Cause, Chained, DayIn, DaysFault, DaysIn, NoDay, NoNextOpening, Unbegun, Unclosed, Unfollowed,
 };
-use site_core::Config;
+use site_core::{Config, Site};
 use std::alloc::{AllocError, Global};
 use std::fmt::{self, Display};
 use std::str;
@@ -34,11 +36,11 @@ use till_request::devices::StreamIn;
 use till_request::parts::first_part;
 
 /// A day's journal, which shows a progress line as it is read.
-type Journal<'a, R> = Watched<'a, StreamIn<R>>;
+pub(crate) type Journal<'a, R> = Watched<'a, StreamIn<R>>;
 
 /// The days of a folder, read one after another.
 #[derive(Drop)]
-struct FolderIn<'a, F> {
+struct FolderIn<'a, F, W> {
     rt: &'a HostRuntime,
     folder: F,
     /// The configuration for the days that have none in the folder.
@@ -46,53 +48,31 @@ struct FolderIn<'a, F> {
     /// `None` after the newest day.
     next: Option<u32>,
     newest: u32,
-    /// Why a day couldn't be read.
+    watch: W,
+    /// Why a day couldn't be read, or its end couldn't be told.
     job_error: Option<JobError>,
 }
 
-impl<'a, F: DayFiles + Drop> FolderIn<'a, F> {
-    fn day(&self, number: u32) -> Result<DayIn<Journal<'a, F::File>>, JobError>
+impl<'a, F: DayFiles + Drop, W: DayWatch + Drop> FolderIn<'a, F, W> {
+    fn day(
+        &self,
+        number: u32,
+        seen: W::Seen,
+    ) -> Result<DayIn<Journal<'a, F::File>, W::Seen>, JobError>
         ensures given { (texts : FolderText) → F.files self.now.folder ≡ Some texts
             → IfOk result (IsGiven (λ j. F.File.remaining j.input.reader) (day_in texts self.now.config number)) }
+        ensures seen { IfOk result (λ day. day.seen ≡ seen) }
         ensures refused { IfErr result (Refuses 1) }
     {
-        let config = self.config(number)?;
-        let opening = self.opening(number)?;
+        let config = config_of(self.rt, &self.folder, &self.config, number)?;
+        let opening = opening_of(self.rt, &self.folder, number)?;
         let journal = self.journal(number)?;
         Ok(DayIn {
             config,
             opening,
             journal,
+            seen,
         })
-    }
-
-    fn config(&self, number: u32) -> Result<Config, JobError>
-        ensures own { (texts : FolderText) → F.files self.now.folder ≡ Some texts
-            → IfOk result (IsConfigOf self.now.config (own_config (file_of texts number Part.Config))) }
-        ensures refused { IfErr result (Refuses 1) }
-    {
-        match own_config(self.rt, &self.folder, number)? {
-            Some(own) => Ok(own),
-            None => Ok(self.config.copied(self.rt.alloc())?),
-        }
-    }
-
-    fn opening(&self, number: u32) -> Result<Option<Vec<u8>>, JobError>
-        ensures bytes { (texts : FolderText) → F.files self.now.folder ≡ Some texts → IfOk result (λ opening.
-            option_map (λ bytes. bytes.items) opening ≡ file_of texts number Part.Opening) }
-        ensures refused { IfErr result (Refuses 1) }
-    {
-        let Some(source) = self.folder.open(self.rt, number, Part::Opening)? else {
-            return Ok(None);
-        };
-        let path = self
-            .folder
-            .as_folder()
-            .file(self.rt, number, Part::Opening)?;
-        match opening_bytes(self.rt, &path, source) {
-            Ok(bytes) => Ok(Some(bytes)),
-            Err(job_error) => Err(job_error),
-        }
     }
 
     fn journal(&self, number: u32) -> Result<Option<Journal<'a, F::File>>, JobError>
@@ -111,8 +91,47 @@ impl<'a, F: DayFiles + Drop> FolderIn<'a, F> {
     }
 }
 
-impl<'a, F: DayFiles + Drop> DaysIn for FolderIn<'a, F> {
+/// The configuration of a day: the folder's for it, or else `given`.
+pub(crate) fn config_of<F: DayFiles>(
+    rt: &HostRuntime,
+    folder: &F,
+    given: &Config,
+    number: u32,
+) -> Result<Config, JobError>
+    ensures own { (texts : FolderText) → F.files folder.now ≡ Some texts
+        → IfOk result (IsConfigOf given.now (own_config (file_of texts number Part.Config))) }
+    ensures refused { IfErr result (Refuses 1) }
+{
+    match own_config(rt, folder, number)? {
+        Some(own) => Ok(own),
+        None => Ok(given.copied(rt.alloc())?),
+    }
+}
+
+/// The bytes of the opening that a folder has for a day.
+pub(crate) fn opening_of<F: DayFiles>(
+    rt: &HostRuntime,
+    folder: &F,
+    number: u32,
+) -> Result<Option<Vec<u8>>, JobError>
+    ensures bytes { (texts : FolderText) → F.files folder.now ≡ Some texts → IfOk result (λ opening.
+        option_map (λ bytes. bytes.items) opening ≡ file_of texts number Part.Opening) }
+    ensures refused { IfErr result (Refuses 1) }
+{
+    let Some(source) = folder.open(rt, number, Part::Opening)? else {
+        return Ok(None);
+    };
+    let path = folder.as_folder().file(rt, number, Part::Opening)?;
+    match opening_bytes(rt, &path, source) {
+        Ok(bytes) => Ok(Some(bytes)),
+        Err(job_error) => Err(job_error),
+    }
+}
+
+impl<'a, F: DayFiles + Drop, W: DayWatch + Drop> DaysIn for FolderIn<'a, F, W> {
     type Journal = Journal<'a, F::File>;
+
+    type Seen = W::Seen;
 
     ghost use Rattle.std.specs.Prelude.{IsSome, option_map};
     ghost use Rattle.file_jobs.specs.Chained.{days_left};
@@ -121,13 +140,29 @@ impl<'a, F: DayFiles + Drop> DaysIn for FolderIn<'a, F> {
 
     ghost failed = { λ s. IsSome s.job_error };
 
-    fn next_day(&mut self) -> Result<Option<DayIn<Journal<'a, F::File>>>, NoDay> {
+    ghost was_told = { λ s ends. W.was_told s.watch ends };
+
+    fn next_day(&mut self) -> Result<Option<DayIn<Journal<'a, F::File>, W::Seen>>, NoDay> {
         let Some(number) = self.next else {
             return Ok(None);
         };
         self.next = day_after(number, self.newest);
-        match self.day(number) {
+        let Ok(seen) = self.watch.begin_day(self.rt.alloc(), number) else {
+            self.job_error = Some(JobError::OutOfMemory);
+            return Err(NoDay);
+        };
+        match self.day(number, seen) {
             Ok(day) => Ok(Some(day)),
+            Err(job_error) => {
+                self.job_error = Some(job_error);
+                Err(NoDay)
+            }
+        }
+    }
+
+    fn end_day(&mut self, number: u32, site: &Site, seen: W::Seen) -> Result<(), NoDay> {
+        match self.watch.end_day(number, site, seen) {
+            Ok(()) => Ok(()),
             Err(job_error) => {
                 self.job_error = Some(job_error);
                 Err(NoDay)
@@ -162,25 +197,42 @@ pub fn audit_in<F: DayFiles + Drop>(
     // proved: No day's configuration is refused
     ensures configs { (texts : FolderText) → F.files folder ≡ Some texts → IfOk result (λ _. NoConfigIsRefused texts) }
 {
+    match watch_in(rt, folder, config, UnwatchedDays) {
+        Ok(audited) => Ok(audited.chained),
+        Err(job_error) => Err(job_error),
+    }
+}
+
+/// What an audit of all days of a folder gave, and what watched it.
+#[derive(Drop)]
+pub struct WatchedDays<W> {
+    pub chained: Chained,
+    pub watch: W,
+}
+
+/// Audits all days of a folder like `audit_in`. `watch` is shown each of their entries, and told the end of each day.
+pub fn watch_in<F: DayFiles + Drop, W: DayWatch + Drop>(
+    rt: &HostRuntime,
+    folder: F,
+    config: Config,
+    watch: W,
+) -> Result<WatchedDays<W>, JobError>
+    ensures legal { (texts : FolderText) → F.files folder ≡ Some texts
+        → IfOk result (λ audited. AreLegal texts config audited.chained) }
+    ensures configs { (texts : FolderText) → F.files folder ≡ Some texts → IfOk result (λ _. NoConfigIsRefused texts) }
+    // proved: What watches is told the end of each day | file_jobs/watched_days_are_not_told
+    ensures told { (texts : FolderText) → F.files folder ≡ Some texts → (before : List DayEnd) → W.was_told watch before
+        → IfOk result (λ audited. AreTold texts config (W.was_told audited.watch) before) }
+{
     match folder.span(rt)? {
-        Some(span) => audit_span(rt, folder, config, span),
+        Some(span) => watch_span(rt, folder, config, watch, span),
         None => Err(refuse_folder(rt.alloc(), folder.as_folder())),
     }
 }
 
-fn audit_span<F: DayFiles + Drop>(
-    rt: &HostRuntime,
-    folder: F,
-    config: Config,
-    span: Span,
-) -> Result<Chained, JobError>
-    ensures chain { (texts : FolderText) → F.files folder ≡ Some texts → IfOk result (λ chained.
-        IsChain span.oldest (days_left texts config (Some span.oldest) span.newest) chained.entries) }
-    ensures days { (texts : FolderText) → F.files folder ≡ Some texts → IfOk result (λ chained.
-        chained.days ≡ length (days_left texts config (Some span.oldest) span.newest)) }
-{
-    if span.oldest > 1 {
-        let (path, oldest) = (folder.as_folder().path, span.oldest);
+pub(crate) fn print_oldest(rt: &HostRuntime, folder: Folder<'_>, oldest: u32) {
+    if oldest > 1 {
+        let path = folder.path;
         print_message(
             rt,
             &format_args!(
@@ -188,50 +240,83 @@ fn audit_span<F: DayFiles + Drop>(
             ),
         );
     }
+}
+
+fn watch_span<F: DayFiles + Drop, W: DayWatch + Drop>(
+    rt: &HostRuntime,
+    folder: F,
+    config: Config,
+    watch: W,
+    span: Span,
+) -> Result<WatchedDays<W>, JobError>
+    ensures chain { (texts : FolderText) → F.files folder ≡ Some texts → IfOk result (λ audited.
+        IsChain span.oldest (days_left texts config (Some span.oldest) span.newest) audited.chained.entries) }
+    ensures days { (texts : FolderText) → F.files folder ≡ Some texts → IfOk result (λ audited.
+        audited.chained.days ≡ length (days_left texts config (Some span.oldest) span.newest)) }
+    ensures told { (texts : FolderText) → F.files folder ≡ Some texts → (before : List DayEnd) → W.was_told watch before
+        → IfOk result (λ audited. AreToldOf span texts config (W.was_told audited.watch) before) }
+{
+    print_oldest(rt, folder.as_folder(), span.oldest);
     let mut days = FolderIn {
         rt,
         folder,
         config,
         next: Some(span.oldest),
         newest: span.newest,
+        watch,
         job_error: None,
     };
     match audit_days(rt.alloc(), span.oldest, &mut days) {
-        Ok(chained) => Ok(chained),
-        Err(fault) => Err(refuse_days(rt, days, fault)?),
+        Ok(chained) => Ok(WatchedDays {
+            chained,
+            watch: days.watch,
+        }),
+        Err(fault) => {
+            let FolderIn {
+                folder,
+                job_error,
+                ..
+            } = days;
+            Err(refuse_days(rt, folder.as_folder(), job_error, fault)?)
+        }
     }
 }
 
-fn refuse_days<F: DayFiles + Drop>(
+/// Makes the error for days at which an audit stopped. `job_error` is why a day couldn't be read, or its end couldn't be
+/// told.
+pub(crate) fn refuse_days<R: FileIn + Drop>(
     rt: &HostRuntime,
-    days: FolderIn<'_, F>,
-    fault: DaysFault<Journal<'_, F::File>>,
+    folder: Folder<'_>,
+    job_error: Option<JobError>,
+    fault: DaysFault<Journal<'_, R>>,
 ) -> Result<JobError, AllocError>
-    ensures { IfOk result (RefusesDays fault.entry.day fault.entry.cause days.entry.job_error) }
+    ensures { IfOk result (RefusesDays fault.entry.day fault.entry.cause job_error) }
 {
     let DaysFault { day, cause } = fault;
-    let opening = days.folder.as_folder().file(rt, day, Part::Opening)?;
-    let journal = days.folder.as_folder().file(rt, day, Part::Journal)?;
-    Ok(refuse_cause(rt, days, day, (&opening, &journal), cause))
+    let opening = folder.file(rt, day, Part::Opening)?;
+    let journal = folder.file(rt, day, Part::Journal)?;
+    let paths = (opening.as_str(), journal.as_str());
+    Ok(refuse_cause(rt, folder, job_error, day, paths, cause))
 }
 
 /// `paths` names the day's opening and its journal.
-fn refuse_cause<F: DayFiles + Drop>(
+fn refuse_cause<R: FileIn + Drop>(
     rt: &HostRuntime,
-    days: FolderIn<'_, F>,
+    folder: Folder<'_>,
+    job_error: Option<JobError>,
     day: u32,
     paths: (&str, &str),
-    cause: Cause<Journal<'_, F::File>>,
+    cause: Cause<Journal<'_, R>>,
 ) -> JobError
-    ensures ends { RefusesDays day cause.entry days.entry.job_error result }
+    ensures ends { RefusesDays day cause.entry job_error result }
     ensures says { SaysDays paths.entry.0.now paths.entry.1.now day cause.entry result }
 {
     let (opening, journal) = paths;
     let alloc = rt.alloc();
     match cause {
         // Never here: the folder had a day when it was read.
-        Cause::NoDays => refuse_folder(alloc, days.folder.as_folder()),
-        Cause::Unread => days.job_error.unwrap_or(JobError::OutOfMemory),
+        Cause::NoDays => refuse_folder(alloc, folder),
+        Cause::Unread | Cause::Untold => job_error.unwrap_or(JobError::OutOfMemory),
         Cause::NoNextOpening(NoNextOpening::NoJournal) => { refuse_missing(alloc, journal, day) }
         Cause::NoNextOpening(NoNextOpening::Uncarried(why)) => {
             refuse_uncarried(alloc, journal, why)
