@@ -531,6 +531,7 @@ def calls_of_files(shim):
     yield Call("explanation", "explain", "site.toml", "day.journal", "8")
     yield Call("explanation from an opening", "explain", "--opening", "day.opening", "site.toml", "second.journal", "1")
     yield Call("explanation of no entry", "explain", "site.toml", "day.journal", "0")
+    yield Call("explanation as JSON", "explain", "--json", "site.toml", "day.journal", "8")
     yield Call("export of no rows", "export", "prices", "site.toml", "day.journal")
     yield Call("asm", "asm", "rule.bpf")
     yield Call("asm of no form", "asm", "form.bpf")
@@ -540,6 +541,10 @@ def calls_of_files(shim):
     yield Call("dis of an odd digit", "dis", "odd.hex")
     yield Call("verify", "verify", "--counters", "1", "rule.hex")
     yield Call("verify of a wrong argument", "verify", "call.hex")
+    yield Call("run", "run", "--counters", "1", "--trace", "rule.hex", "counter.0=2/3", "asked=900")
+    yield Call("run as JSON", "run", "--json", "--counters", "1", "--trace", "rule.hex", "counter.0=2/3", "asked=900")
+    yield Call("run of a wrong word", "run", "rule.hex", "asked")
+    yield Call("run of a wrong argument", "run", "call.hex", "asked=900")
     yield Call("help", "--help")
     yield Call("words of no job", "asm", "--mask")
 
