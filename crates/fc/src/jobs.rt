@@ -8,6 +8,7 @@ use file_jobs::chained::audit_folder;
 use file_jobs::command_line::help;
 use file_jobs::explain::{explain_day, explain_files};
 use file_jobs::export::export_files;
+use file_jobs::follow::follow_folder;
 use file_jobs::job_error::print_text;
 use file_jobs::plays::{play_files, play_input};
 use file_jobs::printing::print_file;
@@ -105,8 +106,7 @@ pub fn do_job<
         } => what_if_files(rt, site_files(config, opening), journal, what_if),
         // to come
         Job::WhatIfDays { .. } => Err(JobError::message(rt.alloc(), &"whatif is to come", USAGE)),
-        // to come
-        Job::Follow { .. } => Err(JobError::message(rt.alloc(), &"follow is to come", USAGE)),
+        Job::Follow { folder, config } => follow_folder(rt, host, folder, config),
         Job::Serve(job) => serve(rt, host, job),
     }
 }
