@@ -16,6 +16,7 @@ use file_jobs::report::report_files;
 use file_jobs::run::run_rule;
 use file_jobs::tomorrow::check_next_day;
 use file_jobs::whatif::what_if_files;
+use file_jobs::whatif_days::what_if_folder;
 use file_jobs::{Folder, Job, JobError, PrintRequest, RunOptions, ServeJob, SiteFiles, USAGE};
 use std::fs::Files;
 use std::io::IsTerminal;
@@ -104,8 +105,11 @@ pub fn do_job<
             journal,
             what_if,
         } => what_if_files(rt, site_files(config, opening), journal, what_if),
-        // to come
-        Job::WhatIfDays { .. } => Err(JobError::message(rt.alloc(), &"whatif is to come", USAGE)),
+        Job::WhatIfDays {
+            folder,
+            config,
+            what_if,
+        } => what_if_folder(rt, folder, config, what_if),
         Job::Follow { folder, config } => follow_folder(rt, host, folder, config),
         Job::Serve(job) => serve(rt, host, job),
     }

@@ -25,3 +25,4 @@ pub mod Loading
 pub mod Play
 pub mod RunOutput
 pub mod Script
+pub mod ComparedDays

@@ -50,6 +50,7 @@ pub mod tomorrow;
 mod trial_words;
 pub mod unopened;
 pub mod whatif;
+pub mod whatif_days;
 pub mod zone_files;
 
 pub use day_watch::{DayWatch, UnwatchedDays};

@@ -45,7 +45,7 @@ pub fn what_if_files(
 }
 
 /// Reads the rule, and verifies it.
-fn rule_in(rt: &HostRuntime, what_if: &WhatIf) -> Result<Program, JobError>
+pub(crate) fn rule_in(rt: &HostRuntime, what_if: &WhatIf) -> Result<Program, JobError>
     ensures { IfErr result (Refuses 1) }
 {
     let file = text_of(rt, &what_if.rule)?;
@@ -55,14 +55,14 @@ fn rule_in(rt: &HostRuntime, what_if: &WhatIf) -> Result<Program, JobError>
     }
 }
 
-fn layout_number(layout: Layout) -> u32 {
+pub(crate) fn layout_number(layout: Layout) -> u32 {
     match layout {
         Layout::One => 1,
         Layout::Two => 2,
     }
 }
 
-fn other_layout(layout: Layout) -> Layout {
+pub(crate) fn other_layout(layout: Layout) -> Layout {
     match layout {
         Layout::One => Layout::Two,
         Layout::Two => Layout::One,
