@@ -17,7 +17,7 @@ use file_jobs::run::run_rule;
 use file_jobs::tomorrow::check_next_day;
 use file_jobs::whatif::what_if_files;
 use file_jobs::whatif_days::what_if_folder;
-use file_jobs::{Folder, Job, JobError, PrintRequest, RunOptions, ServeJob, SiteFiles, USAGE};
+use file_jobs::{Folder, Job, JobError, PrintRequest, RunOptions, ServeJob, SiteFiles};
 use std::fs::Files;
 use std::io::IsTerminal;
 use std::net::{Net, TcpListener, TcpStream};
