@@ -6,6 +6,7 @@ use crate::explained::{Decision, Explained};
 use crate::fields::{Field, further_fields, number_in, shared_fields};
 use crate::instructions::Executed;
 use crate::kinds::Kinds;
+use crate::moments::{Zone, write_local};
 use crate::tracing::Trace;
 use crate::why::write_why;
 use crate::writing::{Done, instruction_at, run_of};
@@ -41,11 +42,16 @@ pub(crate) fn put_word(
 }
 
 /// An explanation as one object of JSON, with a LF.
-pub fn explanation_json(alloc: Global, explained: &Explained<'_>) -> Result<String, AllocError> {
+pub fn explanation_json(
+    alloc: Global,
+    explained: &Explained<'_>,
+    zone: &Option<Zone<'_>>,
+) -> Result<String, AllocError> {
     let entry = explained.entry;
     let mut members = Map::new(alloc);
     put_number(&mut members, alloc, "entry", u64::from(entry.number))?;
     put_number(&mut members, alloc, "moment", entry.moment)?;
+    put_local(&mut members, alloc, entry.moment, zone)?;
     put(&mut members, alloc, "asked", act_value(alloc, &entry.act)?)?;
     put_answer(&mut members, alloc, entry)?;
     let mut why = String::new(alloc);
@@ -54,6 +60,25 @@ pub fn explanation_json(alloc: Global, explained: &Explained<'_>) -> Result<Stri
     put_decision(&mut members, alloc, &explained.decision)?;
     let object = Value::Object(members).to_string(alloc)?;
     format!(in alloc; "{object}\n")
+}
+
+/// The moment as the zone's clock shows it, where there is a zone.
+fn put_local(
+    members: &mut Members,
+    alloc: Global,
+    moment: u64,
+    zone: &Option<Zone<'_>>,
+) -> Result<(), AllocError> {
+    let Some(zone) = zone else {
+        return Ok(());
+    };
+    put_word(members, alloc, "zone", zone.name)?;
+    let mut local = String::new(alloc);
+    if write_local(&mut local, moment, zone.ahead)? {
+        put(members, alloc, "local", Value::String(local))
+    } else {
+        put(members, alloc, "local", Value::Null)
+    }
 }
 
 fn put_answer(members: &mut Members, alloc: Global, entry: &Entry) -> Result<(), AllocError> {

@@ -9,6 +9,7 @@ mod fields;
 mod instructions;
 pub mod json;
 mod kinds;
+mod moments;
 pub mod names;
 pub mod request;
 pub mod single;
@@ -19,3 +20,4 @@ pub mod words;
 pub mod writing;
 
 pub use explained::{Decision, ExplainFault, Explained};
+pub use moments::Zone;

@@ -304,6 +304,7 @@ fn setting_by(name: Name, text: &str) -> Option<Setting>
 
 /// The field and the number that a word gives, as `asked=8000`; `None` if it gives none.
 pub fn setting_of(word: &str) -> Option<Setting>
+    // proved: A word NAME=NUMBER gives that field that number, if it takes it | counter_above_its_bound
     ensures { result ≡ setting_of word.now }
 {
     match behind_equals(word) {

@@ -454,6 +454,7 @@ pub fn counters_of(settings: &[Setting]) -> Counters
 
 /// The request that these settings describe, for a rule of this layout.
 pub fn request_of(layout: Layout, settings: &[Setting]) -> Request
+    // proved context, view, counters: They are the context, the view and the counters with these fields | field_at_another_place
     ensures context { result.context ≡ context_of layout (fields_of settings.now) }
     ensures layout { layout_of result.context ≡ layout }
     ensures view { result.view ≡ request_view (fields_of settings.now) settings.now }

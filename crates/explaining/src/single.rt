@@ -31,6 +31,7 @@ pub enum Verdict {
 /// Runs a rule on a request.
 pub fn run_once(alloc: Global, program: &Program, request: &Request) -> Result<Trace, AllocError>
     requires { layout_of request.now.context ≡ program.now.layout }
+    // proved states, end: A rule is run on just these, and each state is kept
     ensures states { IfOk result (λ trace. IsTrace program.now (bytes_of request.now.context) request.now.view
         request.now.counters trace.states.items trace.r0 trace.counters) }
     ensures end { IfOk result (λ trace. outcome program.now (bytes_of request.now.context) request.now.view
@@ -106,6 +107,7 @@ pub fn single_text(
     trace: &Trace,
     is_traced: bool,
 ) -> Result<String, AllocError>
+    // proved: The answer of the run is printed first
     ensures { IfOk result (λ text. (rest : List ℕ)
         × (string_bytes text ≡ codes "answer " ++ (decimal trace.now.r0 ++ (10 ∷ rest)))) }
 {

@@ -78,6 +78,7 @@ pub fn settings_of(
     layout: Layout,
     words: &[String],
 ) -> Result<Vec<Setting>, WordsFault>
+    // proved: All words are read, in their order
     ensures { IfOk result (λ settings. map (λ s. Some s) settings.items ≡ map setting_of (map string_bytes words.now)) }
 {
     let mut settings = Vec::new(alloc);

@@ -5,6 +5,7 @@ use crate::explained::{Decision, Explained};
 use crate::fields::{Field, further_fields, number_in, shared_fields};
 use crate::instructions::Executed;
 use crate::kinds::Kinds;
+use crate::moments::{Zone, write_moment};
 use crate::tracing::{MachineState, Trace};
 use crate::why::write_why;
 use bpf_asm::instruction_line;
@@ -14,17 +15,21 @@ use bpf_model::decode::decode;
 use bpf_model::instruction::{Form, Inst, Unit};
 use std::alloc::{AllocError, Global};
 use std::fmt::Write;
-use till_request::dates::date_of;
 use verifier::{Counters, Program};
 
-/// Who asked what when, what was answered and why; then the run that decided, if one did.
-pub fn explanation(alloc: Global, explained: &Explained<'_>) -> Result<String, AllocError> {
+/// Who asked what when, what was answered and why; then the run that decided, if one did. The moment is told in the zone,
+/// or else in UTC.
+pub fn explanation(
+    alloc: Global,
+    explained: &Explained<'_>,
+    zone: &Option<Zone<'_>>,
+) -> Result<String, AllocError> {
     let entry = explained.entry;
     let mut out = String::new(alloc);
     write!(out, "entry {}: ", entry.number)?;
     write_act(&mut out, &entry.act)?;
     write!(out, "\nwhen: ")?;
-    write_moment(&mut out, entry.moment)?;
+    write_moment(&mut out, entry.moment, zone)?;
     write!(out, "\nanswered: {}\nwhy: ", entry.reply)?;
     write_why(&mut out, explained)?;
     write!(out, "\n")?;
@@ -32,17 +37,6 @@ pub fn explanation(alloc: Global, explained: &Explained<'_>) -> Result<String, A
         write_decision(alloc, &mut out, decision)?;
     }
     Ok(out)
-}
-
-/// As in `2026-11-29 06:12:33 UTC`.
-fn write_moment(out: &mut String, moment: u64) -> Result<(), AllocError> {
-    let Some(date) = date_of(moment) else {
-        return write!(out, "not told");
-    };
-    let seconds = moment % 86_400;
-    let (hour, minute, second) = (seconds / 3_600, seconds / 60 % 60, seconds % 60);
-    write!(out, "{}-{:02}-{:02} ", date.year, date.month, date.day)?;
-    write!(out, "{hour:02}:{minute:02}:{second:02} UTC")
 }
 
 /// A run of a rule, and what it began with.

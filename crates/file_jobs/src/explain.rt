@@ -3,17 +3,21 @@ ghost use Rattle.std.specs.Prelude.{◌≡◌, [], true, IsErrAnd, IsTrue, optio
 ghost use Rattle.file_jobs.specs.StandardInput.{is_input, reads_twice};
 ghost use Rattle.file_jobs.specs.JobErrors.{Ends};
 
-use crate::audited::audited_site;
+use crate::audited::audited_serving;
 use crate::job_error::print_text;
 use crate::messages::Place;
 use crate::statuses::{FAILED, REFUSED};
+use crate::zone_files::rules_of;
 use crate::{Folder, JobError, Part, SiteFiles};
 use explaining::explained::explain;
 use explaining::json::explanation_json;
 use explaining::writing::explanation;
-use explaining::{ExplainFault, Explained};
+use explaining::{ExplainFault, Explained, Zone};
+use jiff_tz::Tzif;
+use site_config::Serve;
 use site_core::Unwatched;
 use std::alloc::{AllocError, Global};
+use zones::{offset_at, time_zone};
 
 /// Audits the journal in the file that `journal` names, and prints why its entry `number` was answered so.
 pub fn explain_files(
@@ -26,9 +30,13 @@ pub fn explain_files(
     ensures { IsTrue (reads_twice site.entry.config.now (option_map (λ w. w.now) site.entry.opening) journal.now)
         → IsErrAnd result (Ends 2 []) }
 {
-    let day = audited_site(rt, site, journal, Unwatched)?;
+    let (day, serve) = audited_serving(rt, site, journal, Unwatched)?;
+    let rules = zone_rules(rt, site.config(), &serve)?;
     match explain(rt.alloc(), day.site(), number) {
-        Ok(explained) => print_text(rt, &told(rt.alloc(), &explained, is_json)?),
+        Ok(explained) => {
+            let zone = zone_at(&serve, &rules, explained.entry.moment);
+            print_text(rt, &told(rt.alloc(), &explained, &zone, is_json)?)
+        }
         Err(fault) => Err(unexplained(rt.alloc(), journal, number, fault)),
     }
 }
@@ -68,11 +76,51 @@ pub fn explain_day(
     )
 }
 
-fn told(alloc: Global, explained: &Explained<'_>, is_json: bool) -> Result<String, AllocError> {
+/// The rules of the zone that a configuration names; `None` in UTC.
+fn zone_rules(
+    rt: &HostRuntime,
+    config: &str,
+    serve: &Option<Serve>,
+) -> Result<Option<Tzif>, JobError> {
+    match serve {
+        Some(
+            Serve {
+                zone: Some(name),
+                ..
+            },
+        ) => rules_of(rt, config, name.as_str()),
+        _ => Ok(None),
+    }
+}
+
+/// The zone that a configuration names, with these rules, at a moment.
+fn zone_at<'a>(serve: &'a Option<Serve>, rules: &Option<Tzif>, moment: u64) -> Option<Zone<'a>> {
+    let Some(
+        Serve {
+            zone: Some(name),
+            ..
+        },
+    ) = serve
+    else {
+        return None;
+    };
+    let ahead = offset_at(time_zone(rules), i64::try_from(moment).ok()?)?;
+    Some(Zone {
+        name: name.as_str(),
+        ahead,
+    })
+}
+
+fn told(
+    alloc: Global,
+    explained: &Explained<'_>,
+    zone: &Option<Zone<'_>>,
+    is_json: bool,
+) -> Result<String, AllocError> {
     if is_json {
-        explanation_json(alloc, explained)
+        explanation_json(alloc, explained, zone)
     } else {
-        explanation(alloc, explained)
+        explanation(alloc, explained, zone)
     }
 }
 

@@ -1,7 +1,10 @@
 //! What `fc run` does.
-ghost use Rattle.std.specs.Prelude.{◌≡◌, false, IfOk, string_bytes};
+ghost use Rattle.std.specs.Prelude.{◌≡◌, ◌⊎◌, [], Some, false, map, IfErr, IfOk, OnOk, string_bytes};
+ghost use Rattle.std.specs.List.{All};
+ghost use Rattle.explaining.specs.Named.{setting_of};
+ghost use Rattle.file_jobs.specs.JobErrors.{Ends};
 ghost use Rattle.bpf_model.specs.Layouts.{layout_of};
-ghost use Rattle.file_jobs.specs.RunOutput.{SaysOutcome};
+ghost use Rattle.file_jobs.specs.RunOutput.{IsWrongWord, SaysOutcome, SaysSetting};
 
 use crate::JobError;
 use crate::files::text_of;
@@ -32,7 +35,10 @@ pub fn run_rule(
     rule: &str,
     options: RunOptions,
     words: &[String],
-) -> Result<(), JobError> {
+) -> Result<(), JobError>
+    // proved: It is Ok only if each word gives a field a number
+    ensures { OnOk result (All SaysSetting (map string_bytes words.now)) }
+{
     let settings = settings_in(rt.alloc(), options.context, words)?;
     let file = text_of(rt, rule)?;
     match program_of(rt.alloc(), &file, options.counters, options.context) {
@@ -61,7 +67,11 @@ fn run_text(
     single_text(alloc, program, request, &trace, options.is_traced)
 }
 
-fn settings_in(alloc: Global, layout: Layout, words: &[String]) -> Result<Vec<Setting>, JobError> {
+fn settings_in(alloc: Global, layout: Layout, words: &[String]) -> Result<Vec<Setting>, JobError>
+    ensures settings { IfOk result
+        (λ settings. map (λ s. Some s) settings.items ≡ map setting_of (map string_bytes words.now)) }
+    ensures refused { IfErr result IsWrongWord }
+{
     match settings_of(alloc, layout, words) {
         Ok(settings) => Ok(settings),
         Err(WordsFault::Word(number, fault)) => match words.get(number) {
@@ -72,7 +82,9 @@ fn settings_in(alloc: Global, layout: Layout, words: &[String]) -> Result<Vec<Se
     }
 }
 
-fn refused_word(alloc: Global, word: &str, fault: WordFault) -> JobError {
+fn refused_word(alloc: Global, word: &str, fault: WordFault) -> JobError
+    ensures { Ends 2 [] result }
+{
     match fault {
         WordFault::NoSetting => flawed_word(alloc, word, flaw_of(word)),
         WordFault::Twice => {
@@ -86,7 +98,9 @@ fn refused_word(alloc: Global, word: &str, fault: WordFault) -> JobError {
     }
 }
 
-fn flawed_word(alloc: Global, word: &str, flaw: WordFlaw) -> JobError {
+fn flawed_word(alloc: Global, word: &str, flaw: WordFlaw) -> JobError
+    ensures { Ends 2 [] result }
+{
     match flaw {
         WordFlaw::NoEquals => {
             let words = format_args!("'{word}' isn't NAME=NUMBER");
