@@ -93,8 +93,10 @@ fn first_of(first: Option<u32>, number: u32) -> Option<u32>
 }
 
 impl<'a> Comparison<'a> {
-    ghost use Rattle.std.specs.Prelude.{[], None, Some};
+    ghost use Rattle.std.specs.Prelude.{[], List, None, Some};
     ghost use Rattle.what_if.specs.Comparisons.{HasFound, found_by};
+    ghost use Rattle.site_core.specs.Steps.{StepValue};
+    ghost use Rattle.what_if.specs.Rows.{rows_of};
 
     /// Returns a comparison that has seen nothing.
     pub fn new(alloc: Global, rule: &'a Program, slot: u32, reading: Reading) -> Comparison<'a>
@@ -121,7 +123,10 @@ impl<'a> Comparison<'a> {
 
     /// Returns what the rule would have answered at each decision, oldest first.
     pub fn rows(&self) -> &[Row]
-        ensures { result.now ≡ self.now.rows.items }
+        ensures same { result.now ≡ self.now.rows.items }
+        // proved: A row is what the rule's run answers on the site of its decision
+        ensures found { (steps : List StepValue) → HasFound self.now steps
+            → result.now ≡ rows_of self.now.rule.now self.now.slot self.now.reading steps }
     {
         self.rows.as_slice()
     }
