@@ -490,7 +490,10 @@ fn begin_day<F: DayFiles>(
     let Some(source) = folder.open(rt, number, Part::Opening)? else {
         return Err(refuse_link(rt.alloc(), Place::of(&path), number, &UNOPENED));
     };
-    let (config, of) = begin_with(rt, &path, source, config)?;
+    let (config, of) = match begin_with(rt, &path, source, config) {
+        Ok(begun) => begun,
+        Err(job_error) => return Err(job_error),
+    };
     if of != number {
         return Err(refuse_link(rt.alloc(), Place::of(&path), number, &OfDay(of)));
     }

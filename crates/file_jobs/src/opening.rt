@@ -54,6 +54,8 @@ pub(crate) fn begin_with<R: Read + Drop>(
     ensures begun { IfOk result (λ begun. BeginsDay config begun.1 begun.0) }
     ensures text { (text : List ℕ) → R.remaining source ≡ Some text
         → IfOk result (λ begun. BeginsBy begun.1 config (Some text) begun.0) }
+    ensures day { (text : List ℕ) (day : ℕ) (begun : ConfigValue) → R.remaining source ≡ Some text
+        → BeginsBy day config (Some text) begun → IfOk result (λ begun. begun.1 ≡ day) }
     ensures none { (text : List ℕ) (day : ℕ) (begun : ConfigValue) → R.remaining source ≡ Some text
         → length text ≤ MOST_OPENING → BeginsBy day config (Some text) begun → IfErr result (Ends 3 []) }
     ensures refused { IfErr result (Refuses 1) }

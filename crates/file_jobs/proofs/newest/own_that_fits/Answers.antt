@@ -15,3 +15,8 @@ returns-in-Some-2-clause-none g c = λ texts known none config is.
     let own = subst (λ o. MatchOption o (file ≡ None) (IsOwn file)) c.in-Some.is (c.in_ok-own.ensures.own texts known) in
     subst (λ k. IsUnfitting texts k c.args.day) (one c.in-Some.own.config config _ own.1 is)
     (subst (λ m. MatchOption m (¬ IsUnfitting texts c.in-Some.own.config c.args.day) (λ _. IsUnfitting texts c.in-Some.own.config c.args.day)) c.in-Some-2.is (c.in_ok-misfit_of.ensures.misfit texts known))
+
+pub returns-in-None-clause-fits : goal.returns-in-None-clause-fits
+returns-in-None-clause-fits g c = λ texts known.
+    subst (λ m. MatchOption m (¬ IsUnfitting texts c.in-Some.own.config c.args.day) (λ _. IsUnfitting texts c.in-Some.own.config c.args.day)) c.in-None.is
+    (c.in_ok-misfit_of.ensures.misfit texts known)

@@ -1,4 +1,4 @@
-use Rattle.std.proofs.Common.{◌≡◌, ◌∙◌, [], refl, subst, sym}
+use Rattle.std.proofs.Common.{◌≡◌, ◌∙◌, [], ap, refl, subst, sym}
 use Rattle.days.specs.Fitting.{BeginsWith}
 use Rattle.days.specs.Misfits.{IsOutOfMemory}
 use Rattle.days.specs.declared.file.OpeningFile.{OpeningFile}
