@@ -1,3 +1,4 @@
+pub mod Admitting
 pub mod Lengths
 pub mod Padded
 pub mod Named
