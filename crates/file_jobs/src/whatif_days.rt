@@ -38,12 +38,7 @@ impl<'a> DayWatch for ComparedDays<'a> {
         Ok(self.found.begin(alloc))
     }
 
-    fn end_day(
-        &mut self,
-        number: u32,
-        _site: &Site,
-        seen: Comparison<'a>,
-    ) -> Result<(), JobError> {
+    fn end_day(&mut self, number: u32, _site: &Site, seen: Comparison<'a>) -> Result<(), JobError> {
         match self.found.end(number, seen) {
             Ok(true) => Ok(()),
             // Not so: `begin_day` made it.
