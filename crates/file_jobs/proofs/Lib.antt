@@ -6,7 +6,6 @@ pub mod Opened
 pub mod Compared
 pub mod ActAnswers
 pub mod Alike
-pub mod AllSay
 pub mod Fronts
 pub mod Journals
 pub mod LongLines

@@ -1,10 +1,9 @@
 //! What `fc run` does.
-ghost use Rattle.std.specs.Prelude.{◌≡◌, ◌⊎◌, [], Some, false, map, IfErr, IfOk, OnOk, string_bytes};
-ghost use Rattle.std.specs.List.{All};
+ghost use Rattle.std.specs.Prelude.{◌≡◌, [], Some, false, map, IfErr, IfOk, string_bytes};
 ghost use Rattle.explaining.specs.Named.{setting_of};
 ghost use Rattle.file_jobs.specs.JobErrors.{Ends};
 ghost use Rattle.bpf_model.specs.Layouts.{layout_of};
-ghost use Rattle.file_jobs.specs.RunOutput.{IsWrongWord, SaysOutcome, SaysSetting};
+ghost use Rattle.file_jobs.specs.RunOutput.{IsWrongWord, SaysOutcome};
 
 use crate::JobError;
 use crate::files::text_of;
@@ -35,10 +34,7 @@ pub fn run_rule(
     rule: &str,
     options: RunOptions,
     words: &[String],
-) -> Result<(), JobError>
-    // proved: It is Ok only if each word gives a field a number
-    ensures { OnOk result (All SaysSetting (map string_bytes words.now)) }
-{
+) -> Result<(), JobError> {
     let settings = settings_in(rt.alloc(), options.context, words)?;
     let file = text_of(rt, rule)?;
     match program_of(rt.alloc(), &file, options.counters, options.context) {
