@@ -14,9 +14,9 @@ from shared import HERE, Count, text_of
 
 DOCUMENT = "docs/use/messages.md"
 # Crates whose texts are pages, rows, explanations, tests, or answers, which the reference has.
-OTHERS = "acceptance day_export explaining till_request".split()
-# Texts of the live page but for its health, of HTTP's head, and of --help.
-PAGES = re.compile(r"pages/src/(?!station)|page_port/src/page_answer|file_jobs/src/subcommands")
+OTHERS = "acceptance day_export explaining till_request what_if".split()
+# Texts of the live page but for its health, of HTTP's head, of --help, and the keys that differ.
+PAGES = re.compile(r"pages/src/(?!station)|page_port/src/page_answer|file_jobs/src/(subcommands|other_config)")
 # Texts that stand within a message alone, what the reader of TOML says that fc says otherwise, texts of openings that no
 # text can be read as, and the end of a day, which is no failure.
 PARTS = """a number|a constant counter|a place of the stack for 16 bytes|a till|a dispenser|the owner|till ..|, page
@@ -24,7 +24,7 @@ a whole number|a whole number or "unlimited"|a string|an array|a table|standard 
 the day ends|..fc: .. lines read|..fc: .. lines read, the last of them|out of memory (S31)|the opening hasn't 16 slots
 a slot of the opening has a version that was never loaded|two slots of the opening have one version
 a price of the opening is over 9,999,999
-the opening has another number of points than the configuration"""
+the opening has another number of points than the configuration|day 1 takes: all|day .. takes: all|a day is of another rule"""
 FIELDS = r"the (till|point|kind|state|nozzle|product|amount|moment|price|slot|(busy|open) points|(unpaid|cleared) \w+)"
 NUMBER = re.compile(r"\b([ACFHJKLNOSV])(\d+)(?: to \1(\d+))?\b")  # also in a comment: S20 to S34
 
