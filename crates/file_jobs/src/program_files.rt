@@ -49,7 +49,7 @@ pub fn dis_file(alloc: Global, file: &[u8]) -> Result<String, FileFlaw<'static>>
 
 /// Returns what `fc dis --units` prints: the text of `dis_file`, with the number of its first unit before each line.
 pub fn dis_units_file(alloc: Global, file: &[u8]) -> Result<String, FileFlaw<'static>>
-    // proved printed, flaw: It gives what `dis --units` prints
+    // proved printed, flaw: It gives what `dis --units` prints | units_are_not_numbered
     ensures printed { IfOk result
         (λ printed. Disassembles (numbered_from 0) (program_in file.now) (string_bytes printed)) }
     ensures flaw { IfErr result (IsDisFlaw (program_in file.now)) }
