@@ -2,7 +2,8 @@
 """How long tills wait where one day follows another while they are served: eight tills ask all the time, each in a
 process of its own, and somebody else fills the day, by 4,000 loads or by 1,040,000 entries. Of each day's end the
 longest wait of a till for its answer counts, from one day's last answer to the next day's first. Prints a table in
-Markdown, with the longest wait of a till at any other time beside it.
+Markdown, with the longest wait of a till at any other time beside it, and the memory of the process at the end of the
+first day and of the last one, while the day is full.
 
     bench/days.py PROGRAM [ENDS]        ENDS of days of each kind, 5 where it isn't said
 """
@@ -55,44 +56,55 @@ def asked(folder, till, over, told):
     told.put((ends, longest))
 
 
-def fill(folder, door, line, ends):
-    """Sends lines until so many days have ended."""
+def megabytes(process):
+    """The resident memory of a process."""
+    with open(f"/proc/{process}/statm") as file:
+        return int(file.read().split()[1]) * os.sysconf("SC_PAGE_SIZE") / 1e6
+
+
+def fill(folder, door, line, ends, process):
+    """Sends lines until so many days have ended. Tells the process's memory before the end of each."""
     peer = Peer(os.path.join(folder, door))
-    last = 0
-    while ends > 0:
+    last, memory, full = 0, 0, []
+    while len(full) < ends:
+        memory = max(memory, megabytes(process))
         peer.socket.sendall((line + "\n").encode() * BATCH)
         for _ in range(BATCH):
             number = int(peer.reader.readline().split()[0])
-            ends -= number < last
+            if number < last:
+                full.append(memory)
+                memory = 0
             last = number
+    return full
 
 
 def measured(fc, folder, kind, ends):
-    """The longest wait at each day's end, and the longest at another time."""
+    """The longest wait at each day's end, the longest at another time, and the memory at the end of each day."""
     os.mkdir(os.path.join(folder, "days"))
     site = Served(fc, SITE, folder, ("--days", "days"))
     over, told = multiprocessing.Event(), multiprocessing.Queue()
     tills = [multiprocessing.Process(target=asked, args=(folder, till, over, told)) for till in range(1, TILLS + 1)]
     for till in tills:
         till.start()
-    fill(folder, *KINDS[kind], ends)
+    memory = fill(folder, *KINDS[kind], ends, site.program.pid)
     time.sleep(0.5)
     over.set()
     waits = [told.get() for _ in tills]
     for till in tills:
         till.join()
     site.stop()
-    return [max(each) for each in zip(*(at_ends for at_ends, _ in waits))], max(longest for _, longest in waits)
+    at_ends = [max(each) for each in zip(*(at_ends for at_ends, _ in waits))]
+    return at_ends, max(longest for _, longest in waits), memory
 
 
 def main(fc, ends):
-    print("| a day is full by | ends | longest wait, ms | median, ms | longest at another time, ms |")
-    print("|---|---|---|---|---|")
+    print("| a day is full by | ends | longest wait, ms | median, ms | longest at another time, ms | memory, MB | of the last day |")
+    print("|---|---|---|---|---|---|---|")
     for kind in KINDS:
         with tempfile.TemporaryDirectory() as folder:
-            at_ends, other = measured(fc, folder, kind, ends)
+            at_ends, other, memory = measured(fc, folder, kind, ends)
         longest, median = max(at_ends), statistics.median(at_ends)
-        print(f"| {kind} | {len(at_ends)} | {1000 * longest:.1f} | {1000 * median:.1f} | {1000 * other:.1f} |")
+        print(f"| {kind} | {len(at_ends)} | {1000 * longest:.1f} | {1000 * median:.1f} | {1000 * other:.1f} | {memory[0]:.0f} | {memory[-1]:.0f} |")
 
 
 main(os.path.abspath(sys.argv[1]), int(sys.argv[2]) if len(sys.argv) > 2 else 5)
