@@ -208,13 +208,14 @@ read_tests() {
             columns = NF
             for (i = 1; i <= NF; i++) {
                 name[i] = $i
-                if ($i == "answer" || $i == "granted") wanted = i
+                if ($i == "answer" || $i == "granted") { wanted = i; found++ }
             }
-            if (wanted) next
-            print FNR, "fault", "no column is named answer or granted"
+            if (found == 1) next
+            print FNR, "fault", "one column has to be named answer or granted, and " found + 0 " are"
             exit
         }
         NF != columns { print FNR, "fault", "it has " NF " cells, and not " columns; exit }
+        $wanted == "" { print FNR, "fault", "nothing is wanted: the cell of " name[wanted] " is empty"; exit }
         {
             words = ""
             for (i = 1; i <= NF; i++) if (i != wanted && $i != "") words = words " " name[i] "=" $i
@@ -289,9 +290,10 @@ if [ -n "$tests" ]; then
 fi
 told="$accepted, mask $mask, layout $layout"
 if [ -n "$kept" ]; then
-    if ! cp "$work/hex" "$kept.new" || ! mv "$kept.new" "$kept"; then stop 3 "$kept can't be written"; fi
+    [ ! -d "$kept" ] || stop 3 "$kept is a folder"
+    if ! cp -- "$work/hex" "$kept.new" || ! mv -- "$kept.new" "$kept"; then stop 3 "$kept can't be written"; fi
     echo "$told"
 else
-    cat "$work/hex"
+    cat "$work/hex" || stop 3 "the units can't be written"
     echo "$told" >&2
 fi

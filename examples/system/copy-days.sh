@@ -25,7 +25,14 @@ whole() {
     mv "$to/$1.new" "$to/$1"
 }
 
-# Appends what a journal has behind the copy's whole lines.
+# Copies the configuration of the day whose journal this is.
+configuration() {
+    own=${1%.journal}.toml
+    ! printf '%s\n' "$names" | grep -qx "$own" || whole "$own"
+}
+
+# Appends what a journal has behind the copy's whole lines. A day that has no line yet can take another configuration, so
+# that is read behind the first lines, and is there before them.
 append() {
     : >>"$to/$1"
     have=$(size_of "$to/$1")
@@ -33,10 +40,13 @@ append() {
     tail -c +$((start + 1)) "$to/$1" >"$to/.had.new"
     at_from "tail -c +$((start + 1)) $1" >"$to/.comes.new"
     if head -c "$(size_of "$to/.had.new")" "$to/.comes.new" | cmp -s - "$to/.had.new"; then
+        [ "$have" -gt 0 ] || configuration "$1"
         tail -c +$((have - start + 1)) "$to/.comes.new" >"$to/.more.new"
         cat "$to/.more.new" >>"$to/$1"
     else
-        whole "$1"
+        at_from "cat $1" >"$to/.whole.new"
+        configuration "$1"
+        mv "$to/.whole.new" "$to/$1"
     fi
     # A line of which a part was copied is read again.
     have=$(size_of "$to/$1")
@@ -64,4 +74,4 @@ for name in $names; do
     if [ "$first" -eq 1 ] || [ -e "$to/$day.opening" ]; then append "$name"; fi
     first=0
 done
-rm -f "$to"/.had.new "$to"/.comes.new "$to"/.more.new
+rm -f "$to"/.had.new "$to"/.comes.new "$to"/.more.new "$to"/.whole.new
