@@ -87,7 +87,7 @@ text_of() {
             echo 'tools/rule.sh compiles a rule in C, and examples/clients/ask.py sends lines to a site that is served.'
             ;;
         share/fc/*) cat "$here/${1#share/fc/}" ;;
-        *) sed "s|=/usr/bin/fc |=$prefix/bin/fc |" "$system/${1##*/}" ;;
+        *) sed "s|/usr/bin/fc |$prefix/bin/fc |" "$system/${1##*/}" ;;
     esac
 }
 
